@@ -1,0 +1,149 @@
+-- The numbers of refusal 1 to 11: when each is given, and at which place.
+use Prim.Native.Nat.{ℕ, _*_, _/_, _%_, _^_, _≤_, _<_}
+use mathlib.Core.Path.{_≡_}
+use mathlib.Core.Logic.{_⊎_}
+use mathlib.Core.Bool.{Bool, true, false}
+use mathlib.Core.List.{List, [], _∷_}
+use lib.ListN.{length, getD}
+use Rattle.meaning.specs.Chain.{
+  mostStates,
+  mostEdges,
+  M,
+  mostReward,
+  Chain,
+  edgeSize,
+  edgeCount,
+  from,
+  to,
+  weight,
+  rowSum,
+}
+use Rattle.meaning.specs.Row.{width}
+
+-- What an entry is lent. A table that an entry is not lent is empty here.
+pub record Lent : Type 0 where
+  pub chain : Chain
+  pub order : List ℕ
+  pub rewards : List ℕ
+  pub work : List ℕ
+
+-- Which of these tables an entry is lent decides which numbers it can give.
+pub record Entry : Type 0 where
+  pub order : Bool
+  pub rewards : Bool
+  pub work : Bool
+
+-- The entries for the chance and for the bounds: numbers 1 to 10.
+abbrev pub plain : Entry
+plain = record { order = true; rewards = false; work = true }
+
+-- The entry for the expected reward: numbers 1 to 11.
+abbrev pub paid : Entry
+paid = record { order = true; rewards = true; work = true }
+
+-- An entry that is lent a chain alone: numbers 1 and 3 to 9.
+abbrev pub bare : Entry
+bare = record { order = false; rewards = false; work = false }
+
+-- How many numbers of the work table an entry needs.
+abbrev pub workSize : ℕ → ℕ
+workSize n = n * width n
+
+-- 1: n is not 1 to 64; a table length is other than n; the edge numbers are not in threes, or over 4,096 edges.
+pub data Misshaped (x : Entry) (states denominators edges order rewards : ℕ) : Type 0 where
+  no-states : states ≡ 0 → Misshaped x states denominators edges order rewards
+  many-states : mostStates < states → Misshaped x states denominators edges order rewards
+  denominators-length : (denominators ≡ states → ⊥) → Misshaped x states denominators edges order rewards
+  edges-threes : (edges % edgeSize ≡ 0 → ⊥) → Misshaped x states denominators edges order rewards
+  many-edges : mostEdges < edges / edgeSize → Misshaped x states denominators edges order rewards
+  order-length : x .order ≡ true → (order ≡ states → ⊥) → Misshaped x states denominators edges order rewards
+  rewards-length : x .rewards ≡ true → (rewards ≡ states → ⊥) → Misshaped x states denominators edges order rewards
+
+-- 4: the goal set is empty, or holds a number not below n.
+abbrev pub GoalFault : ℕ → ℕ → Type 0
+GoalFault n goals = (goals ≡ 0) ⊎ (2 ^ n ≤ goals)
+
+-- x is 0 or above M.
+abbrev pub Outside : ℕ → Type 0
+Outside x = (x ≡ 0) ⊎ (M < x)
+
+-- 5: the denominator of state i is 0 or above M.
+abbrev pub DenominatorFault : ℕ → List ℕ → ℕ → Type 0
+DenominatorFault n denominators i = (i < n) × Outside (getD denominators i 0)
+
+-- 6: edge e names a state not below n.
+abbrev pub EndFault : ℕ → List ℕ → ℕ → Type 0
+EndFault n edges e = (e < edgeCount edges) × ((n ≤ from edges e) ⊎ (n ≤ to edges e))
+
+-- 7: the weight of edge e is 0 or above M.
+abbrev pub WeightFault : List ℕ → ℕ → Type 0
+WeightFault edges e = (e < edgeCount edges) × Outside (weight edges e)
+
+-- Edges d and e have the same pair (from, to).
+abbrev pub Same : List ℕ → ℕ → ℕ → Type 0
+Same edges d e = (from edges d ≡ from edges e) × (to edges d ≡ to edges e)
+
+-- 8: the pair of edge e was given before.
+abbrev pub PairFault : List ℕ → ℕ → Type 0
+PairFault edges e = (e < edgeCount edges) × ((d : ℕ) × ((d < e) × Same edges d e))
+
+-- 9: the row sum of state i differs from its denominator.
+abbrev pub SumFault : ℕ → List ℕ → List ℕ → ℕ → Type 0
+SumFault n denominators edges i = (i < n) × (rowSum edges i ≡ getD denominators i 0 → ⊥)
+
+-- The state at position p of the order was seen before.
+abbrev pub Earlier : List ℕ → ℕ → Type 0
+Earlier order p = (o : ℕ) × ((o < p) × (getD order o 0 ≡ getD order p 0))
+
+-- 10: the order's entry at p is not below n, or was seen before.
+abbrev pub OrderFault : ℕ → List ℕ → ℕ → Type 0
+OrderFault n order p = (p < n) × ((n ≤ getD order p 0) ⊎ Earlier order p)
+
+-- 11: the reward of state i is above 65,535.
+abbrev pub RewardFault : ℕ → List ℕ → ℕ → Type 0
+RewardFault n rewards i = (i < n) × (mostReward < getD rewards i 0)
+
+-- A fault of the whole has place 0.
+abbrev pub whole : Type 0 → ℕ → Type 0
+whole F p = (p ≡ 0) × F
+
+abbrev pub never : ℕ → Type 0
+never p = ⊥
+
+-- A fault of a table that the entry may not be lent.
+abbrev pub lentFault : Bool → (ℕ → Type 0) → ℕ → Type 0
+lentFault true F = F
+lentFault false F = never
+
+-- The faults in the order of their numbers, from 0, which is no refusal.
+abbrev pub faults : Entry → Lent → List (ℕ → Type 0)
+faults x l =
+    let c = l .chain in
+    never
+    ∷ whole
+    (Misshaped x (c .states) (length (c .denominators)) (length (c .edges)) (length (l .order)) (length (l .rewards)))
+    ∷ lentFault (x .work) (whole (length (l .work) < workSize (c .states)))
+    ∷ whole (c .states ≤ c .start)
+    ∷ whole (GoalFault (c .states) (c .goals))
+    ∷ DenominatorFault (c .states) (c .denominators)
+    ∷ EndFault (c .states) (c .edges)
+    ∷ WeightFault (c .edges)
+    ∷ PairFault (c .edges)
+    ∷ SumFault (c .states) (c .denominators) (c .edges)
+    ∷ lentFault (x .order) (OrderFault (c .states) (l .order))
+    ∷ lentFault (x .rewards) (RewardFault (c .states) (l .rewards))
+    ∷ []
+
+-- Number k applies at place p.
+abbrev pub Applies : Entry → Lent → ℕ → ℕ → Type 0
+Applies x l k p = getD (faults x l) k never p
+
+-- The least number that applies is given, with its least place.
+pub record Refused (x : Entry) (l : Lent) (number place : ℕ) : Type 0 where
+  pub applies : Applies x l number place
+  pub number-least : (k p : ℕ) → k < number → Applies x l k p → ⊥
+  pub place-least : (p : ℕ) → p < place → Applies x l number p → ⊥
+
+-- No number applies anywhere.
+pub record WellFormed (x : Entry) (l : Lent) : Type 0 where
+  pub none : (k p : ℕ) → Applies x l k p → ⊥

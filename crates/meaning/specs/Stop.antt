@@ -1,0 +1,58 @@
+-- The numbers of refusal 12 and 13: what stops the elimination of a well-formed input, and at which place.
+use Prim.Native.Nat.{ℕ, suc, _≤_, _<_}
+use mathlib.Core.Path.{_≡_}
+use mathlib.Core.Logic.{_⊎_}
+use mathlib.Core.Bool.{Bool, true}
+use mathlib.Core.List.{List}
+use lib.ListN.{getD}
+use Rattle.meaning.specs.Chain.{mostStates, M, Live}
+use Rattle.meaning.specs.Row.{Row, total, reward, exact}
+use Rattle.meaning.specs.Step.{Table, row, Sets, Right, outside, goes, stage}
+use Rattle.meaning.specs.Refusal.{Lent}
+
+-- The reward of each state: 0 for an entry that is lent none.
+abbrev pub rewardOf : Lent → ℕ → ℕ
+rewardOf l i = getD (l .rewards) i 0
+
+-- The state at position p of the order.
+abbrev pub turn : Lent → ℕ → ℕ
+turn l p = getD (l .order) p 0
+
+-- The table after the first p positions of the order.
+abbrev pub tableAt : Bool → Lent → Sets → ℕ → Table
+tableAt b l k p = stage b (l .chain) k (rewardOf l) (l .order) p
+
+-- A row has a total above M, or a Reward above M.
+abbrev pub Large : ℕ → Row → Type 0
+Large n r = (M < total n r) ⊎ (M < reward n r)
+
+-- No fit: in the exact engine a kept row, which is in lowest terms, is large.
+abbrev pub NoFit : Bool → Lent → Sets → ℕ → Type 0
+NoFit b l k p =
+    let n = l .chain .states in
+    (b ≡ exact) × ((i : ℕ) × ((i < n) × Large n (row (tableAt b l k p) i)))
+
+-- D is zero at the turn of the state at position p.
+abbrev pub NoWay : Bool → Lent → Sets → ℕ → Type 0
+NoWay b l k p =
+    let s = turn l p in
+    (goes (l .chain .start) (k .live) s ≡ true) × (outside (l .chain .states) s (row (tableAt b l k p) s) ≡ 0)
+
+-- Nothing stopped the elimination up to the first p positions.
+pub record Passed (b : Bool) (l : Lent) (k : Sets) (p : ℕ) : Type 0 where
+  pub fits : (q : ℕ) → q ≤ p → NoFit b l k q → ⊥
+  pub turns : (q : ℕ) → q < p → NoWay b l k q → ⊥
+
+-- What stops the elimination first: 12 where a row does not fit, at the position of the step, or at 64 before the first step; 13 where D is
+-- zero at a state's turn, at its position.
+pub data Stops (b : Bool) (l : Lent) (k : Sets) : ℕ → ℕ → Type 0 where
+  before-steps : NoFit b l k 0 → Stops b l k 12 mostStates
+  in-step : (p : ℕ) → p < l .chain .states → Passed b l k p → (NoWay b l k p → ⊥) → NoFit b l k (suc p) → Stops b l k 12 p
+  at-turn : (p : ℕ) → p < l .chain .states → Passed b l k p → NoWay b l k p → Stops b l k 13 p
+
+-- With the start a goal or not live no row is made, and nothing stops.
+pub record Stopped (b : Bool) (l : Lent) (number place : ℕ) : Type 0 where
+  pub sets : Sets
+  pub right : Right (l .chain) sets
+  pub alive : Live (l .chain) (l .chain .start)
+  pub stops : Stops b l sets number place

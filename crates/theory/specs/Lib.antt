@@ -1,0 +1,4 @@
+pub mod Sum
+pub mod Tab
+pub mod Flow
+pub mod Gcd
