@@ -1,0 +1,73 @@
+-- What the definitions allow for one input is one outcome: number, place, fractions and work table.
+use Prim.Native.Nat.{ℕ, suc, _<_}
+use mathlib.Core.Path.{_≡_, refl, sym, ap₂, subst, _∙_}
+use mathlib.Core.Bool.{Bool}
+use mathlib.Core.List.{List}
+use native.Mathlib.Omega.{arith}
+use Rattle.meaning.specs.Step.{Sets}
+use Rattle.meaning.specs.Refusal.{Lent, Entry, Refused, WellFormed}
+use Rattle.meaning.specs.Stop.{NoFit, NoWay, Passed, Stops, before-steps, in-step, at-turn}
+use Rattle.meaning.specs.Outcome.{Outcome, refused, stopped, answered}
+
+meet : (a b : ℕ) → (a < b → ⊥) → (b < a → ⊥) → a ≡ b
+meet a b f g = omega arith
+
+-- The numbers 1 to 11: one number, at one place.
+module _ {x : Entry} {l : Lent} where
+  refused-number : {k p k′ p′ : ℕ} → Refused x l k p → Refused x l k′ p′ → k ≡ k′
+  refused-number {k} {p} {k′} {p′} r s =
+      meet k k′ (λ h. s .number-least k p h (r .applies)) (λ h. r .number-least k′ p′ h (s .applies))
+
+  refused-place : {k p p′ : ℕ} → Refused x l k p → Refused x l k p′ → p ≡ p′
+  refused-place {k} {p} {p′} r s = meet p p′ (λ h. s .place-least p h (r .applies)) (λ h. r .place-least p′ h (s .applies))
+
+  pub refused-one : {k p k′ p′ : ℕ} → Refused x l k p → Refused x l k′ p′ → (k ≡ k′) × (p ≡ p′)
+  refused-one {k} {p} {k′} {p′} r s =
+      let e = refused-number r s in (e, refused-place r (subst (λ z. Refused x l z p′) (sym e) s))
+
+-- The numbers 12 and 13: what comes first is one of them, at one place.
+module _ {b : Bool} {l : Lent} {k : Sets} where
+  -- A step and a turn do not both come first.
+  crossed : (p q : ℕ) → Passed b l k p → Passed b l k q → (NoWay b l k p → ⊥) → NoFit b l k (suc p) → NoWay b l k q → ⊥
+  crossed p q w w′ on large stuck =
+      on (subst (NoWay b l k) (meet q p (λ h. w .turns q h stuck) (λ h. w′ .fits (suc p) h large)) stuck)
+
+  pub stops-one : {n p n′ p′ : ℕ} → Stops b l k n p → Stops b l k n′ p′ → (n ≡ n′) × (p ≡ p′)
+  stops-one (before-steps a) (before-steps a′) = (refl, refl)
+  stops-one (before-steps a) (in-step q h′ w′ d′ f′) = absurd (w′ .fits 0 (omega arith) a)
+  stops-one (before-steps a) (at-turn q h′ w′ d′) = absurd (w′ .fits 0 (omega arith) a)
+  stops-one (in-step p h w d f) (before-steps a′) = absurd (w .fits 0 (omega arith) a′)
+  stops-one (in-step p h w d f) (in-step q h′ w′ d′ f′) =
+      (refl, meet p q (λ z. w′ .fits (suc p) z f) (λ z. w .fits (suc q) z f′))
+  stops-one (in-step p h w d f) (at-turn q h′ w′ d′) = absurd (crossed p q w w′ d f d′)
+  stops-one (at-turn p h w d) (before-steps a′) = absurd (w .fits 0 (omega arith) a′)
+  stops-one (at-turn p h w d) (in-step q h′ w′ d′ f′) = absurd (crossed q p w′ w d′ f′ d)
+  stops-one (at-turn p h w d) (at-turn q h′ w′ d′) = (refl, meet p q (λ z. w′ .turns p z d) (λ z. w .turns q z d′))
+
+not-both : {x : Entry} {l : Lent} {n p : ℕ} → Refused x l n p → WellFormed x l → ⊥
+not-both {n = n} {p} r w = w .none n p (r .applies)
+
+-- An entry's outcome is one where what stops it is one, and its figure is.
+module _
+    {A : Type 0}
+    {x : Entry}
+    {l : Lent}
+    {refusal : ℕ → ℕ → A}
+    {Stop : ℕ → ℕ → Type 0}
+    {Figure : A → Type 0}
+    (stop-one : (n p n′ p′ : ℕ) → Stop n p → Stop n′ p′ → (n ≡ n′) × (p ≡ p′))
+    (figure-one : WellFormed x l → (a a′ : A) → Figure a → Figure a′ → a ≡ a′)
+  where
+    pub outcome-one : {a a′ : A} {w w′ : List ℕ} → Outcome x l refusal Stop Figure a w → Outcome x l refusal Stop Figure a′ w′
+        → (a ≡ a′) × (w ≡ w′)
+    outcome-one (refused n p r e s) (refused n′ p′ r′ e′ s′) =
+        let o = refused-one r r′ in (e ∙ ap₂ refusal (o .0) (o .1) ∙ sym e′, s ∙ sym s′)
+    outcome-one (refused n p r e s) (stopped n′ p′ f′ t′ e′ s′) = absurd (not-both r f′)
+    outcome-one (refused n p r e s) (answered f′ t′ g′ s′) = absurd (not-both r f′)
+    outcome-one (stopped n p f t e s) (refused n′ p′ r′ e′ s′) = absurd (not-both r′ f)
+    outcome-one (stopped n p f t e s) (stopped n′ p′ f′ t′ e′ s′) =
+        let o = stop-one n p n′ p′ t t′ in (e ∙ ap₂ refusal (o .0) (o .1) ∙ sym e′, s ∙ sym s′)
+    outcome-one (stopped n p f t e s) (answered f′ t′ g′ s′) = absurd (t′ n p t)
+    outcome-one (answered f t g s) (refused n′ p′ r′ e′ s′) = absurd (not-both r′ f)
+    outcome-one (answered f t g s) (stopped n′ p′ f′ t′ e′ s′) = absurd (t n′ p′ t′)
+    outcome-one {a} {a′} (answered f t g s) (answered f′ t′ g′ s′) = (figure-one f a a′ g g′, s ∙ sym s′)
