@@ -5,6 +5,7 @@ use mathlib.Core.Logic.{_⊎_}
 use mathlib.Core.Bool.{Bool, true, false}
 use mathlib.Core.List.{List, [], _∷_}
 use lib.ListN.{length, getD}
+use Rattle.meaning.specs.Number.{only}
 use Rattle.meaning.specs.Chain.{
   mostStates,
   mostEdges,
@@ -49,15 +50,16 @@ bare = record { order = false; rewards = false; work = false }
 abbrev pub workSize : ℕ → ℕ
 workSize n = n * width n
 
--- 1: n is not 1 to 64; a table length is other than n; the edge numbers are not in threes, or over 4,096 edges.
+-- 1: n is not 1 to 64; a table length is other than n, or than 0 where the entry is not lent that table; the edge numbers are not in threes,
+-- or over 4,096 edges.
 pub data Misshaped (x : Entry) (states denominators edges order rewards : ℕ) : Type 0 where
   no-states : states ≡ 0 → Misshaped x states denominators edges order rewards
   many-states : mostStates < states → Misshaped x states denominators edges order rewards
   denominators-length : (denominators ≡ states → ⊥) → Misshaped x states denominators edges order rewards
   edges-threes : (edges % edgeSize ≡ 0 → ⊥) → Misshaped x states denominators edges order rewards
   many-edges : mostEdges < edges / edgeSize → Misshaped x states denominators edges order rewards
-  order-length : x .order ≡ true → (order ≡ states → ⊥) → Misshaped x states denominators edges order rewards
-  rewards-length : x .rewards ≡ true → (rewards ≡ states → ⊥) → Misshaped x states denominators edges order rewards
+  order-length : (order ≡ only (x .order) states → ⊥) → Misshaped x states denominators edges order rewards
+  rewards-length : (rewards ≡ only (x .rewards) states → ⊥) → Misshaped x states denominators edges order rewards
 
 -- 4: the goal set is empty, or holds a number not below n.
 abbrev pub GoalFault : ℕ → ℕ → Type 0

@@ -1,37 +1,26 @@
--- The greatest common divisor, and the lowest terms of a row.
-use Prim.Native.Nat.{ℕ, zero, suc, _+_, _*_, _-_, _/_, _%_, _^_, _≤_, _<_, _∣_}
-use mathlib.Core.Path.{_≡_, refl, sym, ap, _∙_}
-use mathlib.Core.Logic.{_⊎_, inl, inr, ⊎-elim}
-use mathlib.Core.Bool.{Bool, true, false}
-use mathlib.Core.List.{List, [], _∷_}
+-- The greatest common divisor, and fractions in lowest terms.
+use Prim.Native.Nat.{ℕ, zero, suc, _*_, _/_, _%_, _<_, _∣_}
+use mathlib.Core.Path.{_≡_, ap}
+use mathlib.Core.Logic.{⊎-elim}
+use mathlib.Core.List.{[]}
 use native.Mathlib.Omega.{arith}
 use native.Mathlib.Nat.{
   dvd-refl,
   dvd-zero,
-  dvd-trans,
   dvd-mod-iff,
   mod-lt,
   mul-div-cancel',
-  mul-dvd-mul-left,
   dvd-mul-right,
-  eq-zero-of-zero-dvd,
   eq-of-mul-eq-mul-left,
-  le-of-mul-le-mul-left,
-  le-of-dvd,
   dvd-antisymm,
   pos-of-dvd-of-pos,
-  mul-assoc,
   eq-one-of-dvd-one,
   dvd-of-mul-dvd-mul-left,
-  mul-pos,
   mul-one,
 }
-use lib.Dec.{eqb}
-use lib.ListN.{length, getD, List·getD-eq-default}
 use borrow.Author.Tests.{eq-eqb, ne-eqb}
-use Rattle.meaning.specs.Number.{choose, Greatest, gcdIn, gcd, Lowest}
-use Rattle.theory.specs.Sum.{same, below, sum-ext, sum-scale, sum-term}
-use Rattle.theory.specs.Tab.{tab-at, tab-past, tab-length}
+use Rattle.meaning.specs.Number.{Greatest, gcdIn, gcd, Lowest, Reduced}
+use Rattle.theory.specs.Sum.{same, below}
 
 gcd-in : (k a b : ℕ) → b < k → Greatest a b (gcdIn k a b)
 unfolding gcdIn
@@ -105,3 +94,15 @@ module _ (p q : ℕ) (whole : 0 < q) where
       divided k u a z h e =
           let y : z ≡ gcd p q * k * a = omega (arith, ap (λ w. gcd p q * w) e) in
           rw y (dvd-mul-right (gcd p q * k) a)
+
+  pub fraction-reduced : Reduced p q (p / gcd p q) (q / gcd p q)
+  fraction-reduced =
+      record {
+        lowest = fraction-lowest;
+        same = omega (arith, ap (λ z. p / gcd p q * z) common-q, ap (λ z. z * (q / gcd p q)) common-p);
+      }
+
+-- x over d is p over q where it is a over b.
+pub reduced-share : (a b p q d x : ℕ) → Reduced a b p q → 0 < b → a * d ≡ x * b → p * d ≡ x * q
+reduced-share a b p q d x h whole e =
+    eq-of-mul-eq-mul-left b whole (p * d) (x * q) (omega (arith, ap (λ z. z * d) (h .same), ap (λ z. z * q) e))
