@@ -4,10 +4,10 @@ use mathlib.Core.Path.{_≡_, refl, sym, ap₂, subst, _∙_}
 use mathlib.Core.Bool.{Bool}
 use mathlib.Core.List.{List}
 use Rattle.meaning.specs.Number.{Reduced}
-use Rattle.meaning.specs.Chain.{Chain, Goal, PathTo, Live}
+use Rattle.meaning.specs.Chain.{Chain, PathTo, Live}
 use Rattle.meaning.specs.Row.{cell, goalColumn, unknownColumn, exact, rounding}
 use Rattle.meaning.specs.Step.{Sets, Right, outside}
-use Rattle.meaning.specs.Refusal.{Lent, Entry, plain, paid, WellFormed}
+use Rattle.meaning.specs.Refusal.{Lent, plain, paid, WellFormed}
 use Rattle.meaning.specs.Stop.{rewardOf, Stops, Stopped}
 use Rattle.meaning.specs.Outcome.{
   Answer,

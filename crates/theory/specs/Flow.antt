@@ -1,16 +1,15 @@
 -- Laws of flow, the weighted sum over the edges that leave a state.
-use Prim.Native.Nat.{ℕ, zero, suc, _+_, _*_, _-_, _/_, _%_, _^_, _≤_, _<_}
-use mathlib.Core.Path.{_≡_, refl, sym, ap, subst, _∙_}
-use mathlib.Core.Logic.{_⊎_, inl, inr, ⊎-elim}
+use Prim.Native.Nat.{ℕ, _+_, _*_, _≤_, _<_}
+use mathlib.Core.Path.{_≡_, refl, sym, ap, _∙_}
 use mathlib.Core.Bool.{Bool, true, false}
 use mathlib.Core.List.{List}
 use native.Mathlib.Omega.{arith}
 use native.Mathlib.Nat.{mul-le-mul-left, mul-comm}
 use lib.Dec.{eqb}
-use borrow.Author.Tests.{eq-eqb, ne-eqb, eqb-true}
-use Rattle.meaning.specs.Number.{sumTo, only, choose}
+use borrow.Author.Tests.{eq-eqb, eqb-true}
+use Rattle.meaning.specs.Number.{sumTo, only}
 use Rattle.meaning.specs.Chain.{edgeCount, from, to, weight, carried, flow}
-use Rattle.theory.specs.Sum.{sum-ext, sum-le, sum-add, sum-zero, sum-scale, sum-swap, sum-one, sum-term, sum-tight}
+use Rattle.theory.specs.Sum.{sum-ext, sum-add, sum-zero, sum-scale, sum-swap, sum-one, sum-term, sum-tight}
 
 only-add : (b : Bool) (w x y : ℕ) → only b (w * (x + y)) ≡ only b (w * x) + only b (w * y)
 only-add true w x y = omega arith

@@ -1,29 +1,23 @@
 -- The elimination stops at a position, or it runs through: numbers 12 and 13 are decided.
-use Prim.Native.Nat.{ℕ, zero, suc, _+_, _≤_, _<_}
+use Prim.Native.Nat.{ℕ, zero, suc, _+_, _<_}
 use mathlib.Core.Path.{_≡_, refl}
-use mathlib.Core.Logic.{_⊎_, ⊎-elim, Dec·and}
+use mathlib.Core.Logic.{Dec·and}
 use mathlib.Core.Bool.{Bool, true, false}
 use native.Mathlib.Omega.{arith}
-use native.Mathlib.Nat.{eq-or-lt-of-le}
 use native.Mathlib.Decide.{ℕ-discrete, decLt}
 use Rattle.meaning.specs.Chain.{mostStates, M}
 use Rattle.meaning.specs.Row.{total, reward, exact}
 use Rattle.meaning.specs.Step.{row, Sets, outside, goes}
 use Rattle.meaning.specs.Refusal.{Lent}
 use Rattle.meaning.specs.Stop.{turn, tableAt, NoFit, NoWay, Passed, Stops, before-steps, in-step, at-turn}
+use Rattle.theory.specs.Sum.{last-or-below}
 use Rattle.theory.specs.Search.{either, anywhere}
 
 -- Two truth values are compared.
 unfoldable pub alike : (a b : Bool) → Dec (a ≡ b)
 alike true true = yes refl
-alike true false = no (λ e. differ e)
-  where
-    differ : true ≡ false → ⊥
-    differ e = let z : _≡_ {A = ℕ} 0 1 = cc in omega arith
-alike false true = no (λ e. differ e)
-  where
-    differ : false ≡ true → ⊥
-    differ e = let z : _≡_ {A = ℕ} 0 1 = cc in omega arith
+alike true false = no (λ e. let z : _≡_ {A = ℕ} 0 1 = cc in omega arith)
+alike false true = no (λ e. let z : _≡_ {A = ℕ} 0 1 = cc in omega arith)
 alike false false = yes refl
 
 -- What the elimination comes to.
@@ -54,15 +48,9 @@ module _ (b : Bool) (l : Lent) (k : Sets) where
   passed-more p h w f =
       record {
         fits = λ q m g.
-            ⊎-elim
-            (λ (e : q ≡ suc p). f (rw e at g))
-            (λ (m : q < suc p). h .fits q (omega arith) g)
-            (eq-or-lt-of-le {n = q} {m = suc p} m);
+            last-or-below {n = suc p} (omega arith) (λ (e : q ≡ suc p). f (rw e at g)) (λ (m : q < suc p). h .fits q (omega arith) g);
         turns = λ q m g.
-            ⊎-elim
-            (λ (e : q ≡ p). w (rw e at g))
-            (λ (m : q < p). h .turns q m g)
-            (eq-or-lt-of-le {n = q} {m = p} (omega arith));
+            last-or-below m (λ (e : q ≡ p). w (rw e at g)) (λ (m : q < p). h .turns q m g);
       }
 
   unfoldable pub halt-from : (m p : ℕ) → p + m ≡ l .chain .states → Passed b l k p → Halted b l k
@@ -70,19 +58,19 @@ module _ (b : Bool) (l : Lent) (k : Sets) where
   halt-from zero p e h = runs (let q : p ≡ l .chain .states = omega arith in rw q at h)
   halt-from (suc m) p e h =
       elim (wayless p) [
-        yes w ↦ stops 13 p (at-turn p (omega arith) h w)
-      | no w ↦ elim (unfit (suc p)) [
-        yes f ↦ stops 12 p (in-step p (omega arith) h w f)
-      | no f ↦ halt-from m (suc p) (omega arith) (passed-more p h w f)
-      ]
+        | yes w ↦ stops 13 p (at-turn p (omega arith) h w)
+        | no w ↦ elim (unfit (suc p)) [
+          | yes f ↦ stops 12 p (in-step p (omega arith) h w f)
+          | no f ↦ halt-from m (suc p) (omega arith) (passed-more p h w f)
+        ]
       ]
 
   unfoldable pub halt : Halted b l k
   unfolding halt-from unfit
   halt =
       elim (unfit 0) [
-        yes f ↦ stops 12 mostStates (before-steps f)
-      | no f ↦ halt-from (l .chain .states) 0 (omega arith) (passed-none f)
+        | yes f ↦ stops 12 mostStates (before-steps f)
+        | no f ↦ halt-from (l .chain .states) 0 (omega arith) (passed-none f)
       ]
 
   -- Nothing stops an elimination that runs through.

@@ -33,5 +33,11 @@ pub mod Unrounded
 pub mod Whole
 pub mod Look
 pub mod Halt
+pub mod Begin
+pub mod Outcomes
+pub mod Cases
+pub mod Listed
 pub mod Determined
 pub mod Entries
+pub mod DemandTwo
+pub mod DemandThree

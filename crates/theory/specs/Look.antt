@@ -1,5 +1,5 @@
 -- Every number of refusal 1 to 11 is decided: an input is refused by one of them, or is well formed.
-use Prim.Native.Nat.{ℕ, zero, suc, _*_, _/_, _%_, _^_, _≤_, _<_}
+use Prim.Native.Nat.{ℕ, zero, suc, _/_, _%_, _^_, _<_}
 use mathlib.Core.Path.{_≡_, refl}
 use mathlib.Core.Logic.{_⊎_, inl, inr, Dec·and, Dec·not}
 use mathlib.Core.Bool.{Bool, true, false}
@@ -154,6 +154,6 @@ unfoldable pub look : (x : Entry) (l : Lent) → Looked x l
 unfolding sought earliest
 look x l =
     elim (earliest (sought x l)) [
-      first number place a b c ↦ refused number place (record { applies = a; number-least = b; place-least = c })
-    | clean c ↦ formed (record { none = c })
+      | first number place a b c ↦ refused number place (record { applies = a; number-least = b; place-least = c })
+      | clean c ↦ formed (record { none = c })
     ]

@@ -1,11 +1,10 @@
 -- Decisions that compute, and the least place below a bound at which something holds.
 use Prim.Native.Nat.{ℕ, zero, suc, _+_, _≤_, _<_}
-use mathlib.Core.Path.{_≡_, refl}
+use mathlib.Core.Path.{_≡_}
 use mathlib.Core.Logic.{_⊎_, inl, inr, ⊎-elim, Dec·and}
-use mathlib.Core.Bool.{Bool, true, false}
-use native.Mathlib.Decide.{ℕ-discrete, decLe, decLt}
+use native.Mathlib.Decide.{decLt}
 use native.Mathlib.Omega.{arith}
-use native.Mathlib.Nat.{eq-or-lt-of-le}
+use Rattle.theory.specs.Sum.{last-or-below}
 
 unfoldable pub turned : {A B : Type 0} → (A → B) → (B → A) → Dec A → Dec B
 turned f g (yes a) = yes (f a)
@@ -29,19 +28,15 @@ pub clear-none : (F : ℕ → Type 0) → Clear F 0
 clear-none F q l f = omega arith
 
 pub clear-more : (F : ℕ → Type 0) (i : ℕ) → Clear F i → (F i → ⊥) → Clear F (suc i)
-clear-more F i c h q l f =
-    ⊎-elim
-    (λ (e : q ≡ i). h (rw e at f))
-    (λ (m : q < i). c q m f)
-    (eq-or-lt-of-le {n = q} {m = i} (omega arith))
+clear-more F i c h q l f = last-or-below l (λ (e : q ≡ i). h (rw e at f)) (λ (m : q < i). c q m f)
 
 module _ (F : ℕ → Type 0) (n : ℕ) (decide : (i : ℕ) → Dec (F i)) (inside : (i : ℕ) → F i → i < n) where
   unfoldable pub search-from : (k i : ℕ) → n ≤ i + k → Clear F i → Least F
   search-from zero i l c = nowhere (λ q f. c q (omega (arith, inside q f)) f)
   search-from (suc k) i l c =
       elim (decide i) [
-        yes f ↦ at i f c
-      | no h ↦ search-from k (suc i) (omega arith) (clear-more F i c h)
+        | yes f ↦ at i f c
+        | no h ↦ search-from k (suc i) (omega arith) (clear-more F i c h)
       ]
 
   unfoldable pub search-least : Least F
@@ -61,12 +56,3 @@ found (nowhere h) = no (λ w. h (w .0) (w .1))
 unfoldable pub anywhere : (P : ℕ → Type 0) (n : ℕ) → ((i : ℕ) → Dec (P i)) → Dec ((i : ℕ) × ((i < n) × P i))
 unfolding ranged found
 anywhere P n decide = found (ranged P n decide)
-
-unfoldable pub holds : {A : Type 0} → Dec A → Bool
-holds (yes a) = true
-holds (no h) = false
-
-pub held : {A : Type 0} (d : Dec A) → holds d ≡ true → A
-unfolding holds
-held (yes a) e = a
-held (no h) e = absurd (let z : _≡_ {A = ℕ} 0 1 = cc in omega arith)

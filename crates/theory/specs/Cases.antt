@@ -1,0 +1,128 @@
+-- The chains worked by hand whose figures are proved: one list, with one claim.
+use Prim.Native.Nat.{ℕ, zero, suc, _+_, _-_, _^_}
+use mathlib.Core.List.{List, [], _∷_, _++_}
+use lib.ListN.{replicate}
+use Rattle.meaning.specs.Number.{tabFrom}
+use Rattle.meaning.specs.Chain.{M}
+use Rattle.meaning.specs.Figure.{Chance}
+use Rattle.meaning.specs.Refusal.{Lent, workSize}
+use Rattle.meaning.specs.Outcome.{
+  cleared,
+  Answer,
+  refusal,
+  fraction,
+  infinite,
+  ChanceOutcome,
+  RewardOutcome,
+  Bounds,
+  between,
+  BoundsOutcome,
+}
+
+-- What an entry is lent, what it answers, and its work table then; or a chance that no entry need answer.
+pub data Case : Type 0 where
+  chance : Lent → Answer → List ℕ → Case
+  reward : Lent → Answer → List ℕ → Case
+  bounds : Lent → Bounds → List ℕ → Case
+  value : Lent → ℕ → ℕ → Case
+
+abbrev pub Claim : Case → Type 0
+Claim (chance l a w) = ChanceOutcome l a w
+Claim (reward l a w) = RewardOutcome l a w
+Claim (bounds l a w) = BoundsOutcome l a w
+Claim (value l p q) = Chance (l .chain) p q
+
+-- A chain that starts at state 0 is lent with the order 0, 1, 2, .. and a work table that has two numbers more than it need have.
+abbrev pub lend : ℕ → ℕ → List ℕ → List ℕ → List ℕ → Lent
+lend states goals denominators edges rewards =
+    record {
+      chain = record { states = states; start = 0; goals = goals; denominators = denominators; edges = edges };
+      order = tabFrom 0 states (λ i. i);
+      rewards = rewards;
+      work = replicate (workSize states + 2) 7;
+    }
+
+-- An edge, among the others.
+abbrev pub edge : ℕ → ℕ → ℕ → List ℕ
+edge source target weight = source ∷ target ∷ weight ∷ []
+
+-- The address chain: 5 is ok, 6 is the error. Then with 5, with 6, and with both as goals.
+abbrev pub address : ℕ → List ℕ → Lent
+address goals rewards =
+    lend 7 goals
+    (8 ∷ 5 ∷ 5 ∷ 5 ∷ 5 ∷ 1 ∷ 1 ∷ [])
+    (edge 0 5 7 ++ edge 0 1 1 ++ edge 1 0 4 ++ edge 1 2 1 ++ edge 2 0 4 ++ edge 2 3 1
+    ++ edge 3 0 4 ++ edge 3 4 1 ++ edge 4 0 4 ++ edge 4 6 1 ++ edge 5 5 1 ++ edge 6 6 1)
+    rewards
+
+abbrev pub okay : Lent
+okay = address (2 ^ 5) []
+
+abbrev pub failed : Lent
+failed = address (2 ^ 6) []
+
+abbrev pub done : Lent
+done = address (2 ^ 5 + 2 ^ 6) (1 ∷ 0 ∷ 0 ∷ 0 ∷ 0 ∷ 0 ∷ 0 ∷ [])
+
+-- 0 to 0, to the goal 1 and to the trap 2.
+abbrev pub loop : Lent
+loop = lend 3 (2 ^ 1) (3 ∷ 1 ∷ 1 ∷ []) (edge 0 0 1 ++ edge 0 1 1 ++ edge 0 2 1 ++ edge 1 1 1 ++ edge 2 2 1) []
+
+-- 0 to 1; 1 to 1 and to the goal 2.
+abbrev pub wait : Lent
+wait = lend 3 (2 ^ 2) (1 ∷ 2 ∷ 1 ∷ []) (edge 0 1 1 ++ edge 1 1 1 ++ edge 1 2 1 ++ edge 2 2 1) (1 ∷ 1 ∷ 0 ∷ [])
+
+-- 0 to 1 and to the goal 3; 1 to 2; 2 to 1. Without rewards and with them.
+abbrev pub astray : List ℕ → Lent
+astray rewards = lend 4 (2 ^ 3) (2 ∷ 1 ∷ 1 ∷ 1 ∷ []) (edge 0 1 1 ++ edge 0 3 1 ++ edge 1 2 1 ++ edge 2 1 1 ++ edge 3 3 1) rewards
+
+abbrev pub unpaid : Lent
+unpaid = astray []
+
+abbrev pub endless : Lent
+endless = astray (0 ∷ 1 ∷ 1 ∷ 0 ∷ [])
+
+-- 0 to the goal 1, which has an edge back.
+abbrev pub back : Lent
+back = lend 2 (2 ^ 1) (1 ∷ 1 ∷ []) (edge 0 1 1 ++ edge 1 0 1) []
+
+-- 0 to 1, and to the trap 3 with M - 1; 1 to the goal 2, and to the trap with 2.
+abbrev pub rare : Lent
+rare =
+    lend 4 (2 ^ 2) (M ∷ 3 ∷ 1 ∷ 1 ∷ [])
+    (edge 0 1 1 ++ edge 0 3 (M - 1) ++ edge 1 2 1 ++ edge 1 3 2 ++ edge 2 2 1 ++ edge 3 3 1) []
+
+-- 0 to the goal 1, and to the trap 2 with M - 1.
+abbrev pub least : ℕ → Lent
+least denominator = lend 3 (2 ^ 1) (denominator ∷ 1 ∷ 1 ∷ []) (edge 0 1 1 ++ edge 0 2 (M - 1) ++ edge 1 1 1 ++ edge 2 2 1) []
+
+-- The loops of the n states from i on.
+abbrev pub loops : ℕ → ℕ → List ℕ
+loops i zero = []
+loops i (suc n) = edge i i 1 ++ loops (suc i) n
+
+-- 64 states that loop, all of them goals; and one state that loops, and no goal.
+abbrev pub full : Lent
+full = lend 64 (2 ^ 64 - 1) (replicate 64 1) (loops 0 64) []
+
+abbrev pub goalless : Lent
+goalless = lend 1 0 (1 ∷ []) (loops 0 1) []
+
+abbrev pub cases : List Case
+cases =
+    chance okay (fraction 4375 4376) (cleared okay)
+    ∷ chance failed (fraction 1 4376) (cleared failed)
+    ∷ reward done (fraction 625 547) (cleared done)
+    ∷ chance loop (fraction 1 2) (cleared loop)
+    ∷ reward wait (fraction 3 1) (cleared wait)
+    ∷ chance unpaid (fraction 1 2) (cleared unpaid)
+    ∷ reward endless infinite (cleared endless)
+    ∷ chance back (fraction 1 1) (cleared back)
+    ∷ chance rare (refusal 12 1) (cleared rare)
+    ∷ bounds rare (between 0 1 1 1610612736) (cleared rare)
+    ∷ value rare 1 6442450941
+    ∷ chance (least M) (fraction 1 2147483647) (cleared (least M))
+    ∷ chance (least 2147483648) (refusal 5 0) (least 2147483648 .work)
+    ∷ chance goalless (refusal 4 0) (goalless .work)
+    ∷ chance full (fraction 1 1) (cleared full)
+    ∷ []
