@@ -26,7 +26,7 @@ pow-above (suc x) = omega (arith, pow-above x, pow-whole x)
 pub up-above : (x K : ℕ) → 0 < K → x ≤ K * ((x + K - 1) / K)
 up-above x K h = omega (arith, lt-mul-div-succ (x + K - 1) h)
 
-up-least : (x K y : ℕ) → 0 < K → x ≤ K * y → (x + K - 1) / K ≤ y
+pub up-least : (x K y : ℕ) → 0 < K → x ≤ K * y → (x + K - 1) / K ≤ y
 up-least x K y h l =
     let q : (x + K - 1) / K < suc y = div-lt-iff-lt-mul {y = suc y} h .1 (omega arith) in
     omega arith

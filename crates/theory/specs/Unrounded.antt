@@ -32,7 +32,7 @@ module _ (c : Chain) (k : Sets) (r : ℕ → ℕ) (o : List ℕ) where
 
   first-same : (RoundedAt c k r o 0 → ⊥) → first rounding c k r (λ _. 0) ≡ first exact c k r (λ _. 0)
   unfolding first
-  first-same none = tab-ext 0 n _ _ (λ i _ h. go i (omega arith) (eqb (bit (k .live) i) 1) refl)
+  first-same none = tab-ext n _ _ (λ i h. go i h (eqb (bit (k .live) i) 1) refl)
     where
       go : (i : ℕ) → i < n → (t : Bool) → eqb (bit (k .live) i) 1 ≡ t
           → choose t (firstRow rounding c k r 0 i) (noRow n) ≡ choose t (firstRow exact c k r 0 i) (noRow n)
@@ -42,7 +42,7 @@ module _ (c : Chain) (k : Sets) (r : ℕ → ℕ) (o : List ℕ) where
   removed-same : (p : ℕ) → leaving c k o p ≡ true → (RoundedAt c k r o (suc p) → ⊥)
       → removed rounding n (getD o p 0) (at p) ≡ removed exact n (getD o p 0) (at p)
   unfolding removed renewed
-  removed-same p g none = tab-ext 0 n _ _ (λ i _ h. go i (omega arith))
+  removed-same p g none = tab-ext n _ _ (λ i h. go i h)
     where
       s : ℕ
       s = getD o p 0
