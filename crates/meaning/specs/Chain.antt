@@ -30,6 +30,7 @@ pub record Chain : Type 0 where
   pub denominators : List ℕ
   pub edges : List ℕ
 
+-- The denominator of state i.
 abbrev pub denominator : Chain → ℕ → ℕ
 denominator c i = getD (c .denominators) i 0
 
@@ -37,6 +38,7 @@ denominator c i = getD (c .denominators) i 0
 abbrev pub edgeSize : ℕ
 edgeSize = 3
 
+-- How many edges a list holds, and the three numbers of edge e, counted from 0.
 abbrev pub edgeCount : List ℕ → ℕ
 edgeCount edges = length edges / edgeSize
 
@@ -57,6 +59,7 @@ carried edges i f e = only (eqb (from edges e) i) (weight edges e * f (to edges 
 unfoldable pub flow : List ℕ → ℕ → (ℕ → ℕ) → ℕ
 flow edges i f = sumTo (carried edges i f) (edgeCount edges)
 
+-- The same over the edges of a chain.
 abbrev pub along : Chain → ℕ → (ℕ → ℕ) → ℕ
 along c i f = flow (c .edges) i f
 
@@ -64,6 +67,7 @@ along c i f = flow (c .edges) i f
 abbrev pub rowSum : List ℕ → ℕ → ℕ
 rowSum edges i = flow edges i (λ _. 1)
 
+-- State i is a goal: bit i of the goal set.
 abbrev pub Goal : Chain → ℕ → Type 0
 Goal c i = bit (c .goals) i ≡ 1
 

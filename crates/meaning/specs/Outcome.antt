@@ -4,7 +4,7 @@ use mathlib.Core.Path.{_≡_}
 use mathlib.Core.List.{List, _++_}
 use lib.ListN.{replicate, drop}
 use Rattle.meaning.specs.Number.{Reduced}
-use Rattle.meaning.specs.Chain.{Chain, Goal, ToGoal, Live}
+use Rattle.meaning.specs.Chain.{Goal, ToGoal, Live}
 use Rattle.meaning.specs.Figure.{Chance, Missed, Expected}
 use Rattle.meaning.specs.Row.{Row, cell, goalColumn, unknownColumn, exact, rounding}
 use Rattle.meaning.specs.Step.{row, Sets, Right, outside}
@@ -36,6 +36,7 @@ pub record Answer : Type 0 where
 abbrev pub refusal : ℕ → ℕ → Answer
 refusal number place = record { number = number; place = place; numerator = 0; denominator = 0 }
 
+-- p over q: number 0.
 abbrev pub fraction : ℕ → ℕ → Answer
 fraction p q = record { number = 0; place = 0; numerator = p; denominator = q }
 
@@ -47,17 +48,20 @@ infinite = fraction 1 0
 pub data ChanceFigure (l : Lent) (a : Answer) : Type 0 where
   chance : (p q : ℕ) → Chance (l .chain) p q → a ≡ fraction p q → ChanceFigure l a
 
+-- The entry for the chance: 12 and 13 stop the exact engine.
 abbrev pub ChanceOutcome : Lent → Answer → List ℕ → Type 0
 ChanceOutcome l = Outcome plain l refusal (Stopped exact l) (ChanceFigure l)
 
--- The expected reward. Where it is infinite no row is made, and nothing stops.
+-- The expected reward, or infinite exactly where the goal may be missed.
 pub data RewardFigure (l : Lent) (a : Answer) : Type 0 where
   missed : Missed (l .chain) → a ≡ infinite → RewardFigure l a
   expected : (Missed (l .chain) → ⊥) → (p q : ℕ) → Expected (l .chain) (rewardOf l) p q → a ≡ fraction p q → RewardFigure l a
 
+-- 12 and 13 stop the exact engine where the reward is not infinite.
 abbrev pub RewardStop : Lent → ℕ → ℕ → Type 0
 RewardStop l number place = (Missed (l .chain) → ⊥) × Stopped exact l number place
 
+-- The entry for the expected reward.
 abbrev pub RewardOutcome : Lent → Answer → List ℕ → Type 0
 RewardOutcome l = Outcome paid l refusal (RewardStop l) (RewardFigure l)
 
@@ -70,6 +74,7 @@ pub record Bounds : Type 0 where
   pub upperNumerator : ℕ
   pub upperDenominator : ℕ
 
+-- A refusal answers its number and place, with noughts for both fractions.
 abbrev pub noBounds : ℕ → ℕ → Bounds
 noBounds number place =
     record {
@@ -110,5 +115,6 @@ pub data BoundsFigure (l : Lent) (a : Bounds) : Type 0 where
       → a ≡ between p q s t
       → BoundsFigure l a
 
+-- The entry for the bounds: of 12 and 13 only 13 could stop it.
 abbrev pub BoundsOutcome : Lent → Bounds → List ℕ → Type 0
 BoundsOutcome l = Outcome plain l noBounds (Stopped rounding l) (BoundsFigure l)

@@ -109,6 +109,7 @@ RewardFault n rewards i = (i < n) × (mostReward < getD rewards i 0)
 abbrev pub whole : Type 0 → ℕ → Type 0
 whole F p = (p ≡ 0) × F
 
+-- No fault, at any place.
 abbrev pub never : ℕ → Type 0
 never p = ⊥
 

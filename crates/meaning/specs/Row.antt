@@ -1,6 +1,6 @@
 -- A row of whole numbers of any size: its columns, its lowest terms, and how it is rounded.
 -- A row has n + 4 columns: the n states, then Goal, Trap, Unknown and Reward.
-use Prim.Native.Nat.{ℕ, zero, suc, _+_, _-_, _/_, _^_, _≤_, _<_}
+use Prim.Native.Nat.{ℕ, zero, suc, _+_, _-_, _/_, _^_}
 use mathlib.Core.Bool.{Bool, true, false}
 use mathlib.Core.List.{List, [], _∷_}
 use lib.ListN.{length, getD, set}
@@ -8,6 +8,7 @@ use lib.Dec.{eqb, leb, ltb}
 use Rattle.meaning.specs.Number.{sumTo, choose, tabFrom, gcd}
 use Rattle.meaning.specs.Chain.{M}
 
+-- A row is the list of its numbers.
 abbrev pub Row : Type 0
 Row = List ℕ
 
@@ -35,6 +36,7 @@ rewardColumn n = n + 3
 abbrev pub total : ℕ → Row → ℕ
 total n r = sumTo (cell r) (n + 3)
 
+-- The Reward of a row.
 abbrev pub reward : ℕ → Row → ℕ
 reward n r = cell r (rewardColumn n)
 
@@ -87,6 +89,7 @@ exact = false
 abbrev pub rounding : Bool
 rounding = true
 
+-- In the bounds engine a row is rounded where its total is above M.
 unfoldable pub bounded : Bool → ℕ → Row → Row
 bounded b n r = choose b (choose (ltb M (total n r)) (rounded n r) r) r
 

@@ -23,6 +23,7 @@ use Rattle.meaning.specs.Row.{
   rounding,
 }
 
+-- A table is the list of its rows, and row i is that of state i.
 abbrev pub Table : Type 0
 Table = List Row
 
@@ -49,6 +50,7 @@ given c k r u i =
     (choose (eqb j (trapColumn (c .states))) (along c i (λ t. 1 - bit (k .good) t))
     (choose (eqb j (unknownColumn (c .states))) u (earned c r i)))))
 
+-- The first row of a live state: what the chain gives, divided likewise.
 abbrev pub firstRow : Bool → Chain → Sets → (ℕ → ℕ) → ℕ → ℕ → Row
 firstRow b c k r u i = settled b (c .states) (given c k r u i)
 

@@ -3,7 +3,6 @@ use Prim.Native.Nat.{ℕ, suc, _≤_, _<_}
 use mathlib.Core.Path.{_≡_}
 use mathlib.Core.Logic.{_⊎_}
 use mathlib.Core.Bool.{Bool, true}
-use mathlib.Core.List.{List}
 use lib.ListN.{getD}
 use Rattle.meaning.specs.Chain.{mostStates, M, Live}
 use Rattle.meaning.specs.Row.{Row, total, reward, exact}
@@ -50,7 +49,7 @@ pub data Stops (b : Bool) (l : Lent) (k : Sets) : ℕ → ℕ → Type 0 where
   in-step : (p : ℕ) → p < l .chain .states → Passed b l k p → (NoWay b l k p → ⊥) → NoFit b l k (suc p) → Stops b l k 12 p
   at-turn : (p : ℕ) → p < l .chain .states → Passed b l k p → NoWay b l k p → Stops b l k 13 p
 
--- With the start a goal or not live no row is made, and nothing stops.
+-- What stops an engine, with the chain's own sets. With the start a goal or not live no row is made, and nothing stops.
 pub record Stopped (b : Bool) (l : Lent) (number place : ℕ) : Type 0 where
   pub sets : Sets
   pub right : Right (l .chain) sets

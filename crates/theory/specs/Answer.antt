@@ -7,7 +7,7 @@ use mathlib.Core.List.{List}
 use native.Mathlib.Omega.{arith}
 use native.Mathlib.Nat.{le-of-eq}
 use lib.ListN.{getD}
-use Rattle.meaning.specs.Chain.{Chain, Goal, Live}
+use Rattle.meaning.specs.Chain.{Chain, Live}
 use Rattle.meaning.specs.Figure.{Shares, Missed, Earns}
 use Rattle.meaning.specs.Row.{Row, cell, total, reward, exact, rounding}
 use Rattle.meaning.specs.Step.{row, Sets, Right, outside, given, stage, after}

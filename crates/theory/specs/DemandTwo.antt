@@ -12,20 +12,7 @@ use Rattle.meaning.specs.Row.{exact, rounding}
 use Rattle.meaning.specs.Step.{Sets, Right}
 use Rattle.meaning.specs.Refusal.{Lent, Entry, plain, paid, WellFormed}
 use Rattle.meaning.specs.Stop.{rewardOf, NoFit, NoWay, Stops, before-steps, in-step, at-turn, Stopped}
-use Rattle.meaning.specs.Outcome.{
-  Outcome,
-  refused,
-  stopped,
-  answered,
-  Answer,
-  infinite,
-  fraction,
-  ChanceFigure,
-  ChanceOutcome,
-  RewardFigure,
-  RewardStop,
-  RewardOutcome,
-}
+use Rattle.meaning.specs.Outcome.{refused, stopped, answered, Answer, infinite, ChanceFigure, ChanceOutcome, RewardFigure, RewardOutcome}
 use Rattle.theory.specs.Unique.{chance-one, expected-one}
 use Rattle.theory.specs.Formed.{formed-fine, start-in}
 use Rattle.theory.specs.Whole.{no-stuck}

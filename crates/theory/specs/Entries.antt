@@ -9,20 +9,7 @@ use Rattle.meaning.specs.Row.{cell, goalColumn, unknownColumn, exact, rounding}
 use Rattle.meaning.specs.Step.{Sets, Right, outside}
 use Rattle.meaning.specs.Refusal.{Lent, plain, paid, WellFormed}
 use Rattle.meaning.specs.Stop.{rewardOf, Stops, Stopped}
-use Rattle.meaning.specs.Outcome.{
-  Answer,
-  fraction,
-  ChanceFigure,
-  ChanceOutcome,
-  RewardFigure,
-  RewardStop,
-  RewardOutcome,
-  Bounds,
-  between,
-  lastRow,
-  BoundsFigure,
-  BoundsOutcome,
-}
+use Rattle.meaning.specs.Outcome.{Answer, fraction, ChanceFigure, ChanceOutcome, RewardFigure, RewardOutcome, Bounds, between, lastRow, BoundsFigure, BoundsOutcome}
 use Rattle.theory.specs.Unique.{reduced-one, chance-one, expected-one}
 use Rattle.theory.specs.Sets.{right-one}
 use Rattle.theory.specs.Formed.{formed-fine, start-in, unpaid}

@@ -11,7 +11,7 @@ use borrow.Author.Tests.{eq-eqb}
 use Rattle.meaning.specs.Number.{choose, bit}
 use Rattle.meaning.specs.Chain.{M, Chain}
 use Rattle.meaning.specs.Row.{Row, cell, total, settled, rounding}
-use Rattle.meaning.specs.Step.{Table, row, Sets, outside, given, firstRow, noRow, combined, renewed, removed, after, stage}
+use Rattle.meaning.specs.Step.{Table, row, Sets, outside, given, firstRow, noRow, renewed, removed, after, stage}
 use Rattle.theory.specs.Sum.{same, sum-zero}
 use Rattle.theory.specs.Tab.{tab-at, tab-length}
 use Rattle.theory.specs.Relation.{combined-length, combined-fits}

@@ -9,30 +9,7 @@ use native.Mathlib.Decide.{ℕ-discrete, decLe, decLt}
 use lib.ListN.{length, getD}
 use Rattle.meaning.specs.Number.{only}
 use Rattle.meaning.specs.Chain.{mostStates, mostEdges, M, mostReward, edgeSize, edgeCount, from, to, weight, rowSum}
-use Rattle.meaning.specs.Refusal.{
-  Lent,
-  Entry,
-  workSize,
-  Misshaped,
-  no-states,
-  many-states,
-  denominators-length,
-  edges-threes,
-  many-edges,
-  order-length,
-  rewards-length,
-  GoalFault,
-  Outside,
-  Same,
-  Earlier,
-  whole,
-  never,
-  lentFault,
-  faults,
-  Applies,
-  Refused,
-  WellFormed,
-}
+use Rattle.meaning.specs.Refusal.{Lent, Entry, workSize, Misshaped, no-states, many-states, denominators-length, edges-threes, many-edges, order-length, rewards-length, GoalFault, Outside, Same, whole, never, lentFault, faults, Refused, WellFormed}
 use Rattle.theory.specs.Search.{turned, either, Clear, Least, at, nowhere, clear-none, ranged, anywhere}
 
 module _ (x : Entry) (states denominators edges order rewards : ℕ) where

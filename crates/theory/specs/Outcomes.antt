@@ -10,28 +10,7 @@ use Rattle.meaning.specs.Row.{Row, cell, goalColumn, unknownColumn, reward, exa
 use Rattle.meaning.specs.Step.{row, Sets, Right, outside}
 use Rattle.meaning.specs.Refusal.{Lent, Entry, plain, paid, WellFormed}
 use Rattle.meaning.specs.Stop.{rewardOf, tableAt, Passed, Stopped}
-use Rattle.meaning.specs.Outcome.{
-  cleared,
-  Outcome,
-  refused,
-  stopped,
-  answered,
-  Answer,
-  refusal,
-  fraction,
-  infinite,
-  ChanceFigure,
-  chance,
-  RewardFigure,
-  missed,
-  expected,
-  RewardStop,
-  Bounds,
-  noBounds,
-  between,
-  lastRow,
-  BoundsFigure,
-}
+use Rattle.meaning.specs.Outcome.{cleared, Outcome, refused, stopped, answered, refusal, fraction, infinite, ChanceFigure, chance, RewardFigure, missed, expected, RewardStop, Bounds, noBounds, between, lastRow, BoundsFigure}
 use Rattle.theory.specs.Gcd.{fraction-reduced}
 use Rattle.theory.specs.Sets.{right-one, right-exists}
 use Rattle.theory.specs.Look.{Looked, look}

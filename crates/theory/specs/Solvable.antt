@@ -6,7 +6,7 @@ use native.Mathlib.Omega.{arith}
 use lib.Dec.{eqb}
 use borrow.Author.Tests.{eq-eqb}
 use Rattle.meaning.specs.Number.{sumTo, only}
-use Rattle.meaning.specs.Chain.{Chain, denominator, from, to, weight, along, Goal, PathTo, ToGoal}
+use Rattle.meaning.specs.Chain.{Chain, denominator, from, to, along, Goal, PathTo, ToGoal}
 use Rattle.theory.specs.Sum.{sum-ext, sum-zero}
 use Rattle.theory.specs.Flow.{flow-split, flow-term}
 use Rattle.theory.specs.Fine.{Fine}
