@@ -1,0 +1,35 @@
+use mathlib.Core.Path.{refl}
+use mathlib.Core.List.{[]}
+use borrow.Author.Needs.{needs}
+use Rattle.chain.proofs.look.look_bare.Statement.{statement}
+use Rattle.chain.proofs.look.look_bare.Tie as tie
+use lib.Dec.{lit<}
+use Rattle.meaning.specs.Refusal.{bare}
+use Rattle.chain.specs.Says.{lent, Upto}
+use Rattle.chain.proofs.Refuse.{next, misshapen, shaped, sized, settle}
+use Rattle.meaning.specs.Refusal.{Lent}
+use Rattle.chain.proofs.Refuse.{say}
+
+abbrev l : tie.After-misshaped → Lent
+l c = let a = c .before .before .before .args in lent (a .c) (a .denominators .now) (a .edges .now) [] [] []
+
+-- Numbers 2, 10 and 11 are passed over: their tables are not lent.
+up-3 : (c : tie.Else1) → Upto bare (l (c .before)) 3
+up-3 c = next (shaped bare _ _ _ _ (refl, refl) (refl, refl) (c .before .misshaped .ensures) (c .if1 .left)) (λ p a. a)
+
+returns : tie.Need-returns
+returns c =
+    let at = c .before .before in
+    say (c .refused .ensures) (misshapen bare (l at) _ _ _ (refl, refl) (refl, refl) (at .misshaped .ensures) (c .before .if1 .taken))
+
+own-requires : tie.Need-own-requires
+own-requires c κs = sized (up-3 c) (lit< tt)
+
+returns-2 : tie.Need-returns-2
+returns-2 c =
+    settle bare (l (c .before .before)) 10 (c .own .result) (λ u. next (next u (λ p a. a)) (λ p a. a))
+    (c .own .ensures bare [] [] [] (up-3 (c .before)))
+
+pub look-bare-spec : {M : Type 1} → statement M
+look-bare-spec =
+    tie.close (tie.spec (λ c κs. search needs) (λ c κs. search needs) returns own-requires returns-2)

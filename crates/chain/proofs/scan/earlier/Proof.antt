@@ -1,0 +1,41 @@
+use Prim.Native.Nat.{_-_}
+use mathlib.Core.Path.{_≡_}
+use mathlib.Core.List.{[]}
+use native.Mathlib.Omega.{arith}
+use lib.ListN.{getD}
+use Rattle.chain.proofs.Law.{Passed, pass}
+use borrow.Author.Needs.{needs}
+use Rattle.chain.proofs.scan.earlier.Statement.{statement}
+use Rattle.chain.proofs.scan.earlier.Tie as tie
+
+abbrev Inv-loop : tie.InvT-loop
+Inv-loop order p o₀ o = Passed (λ k. getD order k 0 ≡ getD order p 0) p o
+
+abbrev μ-loop : tie.MeasureT-loop
+μ-loop order p o₀ o = p - o
+
+returns : tie.Need-returns Inv-loop μ-loop
+returns c = (c .before .before .before .before .loop .o, (search needs, c .if1 .taken))
+
+loop-again : tie.Need-loop-again Inv-loop μ-loop
+loop-again c = pass (c .before .before .before .before .loop .inv) (search needs) (c .if1 .left)
+
+returns-2 : tie.Need-returns-2 Inv-loop μ-loop
+returns-2 c = λ h. c .before .loop .inv .1 (h .0) (omega (arith, h .1 .0)) (h .1 .1)
+
+pub earlier-spec : {M : Type 1} → statement M
+earlier-spec =
+    tie.close
+    (tie.spec
+    Inv-loop
+    μ-loop
+    (λ c. search needs)
+    (λ c. search needs)
+    (λ c. search needs)
+    (λ c. search needs)
+    (λ c. search needs)
+    returns
+    (λ c. search needs)
+    (λ c. search needs)
+    loop-again
+    returns-2)

@@ -1,0 +1,4 @@
+pub mod Reduce
+pub mod Least
+pub mod Says
+pub mod Answer

@@ -1,0 +1,116 @@
+// Faults of one table each, looked for from its first number on.
+ghost use mathlib.Core.Path.{_≡_};
+ghost use lib.ListN.{length};
+ghost use Rattle.chain.specs.Least.{least, decides};
+ghost use Rattle.meaning.specs.Refusal.{Outside, DenominatorFault, EndFault, WeightFault, Earlier, OrderFault, RewardFault};
+ghost use Prim.Native.Nat.{_<_};
+use crate::Chain;
+use crate::edge;
+
+// Where a scan finds what it looks for: at the least such place, or nowhere.
+pub(crate) enum Place {
+    Nowhere,
+    At(usize),
+}
+
+// Neither a denominator nor a weight.
+fn outside(x: u64) -> bool
+    ensures { λ r. ⌜ decides (Outside x) r ⌝ }
+{
+    if x == 0 {
+        return true;
+    }
+    Chain::LIMIT < x
+}
+
+pub(crate) fn denominators(n: usize, denominators: &[u64]) -> Place
+    requires { ⌜ length (now denominators) ≡ n ⌝ }
+    ensures { λ r. ⌜ least (DenominatorFault n (now (denominators .entry))) r ⌝ }
+{
+    let mut i = 0;
+    while i < n {
+        if outside(denominators[i]) {
+            return Place::At(i);
+        }
+        i += 1;
+    }
+    Place::Nowhere
+}
+
+pub(crate) fn ends(n: usize, edges: &[u64]) -> Place
+    ensures { λ r. ⌜ least (EndFault n (now (edges .entry))) r ⌝ }
+{
+    let states = n as u64;
+    let count = edge::count(edges);
+    let mut e = 0;
+    while e < count {
+        if states <= edge::from(edges, e) {
+            return Place::At(e);
+        }
+        if states <= edge::to(edges, e) {
+            return Place::At(e);
+        }
+        e += 1;
+    }
+    Place::Nowhere
+}
+
+pub(crate) fn weights(edges: &[u64]) -> Place
+    ensures { λ r. ⌜ least (WeightFault (now (edges .entry))) r ⌝ }
+{
+    let count = edge::count(edges);
+    let mut e = 0;
+    while e < count {
+        if outside(edge::weight(edges, e)) {
+            return Place::At(e);
+        }
+        e += 1;
+    }
+    Place::Nowhere
+}
+
+fn earlier(order: &[u64], p: usize) -> bool
+    requires { ⌜ p < length (now order) ⌝ }
+    ensures { λ r. ⌜ decides (Earlier (now (order .entry)) p) r ⌝ }
+{
+    let mut o = 0;
+    while o < p {
+        if order[o] == order[p] {
+            return true;
+        }
+        o += 1;
+    }
+    false
+}
+
+pub(crate) fn order(n: usize, order: &[u64]) -> Place
+    requires { ⌜ length (now order) ≡ n ⌝ }
+    ensures { λ r. ⌜ least (OrderFault n (now (order .entry))) r ⌝ }
+{
+    let states = n as u64;
+    let mut p = 0;
+    while p < n {
+        if states <= order[p] {
+            return Place::At(p);
+        }
+        if earlier(order, p) {
+            return Place::At(p);
+        }
+        p += 1;
+    }
+    Place::Nowhere
+}
+
+pub(crate) fn rewards(n: usize, rewards: &[u64]) -> Place
+    requires { ⌜ length (now rewards) ≡ n ⌝ }
+    ensures { λ r. ⌜ least (RewardFault n (now (rewards .entry))) r ⌝ }
+{
+    let mut i = 0;
+    while i < n {
+        if Chain::REWARD < rewards[i] {
+            return Place::At(i);
+        }
+        i += 1;
+    }
+    Place::Nowhere
+}
