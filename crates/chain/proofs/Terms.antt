@@ -1,11 +1,11 @@
 -- What a reduced fraction is: 0/0 as it was; else both numbers over their greatest common divisor, and so in lowest terms.
-use Prim.Native.Nat.{ℕ, _*_, _/_, _<_}
-use mathlib.Core.Path.{_≡_, sym, ap, _∙_}
+use Prim.Native.Nat.{ℕ, _/_, _<_}
+use mathlib.Core.Path.{_≡_, sym, _∙_}
 use native.Mathlib.Omega.{arith}
 use native.Mathlib.Nat.{dvd-refl, dvd-zero, zero-div, div-self}
 use borrow.Author.Tests.{eq-eqb, ne-eqb}
 use Rattle.meaning.specs.Number.{gcd, Reduced}
-use Rattle.theory.specs.Gcd.{gcd-greatest, greatest-one, gcd-zero, common-whole, common-p, common-q, fraction-lowest}
+use Rattle.theory.specs.Gcd.{gcd-greatest, greatest-one, gcd-zero, common-whole, fraction-reduced}
 use Rattle.chain.specs.Reduce.{reduced}
 use Rattle.chain.specs.declared.fraction.Fraction.{Fraction}
 
@@ -16,20 +16,13 @@ module _ (f : Fraction) {g : ℕ} (e : g ≡ gcd (f .numerator) (f .denominator)
   pub divides : (g ≡ 0 → ⊥) → record { numerator = f .numerator / g; denominator = f .denominator / g } ≡ reduced f
   divides d = rw (ne-eqb (gcd (f .numerator) (f .denominator)) 0 (λ z. d (e ∙ z)), e)
 
--- The same fraction: p is g times a, q is g times b.
-same : (g a b p q : ℕ) → 0 < g → g * a ≡ p → g * b ≡ q → a * q ≡ p * b
-same g a b p q h x y = omega (arith, ap (λ z. a * z) y, ap (λ z. z * b) x)
-
 module _ (f : Fraction) (whole : 0 < f .denominator) where
   pub terms : Reduced (f .numerator) (f .denominator) (reduced f .numerator) (reduced f .denominator)
   terms =
       let p = f .numerator in
       let q = f .denominator in
       rw (ne-eqb (gcd p q) 0 (λ z. let h = common-whole p q whole in omega arith))
-      (record {
-        lowest = fraction-lowest p q whole;
-        same = same (gcd p q) (p / gcd p q) (q / gcd p q) p q (common-whole p q whole) (common-p p q whole) (common-q p q whole);
-      })
+      (fraction-reduced p q whole)
 
 -- Zero over anything above 0 is 0/1.
 pub zero : (b : ℕ) → 0 < b → reduced (record { numerator = 0; denominator = b }) ≡ record { numerator = 0; denominator = 1 }

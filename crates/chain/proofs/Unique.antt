@@ -1,9 +1,10 @@
 -- What a looking promises determines its finding, and an answer's numbers determine its case.
-use Prim.Native.Nat.{ℕ, _<_}
-use mathlib.Core.Path.{_≡_, refl, sym, ap, ap₂, subst}
+use Prim.Native.Nat.{ℕ}
+use mathlib.Core.Path.{_≡_, refl, ap, ap₂}
 use native.Mathlib.Omega.{arith}
-use Rattle.meaning.specs.Refusal.{Lent, Entry, Refused}
+use Rattle.meaning.specs.Refusal.{Lent, Entry}
 use Rattle.meaning.specs.Outcome.{Answer, Bounds as Between}
+use Rattle.theory.specs.Determined.{refused-one}
 use Rattle.chain.specs.Says.{says}
 use Rattle.chain.specs.Answer.{toldChance, toldReward, toldBounds, PlainChance, PlainReward, PlainBounds}
 use Rattle.chain.specs.declared.fraction.Fraction.{Fraction}
@@ -16,25 +17,11 @@ use Rattle.chain.specs.declared.answer.Reward.the-variants as reward
 use Rattle.chain.specs.declared.answer.Bounds.{Bounds}
 use Rattle.chain.specs.declared.answer.Bounds.the-variants as bounds
 
--- Two numbers neither of which is less are equal.
-meet : (a b : ℕ) → (a < b → ⊥) → (b < a → ⊥) → a ≡ b
-meet a b f g = omega arith
-
-module _ {x : Entry} {l : Lent} where
-  same-number : {k p k' p' : ℕ} → Refused x l k p → Refused x l k' p' → k ≡ k'
-  same-number {k} {p} {k'} {p'} r r' =
-      meet k k' (λ h. r' .number-least k p h (r .applies)) (λ h. r .number-least k' p' h (r' .applies))
-
-  same-place : {k p p' : ℕ} → Refused x l k p → Refused x l k p' → p ≡ p'
-  same-place {p = p} {p' = p'} r r' = meet p p' (λ h. r' .place-least p h (r .applies)) (λ h. r .place-least p' h (r' .applies))
-
 pub unique : (x : Entry) (l : Lent) (f f' : Finding) → says x l f → says x l f' → f ≡ f'
 unique x l Clear Clear w w' = refl
 unique x l Clear (Refusing k p) w r = absurd (w .none k p (r .applies))
 unique x l (Refusing k p) Clear r w = absurd (w .none k p (r .applies))
-unique x l (Refusing k p) (Refusing k' p') r r' =
-    let e = same-number r r' in
-    ap₂ (λ (a b : ℕ). Refusing a b) e (same-place r (subst (λ (a : ℕ). Refused x l a p') (sym e) r'))
+unique x l (Refusing k p) (Refusing k' p') r r' = let e = refused-one r r' in ap₂ (λ (a b : ℕ). Refusing a b) (e .0) (e .1)
 
 -- A fraction is its two numbers.
 joined : {f g : Fraction} → f .numerator ≡ g .numerator → f .denominator ≡ g .denominator → f ≡ g

@@ -1,4 +1,3 @@
-use mathlib.Core.List.{[]}
 use native.Mathlib.Numerals.{unary-clauses}
 use borrow.Author.Needs.{needs}
 use Rattle.chain.proofs.edge.from.Statement.{statement}

@@ -1,6 +1,5 @@
 use Prim.Native.Nat.{_%_}
 use mathlib.Core.Path.{_≡_}
-use mathlib.Core.List.{[]}
 use native.Mathlib.Omega.{arith}
 use lib.ListN.{length}
 use Rattle.chain.proofs.Law.{compares}

@@ -1,5 +1,4 @@
 use mathlib.Core.Path.{refl}
-use mathlib.Core.List.{[]}
 use borrow.Author.Needs.{needs}
 use Rattle.chain.proofs.look.look_paid.Statement.{statement}
 use Rattle.chain.proofs.look.look_paid.Tie as tie

@@ -1,5 +1,4 @@
 use Prim.Native.Nat.{_-_}
-use mathlib.Core.List.{[]}
 use Rattle.chain.proofs.Law.{Passed, stop, pass, done, holds, fails}
 use Rattle.meaning.specs.Refusal.{DenominatorFault}
 use borrow.Author.Needs.{needs}

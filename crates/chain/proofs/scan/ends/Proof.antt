@@ -1,6 +1,5 @@
 use Prim.Native.Nat.{_-_}
 use mathlib.Core.Logic.{⊎-elim, inl, inr}
-use mathlib.Core.List.{[]}
 use native.Mathlib.Omega.{arith}
 use Rattle.chain.proofs.Law.{Passed, stop, pass, done}
 use Rattle.meaning.specs.Refusal.{EndFault}

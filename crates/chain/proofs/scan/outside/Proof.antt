@@ -1,5 +1,4 @@
 use mathlib.Core.Logic.{⊎-elim, inl, inr}
-use mathlib.Core.List.{[]}
 use Rattle.chain.proofs.Law.{compares}
 use Rattle.meaning.specs.Chain.{M}
 use Rattle.meaning.specs.Refusal.{Outside}

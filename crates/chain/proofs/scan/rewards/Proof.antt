@@ -1,5 +1,4 @@
 use Prim.Native.Nat.{_-_}
-use mathlib.Core.List.{[]}
 use native.Mathlib.Omega.{arith}
 use Rattle.chain.proofs.Law.{Passed, stop, pass, done}
 use Rattle.meaning.specs.Refusal.{RewardFault}

@@ -1,6 +1,5 @@
 use Prim.Native.Nat.{_/_, _^_}
 use mathlib.Core.Logic.{⊎-elim, inl, inr}
-use mathlib.Core.List.{[]}
 use native.Mathlib.Omega.{arith}
 use native.Mathlib.Nat.{le-div-iff-mul-le}
 use lib.Pow.{pow-pos, pow-mono}

@@ -1,5 +1,3 @@
-use mathlib.Core.Path.{refl}
-use mathlib.Core.List.{[]}
 use native.Mathlib.Omega.{arith}
 use Rattle.meaning.specs.Refusal.{Misshaped}
 use Rattle.chain.proofs.Law.{holds, fails}

@@ -1,5 +1,4 @@
 use Prim.Native.Nat.{_<_}
-use mathlib.Core.List.{[]}
 use native.Mathlib.Omega.{arith}
 use native.Mathlib.Nat.{mul-le-mul, add-le-add, le-refl}
 use Rattle.chain.proofs.Law.{compares}

@@ -1,5 +1,4 @@
 use Prim.Native.Nat.{_-_, _<_}
-use mathlib.Core.List.{[]}
 use native.Mathlib.Omega.{arith}
 use Rattle.meaning.specs.Chain.{M, mostStates, edgeCount, from, weight}
 use Rattle.chain.proofs.Gather.{Gathered, none, more, from-in, weight-small}

@@ -1,4 +1,3 @@
-use mathlib.Core.List.{[]}
 use Rattle.chain.proofs.Terms.{stays, divides}
 use borrow.Author.Needs.{needs}
 use Rattle.chain.proofs.fraction.Fraction.reduce.Statement.{statement}
