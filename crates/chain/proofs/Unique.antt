@@ -6,7 +6,7 @@ use Rattle.meaning.specs.Refusal.{Lent, Entry}
 use Rattle.meaning.specs.Outcome.{Answer, Bounds as Between}
 use Rattle.theory.specs.Determined.{refused-one}
 use Rattle.chain.specs.Says.{says}
-use Rattle.chain.specs.Answer.{toldChance, toldReward, toldBounds, PlainChance, PlainReward, PlainBounds}
+use Rattle.chain.specs.Answer.{toldChance, toldReward, toldBounds, ProperChance, ProperReward, ProperBounds}
 use Rattle.chain.specs.declared.fraction.Fraction.{Fraction}
 use Rattle.chain.specs.declared.look.Finding.{Finding}
 use Rattle.chain.specs.declared.look.Finding.the-variants.{Clear, Refused as Refusing}
@@ -40,13 +40,13 @@ module _ {a b : Answer} (e : a ≡ b) where
   denominator : a .denominator ≡ b .denominator
   denominator = ap (λ (a : Answer). a .denominator) e
 
-pub chance-told : (a b : Chance) → PlainChance a → PlainChance b → toldChance a ≡ toldChance b → a ≡ b
+pub chance-told : (a b : Chance) → ProperChance a → ProperChance b → toldChance a ≡ toldChance b → a ≡ b
 chance-told (chance.Is f) (chance.Is g) p q e = ap (λ (f : Fraction). chance.Is f) (joined (numerator e) (denominator e))
 chance-told (chance.Is f) (chance.Refused k i) p q e = absurd (omega (arith, number e))
 chance-told (chance.Refused k i) (chance.Is f) p q e = absurd (omega (arith, number e))
 chance-told (chance.Refused k i) (chance.Refused j o) p q e = ap₂ (λ (k i : ℕ). chance.Refused k i) (number e) (place e)
 
-pub reward-told : (a b : Reward) → PlainReward a → PlainReward b → toldReward a ≡ toldReward b → a ≡ b
+pub reward-told : (a b : Reward) → ProperReward a → ProperReward b → toldReward a ≡ toldReward b → a ≡ b
 reward-told (reward.Is f) (reward.Is g) p q e = ap (λ (f : Fraction). reward.Is f) (joined (numerator e) (denominator e))
 reward-told (reward.Is f) reward.Infinite p q e = absurd (omega (arith, denominator e))
 reward-told (reward.Is f) (reward.Refused k i) p q e = absurd (omega (arith, number e))
@@ -57,7 +57,7 @@ reward-told (reward.Refused k i) (reward.Is f) p q e = absurd (omega (arith, num
 reward-told (reward.Refused k i) reward.Infinite p q e = absurd (omega (arith, number e))
 reward-told (reward.Refused k i) (reward.Refused j o) p q e = ap₂ (λ (k i : ℕ). reward.Refused k i) (number e) (place e)
 
-pub bounds-told : (a b : Bounds) → PlainBounds a → PlainBounds b → toldBounds a ≡ toldBounds b → a ≡ b
+pub bounds-told : (a b : Bounds) → ProperBounds a → ProperBounds b → toldBounds a ≡ toldBounds b → a ≡ b
 bounds-told (bounds.Between f g) (bounds.Between h i) p q e =
     ap₂ (λ (f g : Fraction). bounds.Between f g)
     (joined (ap (λ (a : Between). a .lowerNumerator) e) (ap (λ (a : Between). a .lowerDenominator) e))

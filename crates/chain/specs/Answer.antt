@@ -22,15 +22,15 @@ toldBounds (bounds.Between lower upper) = between (lower .numerator) (lower .den
 toldBounds (bounds.Refused number place) = noBounds number place
 
 -- A case that means what its numbers say: a fraction's denominator and a refusal's number are above 0. Such an answer is fixed by its numbers.
-abbrev pub PlainChance : Chance → Type 0
-PlainChance (chance.Is f) = 0 < f .denominator
-PlainChance (chance.Refused number place) = 0 < number
+abbrev pub ProperChance : Chance → Type 0
+ProperChance (chance.Is f) = 0 < f .denominator
+ProperChance (chance.Refused number place) = 0 < number
 
-abbrev pub PlainReward : Reward → Type 0
-PlainReward (reward.Is f) = 0 < f .denominator
-PlainReward reward.Infinite = Unit {0}
-PlainReward (reward.Refused number place) = 0 < number
+abbrev pub ProperReward : Reward → Type 0
+ProperReward (reward.Is f) = 0 < f .denominator
+ProperReward reward.Infinite = Unit {0}
+ProperReward (reward.Refused number place) = 0 < number
 
-abbrev pub PlainBounds : Bounds → Type 0
-PlainBounds (bounds.Between lower upper) = 0 < lower .denominator
-PlainBounds (bounds.Refused number place) = 0 < number
+abbrev pub ProperBounds : Bounds → Type 0
+ProperBounds (bounds.Between lower upper) = (0 < lower .denominator) × (0 < upper .denominator)
+ProperBounds (bounds.Refused number place) = 0 < number
