@@ -32,6 +32,9 @@ impl Chain {
     // The columns of a row beside its states: Goal, Trap, Unknown and Reward.
     pub const BESIDE: usize = 4;
 
+    // The columns of a row of the largest chain.
+    pub const WIDTH: usize = Chain::STATES + Chain::BESIDE;
+
     pub fn new(states: usize, start: usize, goals: u64) -> Self
         ensures { λ r. ⌜ (r .states ≡ states) × (r .start ≡ start) × (r .goals ≡ goals) ⌝ }
     {

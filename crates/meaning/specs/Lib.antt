@@ -6,3 +6,4 @@ pub mod Step
 pub mod Refusal
 pub mod Stop
 pub mod Outcome
+pub mod Survey

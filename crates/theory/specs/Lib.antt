@@ -38,6 +38,8 @@ pub mod Outcomes
 pub mod Cases
 pub mod Listed
 pub mod Determined
+pub mod Bits
+pub mod Counted
 pub mod Entries
 pub mod DemandTwo
 pub mod DemandThree

@@ -1,0 +1,232 @@
+-- The numbers of a table by row and column: a table of zeros, one number changed, and weights gathered edge by edge.
+use mathlib.Core.Path.{_≡_, refl, sym, ap, _∙_}
+use mathlib.Core.Logic.{dite, ⊎-elim}
+use mathlib.Core.Bool.{Bool, true, false}
+use mathlib.Core.List.{List, _++_}
+use Prim.Native.Nat.{ℕ, _+_, _-_, _*_, _≤_, _<_}
+use native.Mathlib.Nat.{mul-le-mul-right, mul-one, mul-zero}
+use native.Mathlib.Numerals.{add-one}
+use native.Mathlib.Decide.{decLt}
+use native.Mathlib.Omega.{arith}
+use lib.Dec.{eqb}
+use lib.ListN.{length, getD, take, drop, set, replicate, length-set, length-append, length-drop, length-replicate, getD-replicate, List·getD-append}
+use lib.Seq.{drop-at, getD-take, getD-drop, getD-set-same, getD-set-other, take-set-le, take-set-lt, drop-set-lt, drop-set-add}
+use borrow.Author.Tests.{eq-eqb, ne-eqb}
+use Rattle.meaning.specs.Number.{sumTo, only, bit}
+use Rattle.meaning.specs.Chain.{M, edgeCount, from, to, weight, carried, flow, rowSum}
+use Rattle.meaning.specs.Row.{Row, cell, reward, rounding}
+use Rattle.meaning.specs.Step.{Sets, noRow}
+use Rattle.theory.specs.Sum.{same, sum-ext, sum-le, sum-next, sum-up}
+use Rattle.theory.specs.Tab.{tab-of}
+use Rattle.engines.specs.Row.{Sized}
+use Rattle.engines.specs.Table.{rowAt, Kept, Put}
+use Rattle.engines.specs.First.{columnOf, share, Added, Held, Addable, Gathered}
+use Rattle.engines.proofs.Tables.{kept-same, kept-more, row-end, length-row}
+
+-- The number in column j of row i.
+module _ (n : ℕ) (w : List ℕ) (i : ℕ) (b : i < n) (j : ℕ) (h : j < n + 4) where
+  pub at-cell : getD w (i * (n + 4) + j) 0 ≡ cell (rowAt n w i) j
+  unfolding rowAt
+  at-cell = sym (getD-take (n + 4) (drop (i * (n + 4)) w) j 0 h ∙ getD-drop (i * (n + 4)) w j 0)
+
+  put-other : (x k : ℕ) → k < n → (k ≡ i → ⊥) → rowAt n (set w (i * (n + 4) + j) x) k ≡ rowAt n w k
+  unfolding rowAt
+  put-other x k l d =
+      dite (decLt k i)
+      (λ z.
+      let s : ℕ = i * (n + 4) + j - k * (n + 4) in
+      let g : n + 4 ≤ s = omega (arith, row-end k i z, mul-le-mul-right (n + 4) z) in
+      let q : i * (n + 4) + j ≡ k * (n + 4) + s = omega (arith, mul-le-mul-right (n + 4) z) in
+      ap (λ (p : ℕ). take (n + 4) (drop (k * (n + 4)) (set w p x))) q
+      ∙ ap (take (n + 4)) (drop-set-add (k * (n + 4)) w s x)
+      ∙ take-set-le (n + 4) (drop (k * (n + 4)) w) s x g)
+      (λ z.
+      let z' : i < k = omega arith in
+      ap (take (n + 4)) (drop-set-lt (k * (n + 4)) w (i * (n + 4) + j) x (omega (arith, mul-le-mul-right (n + 4) z'))))
+
+  pub put-cell : (x : ℕ) → Put n w i (set (rowAt n w i) j x) (set w (i * (n + 4) + j) x)
+  unfolding rowAt
+  put-cell x =
+      record {
+        kept = record {
+          len = length-set w (i * (n + 4) + j) x;
+          past = drop-set-lt (n * (n + 4)) w (i * (n + 4) + j) x (omega (arith, row-end i n b));
+        };
+        here = ap (take (n + 4)) (drop-set-add (i * (n + 4)) w j x) ∙ take-set-lt (n + 4) (drop (i * (n + 4)) w) j x h;
+        other = put-other x;
+      }
+
+-- A row of zeros is that of a state that is not kept.
+pub zero-row : (n : ℕ) (w : List ℕ) → n * (n + 4) ≤ length w → (i : ℕ) → i < n → ((j : ℕ) → j < n + 4 → cell (rowAt n w i) j ≡ 0) → rowAt n w i ≡ noRow n
+unfolding noRow
+zero-row n w room i b h = tab-of 0 (n + 4) (λ _. 0) (rowAt n w i) (length-row n w room i b) h
+
+-- The work table w once its table is zero.
+module _ (n : ℕ) (w v : List ℕ) (room : n * (n + 4) ≤ length w) (e : v ≡ replicate (n * (n + 4)) 0 ++ drop (n * (n + 4)) w) where
+  pub zeros-kept : Kept n w v
+  zeros-kept =
+      let size = n * (n + 4) in
+      let z : length {A = ℕ} (replicate size 0) ≡ size = length-replicate size 0 in
+      record {
+        len = ap length e ∙ length-append (replicate size 0) (drop size w) ∙ rw (z, length-drop) (omega arith);
+        past = ap (drop size) e ∙ drop-at (replicate size 0) (drop size w) size z;
+      }
+
+  pub zeros-at : (i j : ℕ) → i < n → j < n + 4 → cell (rowAt n v i) j ≡ 0
+  zeros-at i j b h =
+      let size = n * (n + 4) in
+      let l : i * (n + 4) + j < n * (n + 4) = omega (arith, row-end i n b) in
+      let z : length {A = ℕ} (replicate size 0) ≡ size = length-replicate size 0 in
+      sym (at-cell n v i b j h)
+      ∙ ap (λ (x : List ℕ). getD x (i * (n + 4) + j) 0) e
+      ∙ List·getD-append (replicate size 0) (drop size w) 0 (i * (n + 4) + j) (rw z l)
+      ∙ getD-replicate size (i * (n + 4) + j) 0 0 l
+
+  pub zeros-row : (i : ℕ) → i < n → rowAt n v i ≡ noRow n
+  zeros-row i b = zero-row n v (omega (arith, zeros-kept .len)) i b (λ j h. zeros-at i j b h)
+
+only-none : (b : Bool) → only b 0 ≡ 0
+only-none true = refl
+only-none false = refl
+
+only-some : (b : Bool) (x : ℕ) → only b x ≤ x
+only-some true x = omega arith
+only-some false x = omega arith
+
+-- What edge e brings.
+module _ (n : ℕ) (k : Sets) (edges : List ℕ) (e : ℕ) where
+  share-other : (i j : ℕ) → (from edges e ≡ i → ⊥) → share n k edges i j e ≡ 0
+  unfolding share carried
+  share-other i j d = rw (ne-eqb (from edges e) i d) (only-none (eqb (bit (k .live) i) 1))
+
+  pub share-dead : (i j : ℕ) → (bit (k .live) i ≡ 1 → ⊥) → share n k edges i j e ≡ 0
+  unfolding share
+  share-dead i j d = rw (ne-eqb (bit (k .live) i) 1 d)
+
+  pub share-live : (i j : ℕ) → bit (k .live) i ≡ 1 → share n k edges i j e ≡ carried edges i (λ t. only (eqb (columnOf n k t) j) 1) e
+  unfolding share
+  share-live i j l = rw (eq-eqb (bit (k .live) i) 1 l)
+
+  share-here : (i j : ℕ) → bit (k .live) i ≡ 1 → from edges e ≡ i → columnOf n k (to edges e) ≡ j → share n k edges i j e ≡ weight edges e
+  unfolding share carried
+  share-here i j l f t = rw (eq-eqb (bit (k .live) i) 1 l, eq-eqb (from edges e) i f, eq-eqb (columnOf n k (to edges e)) j t) (mul-one (weight edges e))
+
+  share-aside : (i j : ℕ) → (columnOf n k (to edges e) ≡ j → ⊥) → share n k edges i j e ≡ 0
+  unfolding share carried
+  share-aside i j d =
+      rw (ne-eqb (columnOf n k (to edges e)) j d, mul-zero (weight edges e), only-none (eqb (from edges e) i)) (only-none (eqb (bit (k .live) i) 1))
+
+  share-le : (i j : ℕ) → share n k edges i j e ≤ carried edges i (λ _. 1) e
+  unfolding share carried
+  share-le i j =
+      ⊎-elim
+      (λ (t : columnOf n k (to edges e) ≡ j).
+      rw (eq-eqb (columnOf n k (to edges e)) j t) (only-some (eqb (bit (k .live) i) 1) (only (eqb (from edges e) i) (weight edges e * 1))))
+      (λ (d : columnOf n k (to edges e) ≡ j → ⊥).
+      rw (ne-eqb (columnOf n k (to edges e)) j d, mul-zero (weight edges e), only-none (eqb (from edges e) i), only-none (eqb (bit (k .live) i) 1)) (omega arith))
+      (same (columnOf n k (to edges e)) j)
+
+  pub added-none : (w : List ℕ) → (bit (k .live) (from edges e) ≡ 1 → ⊥) → Added n (λ i j. share n k edges i j e) w w
+  added-none w d =
+      record {
+        kept = kept-same n w;
+        cells = λ i j b h.
+            ⊎-elim
+            (λ (q : from edges e ≡ i). omega (arith, share-dead i j (λ l. d (rw (← q) at l))))
+            (λ (q : from edges e ≡ i → ⊥). omega (arith, share-other i j q))
+            (same (from edges e) i);
+      }
+
+  module _ (w v : List ℕ) (room : n * (n + 4) ≤ length w) (i j x : ℕ) (b : i < n) (h : j < n + 4) (l : bit (k .live) i ≡ 1) (fi : i ≡ from edges e)
+      (cj : j ≡ columnOf n k (to edges e)) (wx : x ≡ weight edges e) (p : Put n w i (set (rowAt n w i) j (cell (rowAt n w i) j + x)) v) where
+    row-added : (s : ℕ) → s < n + 4 → cell (rowAt n v i) s ≡ cell (rowAt n w i) s + share n k edges i s e
+    row-added s d =
+        ap (λ (z : Row). cell z s) (p .here)
+        ∙ ⊎-elim
+        (λ (q : s ≡ j).
+        rw q
+        (getD-set-same (rowAt n w i) j (cell (rowAt n w i) j + x) 0 (omega (arith, length-row n w room i b))
+        ∙ omega (arith, share-here i j l (sym fi) (sym cj))))
+        (λ (q : s ≡ j → ⊥).
+        getD-set-other (rowAt n w i) j s (cell (rowAt n w i) j + x) 0 q
+        ∙ omega (arith, share-aside i s (λ z. q (sym (cj ∙ z)))))
+        (same s j)
+
+    pub added-some : Added n (λ i j. share n k edges i j e) w v
+    added-some =
+        record {
+          kept = p .kept;
+          cells = λ r s c d.
+              ⊎-elim
+              (λ (q : r ≡ i). rw q (row-added s d))
+              (λ (q : r ≡ i → ⊥).
+              ap (λ (z : Row). cell z s) (p .other r c q)
+              ∙ omega (arith, share-other r s (λ z. q (sym (fi ∙ z)))))
+              (same r i);
+        }
+
+-- The first e edges are gathered.
+pub record Gathering (n : ℕ) (k : Sets) (edges w : List ℕ) (e : ℕ) (v : List ℕ) : Type 0 where
+  pub upto : e ≤ edgeCount edges
+  pub held : Held n (λ i j. sumTo (share n k edges i j) e) w v
+
+module _ {n : ℕ} {k : Sets} {edges : List ℕ} {w : List ℕ} where
+  pub gathering-none : ((i j : ℕ) → i < n → j < n + 4 → cell (rowAt n w i) j ≡ 0) → Gathering n k edges w 0 w
+  unfolding sumTo
+  gathering-none h = record { upto = omega arith; held = record { kept = kept-same n w; cells = h } }
+
+  module _ {e : ℕ} {v : List ℕ} (g : Gathering n k edges w e v) where
+    pub gathering-more : {u : List ℕ} → e < edgeCount edges → Added n (λ i j. share n k edges i j e) v u → Gathering n k edges w (e + 1) u
+    gathering-more l a =
+        record {
+          upto = omega arith;
+          held = record {
+            kept = kept-more (g .held .kept) (a .kept);
+            cells = λ i j b h.
+                a .cells i j b h
+                ∙ ap (λ (x : ℕ). x + share n k edges i j e) (g .held .cells i j b h)
+                ∙ sym (sum-next (share n k edges i j) e (e + 1) (add-one e));
+          };
+        }
+
+    pub gathering-all : edgeCount edges ≤ e → Held n (λ i j. sumTo (share n k edges i j) (edgeCount edges)) w v
+    gathering-all l =
+        let q : e ≡ edgeCount edges = omega (arith, g .upto) in
+        record { kept = g .held .kept; cells = λ i j b h. g .held .cells i j b h ∙ ap (sumTo (share n k edges i j)) q }
+
+    -- What is gathered so far and the next weight are part of a row sum.
+    pub gathering-addable : n ≤ 64 → n * (n + 4) ≤ length w → e < edgeCount edges → from edges e < n → to edges e < n → rowSum edges (from edges e) ≤ M
+        → Addable n edges e v
+    unfolding flow carried
+    gathering-addable few room l s t m =
+        let i = from edges e in
+        record {
+          few = few;
+          room = omega (arith, g .held .kept .len);
+          source = s;
+          target = t;
+          small = λ j h.
+              let q : carried edges i (λ _. 1) e ≡ weight edges e = rw (eq-eqb i i refl) (mul-one (weight edges e)) in
+              omega (
+                arith,
+                m,
+                q,
+                g .held .cells i j s h,
+                sum-le (share n k edges i j) (carried edges i (λ _. 1)) e (λ d _. share-le n k edges d i j),
+                sum-up (carried edges i (λ _. 1)) e (edgeCount edges) l,
+              );
+        }
+
+-- A row with what it earns.
+module _ {b : Bool} {n : ℕ} {alive : Bool} {x : ℕ} {r : Row} (g : Gathered b n alive x r) (l : length r ≡ n + 4) where
+  pub earned-sized : alive ≡ true → Sized n (set r (n + 3) x)
+  earned-sized e =
+      record {
+        columns = length-set r (n + 3) x ∙ l;
+        bound =
+            rw (sum-ext (cell (set r (n + 3) x)) (cell r) (n + 3) (λ j h. getD-set-other r (n + 3) j x 0 (λ q. omega arith)))
+            (g .bound e);
+      }
+
+  pub earned-unpaid : b ≡ rounding → reward n (set r (n + 3) x) ≡ 0
+  earned-unpaid e = getD-set-same r (n + 3) x 0 (omega arith) ∙ g .unpaid e

@@ -1,0 +1,251 @@
+-- The first table: what is gathered along the edges, finished, is what the chain gives.
+use mathlib.Core.Path.{_≡_, refl, sym, ap, _∙_}
+use mathlib.Core.Logic.{⊎-elim}
+use mathlib.Core.Bool.{Bool, true, false}
+use mathlib.Core.List.{List}
+use Prim.Native.Nat.{ℕ, _+_, _-_, _*_, _≤_, _<_}
+use native.Mathlib.Omega.{arith}
+use lib.Dec.{eqb}
+use lib.ListN.{length, getD, set, length-set}
+use lib.Seq.{ext-getD, getD-set-same, getD-set-other}
+use borrow.Author.Tests.{eq-eqb, ne-eqb, eqb-true, eqb-false}
+use Rattle.meaning.specs.Number.{sumTo, only, choose, bit}
+use Rattle.meaning.specs.Chain.{mostReward, mostStates, Chain, denominator, edgeCount, from, to, carried, flow, along}
+use Rattle.meaning.specs.Figure.{earned}
+use Rattle.meaning.specs.Row.{cell, total, rounding}
+use Rattle.meaning.specs.Step.{Table, row, Sets, Right, given, firstRow, noRow, first, after}
+use Rattle.meaning.specs.Refusal.{Lent, Entry, WellFormed}
+use Rattle.meaning.specs.Stop.{rewardOf, Stops}
+use Rattle.theory.specs.Sum.{same, below, sum-ext, sum-zero}
+use Rattle.theory.specs.Tab.{tab-ext}
+use Rattle.theory.specs.Flow.{flow-ext}
+use Rattle.theory.specs.Given.{Fate, live, won, lost, Alive, goes-to, given-state, given-goal, given-trap, given-unknown, given-reward, given-length, given-total}
+use Rattle.theory.specs.First.{first-row}
+use Rattle.theory.specs.Formed.{few-states, room, formed-fine, from-in, denominators-length, denominator-small, reward-small, unpaid}
+use Rattle.engines.specs.Table.{rowAt, Renewed, Ready}
+use Rattle.engines.specs.Turn.{Unfit, Reached}
+use Rattle.engines.specs.First.{columnOf, share, Held, Gatherable, finished, finishedAt, Finishable, Asked, Made}
+use Rattle.engines.proofs.Rows.{noRow-fit}
+use Rattle.engines.proofs.Tables.{kept-more, length-row}
+use Rattle.engines.proofs.Removal.{row-is}
+use Rattle.engines.proofs.Cells.{zero-row, share-dead, share-live}
+
+flow-none : (edges : List ℕ) (i : ℕ) → flow edges i (λ _. 0) ≡ 0
+unfolding flow carried
+flow-none edges i = sum-zero _ (edgeCount edges) (λ e h. go (eqb (from edges e) i) _)
+  where
+    go : (b : Bool) (x : ℕ) → only b (x * 0) ≡ 0
+    go true x = omega arith
+    go false x = refl
+
+module _ (c : Chain) (k : Sets) where
+  abbrev n : ℕ
+  n = c .states
+
+  -- The column of a target, by what becomes of it.
+  module _ (t : ℕ) where
+    column-live : bit (k .live) t ≡ 1 → columnOf n k t ≡ t
+    unfolding columnOf
+    column-live l = rw (eq-eqb (bit (k .live) t) 1 l)
+
+    column-won : bit (k .live) t ≡ 0 → bit (k .good) t ≡ 1 → columnOf n k t ≡ n
+    unfolding columnOf
+    column-won l g = rw (ne-eqb (bit (k .live) t) 1 (omega arith), eq-eqb (bit (k .good) t) 1 g)
+
+    column-lost : bit (k .live) t ≡ 0 → bit (k .good) t ≡ 0 → columnOf n k t ≡ n + 1
+    unfolding columnOf
+    column-lost l g = rw (ne-eqb (bit (k .live) t) 1 (omega arith), ne-eqb (bit (k .good) t) 1 (omega arith))
+
+    module _ (j : ℕ) (inside : t < n) where
+      in-live : j < n → bit (k .live) j ≡ 1 → Fate c k t → only (eqb (columnOf n k t) j) 1 ≡ only (eqb t j) 1
+      in-live h m (live a b d) = rw (column-live a)
+      in-live h m (won a b d) =
+          rw (column-won a d, ne-eqb n j (omega arith), ne-eqb t j (λ q. omega (arith, ap (bit (k .live)) q)))
+      in-live h m (lost a b d) =
+          rw (column-lost a d, ne-eqb (n + 1) j (omega arith), ne-eqb t j (λ q. omega (arith, ap (bit (k .live)) q)))
+
+      in-dead : j < n → (bit (k .live) j ≡ 1 → ⊥) → Fate c k t → only (eqb (columnOf n k t) j) 1 ≡ 0
+      in-dead h m (live a b d) = rw (column-live a, ne-eqb t j (λ q. m (sym (ap (bit (k .live)) q) ∙ a)))
+      in-dead h m (won a b d) = rw (column-won a d, ne-eqb n j (omega arith))
+      in-dead h m (lost a b d) = rw (column-lost a d, ne-eqb (n + 1) j (omega arith))
+
+    in-goal : t < n → Fate c k t → only (eqb (columnOf n k t) n) 1 ≡ bit (c .goals) t
+    in-goal h (live a b d) = rw (column-live a, ne-eqb t n (omega arith), b)
+    in-goal h (won a b d) = rw (column-won a d, eq-eqb n n refl, b)
+    in-goal h (lost a b d) = rw (column-lost a d, ne-eqb (n + 1) n (omega arith), b)
+
+    in-trap : t < n → Fate c k t → only (eqb (columnOf n k t) (n + 1)) 1 ≡ 1 - bit (k .good) t
+    in-trap h (live a b d) = rw (column-live a, ne-eqb t (n + 1) (omega arith), d)
+    in-trap h (won a b d) = rw (column-won a d, ne-eqb n (n + 1) (omega arith), d)
+    in-trap h (lost a b d) = rw (column-lost a d, eq-eqb (n + 1) (n + 1) refl, d)
+
+    in-unknown : t < n → Fate c k t → only (eqb (columnOf n k t) (n + 2)) 1 ≡ 0
+    in-unknown h (live a b d) = rw (column-live a, ne-eqb t (n + 2) (omega arith))
+    in-unknown h (won a b d) = rw (column-won a d, ne-eqb n (n + 2) (omega arith))
+    in-unknown h (lost a b d) = rw (column-lost a d, ne-eqb (n + 1) (n + 2) (omega arith))
+
+  module _ (b : Bool) (rewards work : List ℕ) (a : Asked b c k rewards work) where
+    abbrev r : ℕ → ℕ
+    r i = getD rewards i 0
+
+    pub asked-gatherable : Gatherable n (c .edges) work
+    asked-gatherable =
+        record {
+          few = a .few;
+          room = a .room;
+          sources = a .sources;
+          targets = a .fine .targets;
+          sums = λ i h. omega (arith, a .fine .sums i h, a .small i h);
+        }
+
+    -- The sum of the weights to each column is what the chain gives.
+    module _ (i : ℕ) (q : Alive c k i) where
+      by-target : (f g : ℕ → ℕ) → ((t : ℕ) → t < n → Fate c k t → f t ≡ g t) → along c i f ≡ along c i g
+      by-target f g h =
+          flow-ext (c .edges) i f g (λ e l p. h (to (c .edges) e) (a .fine .targets e l) (goes-to c k r (a .fine) (a .right) i e q l p))
+
+      flow-state : (j : ℕ) → j < n → along c i (λ t. only (eqb (columnOf n k t) j) 1) ≡ cell (given c k r 0 i) j
+      flow-state j h =
+          ⊎-elim
+          (λ (m : bit (k .live) j ≡ 1).
+          by-target _ (λ t. only (eqb t j) 1) (λ t l f. in-live t j l h m f)
+          ∙ sym (given-state c k r 0 i j h ∙ rw (eq-eqb (bit (k .live) j) 1 m)))
+          (λ (m : bit (k .live) j ≡ 1 → ⊥).
+          by-target _ (λ _. 0) (λ t l f. in-dead t j l h m f)
+          ∙ flow-none (c .edges) i
+          ∙ sym (given-state c k r 0 i j h ∙ rw (ne-eqb (bit (k .live) j) 1 m)))
+          (same (bit (k .live) j) 1)
+
+      pub flow-column : (j : ℕ) → j < n + 3 → along c i (λ t. only (eqb (columnOf n k t) j) 1) ≡ cell (given c k r 0 i) j
+      flow-column j h =
+          ⊎-elim (λ (s : j < n). flow-state j s)
+          (λ (s : n ≤ j).
+          ⊎-elim
+          (λ (e : j ≡ n). rw e (by-target _ (bit (c .goals)) (λ t l f. in-goal t l f) ∙ sym (given-goal c k r 0 i)))
+          (λ (d : j ≡ n → ⊥).
+          ⊎-elim
+          (λ (e : j ≡ n + 1). rw e (by-target _ (λ t. 1 - bit (k .good) t) (λ t l f. in-trap t l f) ∙ sym (given-trap c k r 0 i)))
+          (λ (d' : j ≡ n + 1 → ⊥).
+          let e : j ≡ n + 2 = omega arith in
+          rw e (by-target _ (λ _. 0) (λ t l f. in-unknown t l f) ∙ flow-none (c .edges) i ∙ sym (given-unknown c k r 0 i)))
+          (same j (n + 1)))
+          (same j n))
+          (below j n)
+
+    -- The table once all edges are gathered.
+    module _ (v : List ℕ) (z : Held n (λ i j. sumTo (share n k (c .edges) i j) (edgeCount (c .edges))) work v) where
+      space : n * (n + 4) ≤ length v
+      space = omega (arith, z .kept .len, a .room)
+
+      module _ (i : ℕ) (q : Alive c k i) where
+        live-cell : (j : ℕ) → j < n + 3 → cell (rowAt n v i) j ≡ cell (given c k r 0 i) j
+        unfolding flow
+        live-cell j h =
+            z .cells i j (q .0) (omega arith)
+            ∙ sum-ext (share n k (c .edges) i j) (carried (c .edges) i (λ t. only (eqb (columnOf n k t) j) 1)) (edgeCount (c .edges))
+            (λ e _. share-live n k (c .edges) e i j (q .1))
+            ∙ flow-column i q j h
+
+        live-total : total n (rowAt n v i) ≡ denominator c i
+        live-total =
+            sum-ext (cell (rowAt n v i)) (cell (given c k r 0 i)) (n + 3) live-cell
+            ∙ given-total c k r (a .fine) (a .right) i q
+
+        live-row : set (rowAt n v i) (n + 3) (earned c r i) ≡ given c k r 0 i
+        live-row =
+            let g = set (rowAt n v i) (n + 3) (earned c r i) in
+            let l : length (rowAt n v i) ≡ n + 4 = length-row n v space i (q .0) in
+            let w : length (set (rowAt n v i) (n + 3) (earned c r i)) ≡ n + 4 = length-set (rowAt n v i) (n + 3) (earned c r i) ∙ l in
+            ext-getD 0 g (given c k r 0 i) (w ∙ sym (given-length c k r 0 i))
+            (λ j h.
+            ⊎-elim
+            (λ (e : j ≡ n + 3).
+            rw e (getD-set-same (rowAt n v i) (n + 3) (earned c r i) 0 (omega arith) ∙ sym (given-reward c k r 0 i)))
+            (λ (d : j ≡ n + 3 → ⊥).
+            getD-set-other (rowAt n v i) (n + 3) j (earned c r i) 0 d ∙ live-cell j (omega arith))
+            (same j (n + 3)))
+
+      dead-row : (i : ℕ) → i < n → (bit (k .live) i ≡ 1 → ⊥) → rowAt n v i ≡ noRow n
+      dead-row i h d =
+          zero-row n v space i h
+          (λ j l. z .cells i j h l ∙ sum-zero (share n k (c .edges) i j) (edgeCount (c .edges)) (λ e _. share-dead n k (c .edges) e i j d))
+
+      pub asked-finishable : Finishable b n (k .live) (c .denominators) rewards v
+      asked-finishable =
+          record {
+            few = a .few;
+            room = space;
+            size = a .size;
+            small = a .small;
+            paid = a .paid;
+            gathered = λ i h.
+                record {
+                  bound = λ e. omega (arith, live-total i (h, eqb-true (bit (k .live) i) 1 e), a .small i h);
+                  fit = λ e. rw (dead-row i h (eqb-false (bit (k .live) i) 1 e)) (noRow-fit b n);
+                  unpaid = λ e. rw (a .unpaid e i) (omega arith);
+                };
+          }
+
+      first-at : (i : ℕ) → i < n
+          → finishedAt b n (k .live) (c .denominators) rewards v i ≡ choose (eqb (bit (k .live) i) 1) (firstRow b c k r 0 i) (noRow n)
+      unfolding finished
+      first-at i h =
+          ⊎-elim
+          (λ (l : bit (k .live) i ≡ 1). rw (eq-eqb (bit (k .live) i) 1 l, live-row i (h, l)))
+          (λ (d : bit (k .live) i ≡ 1 → ⊥). rw (ne-eqb (bit (k .live) i) 1 d) (dead-row i h d))
+          (same (bit (k .live) i) 1)
+
+      first-is : (i : ℕ) → i < n → finishedAt b n (k .live) (c .denominators) rewards v i ≡ row (first b c k r (λ _. 0)) i
+      first-is i h = first-at i h ∙ sym (first-row b c k r i h)
+
+      pub first-made : {u : List ℕ} {answer : Bool} → Renewed b (finishedAt b n (k .live) (c .denominators) rewards v) n v u answer
+          → Made b n (first b c k r (λ _. 0)) work u answer
+      unfolding first
+      first-made {u} y =
+          let t = kept-more (z .kept) (y .kept) in
+          record {
+            kept = t;
+            reached = λ e.
+                record {
+                  kept = t;
+                  same = tab-ext n (rowAt n u) _ (λ i h. y .all e i h ∙ first-at i h);
+                  fit = λ i h. rw (first-is i h) at (y .fit e i h);
+                };
+            unfit = λ e.
+                let l = y .large e in
+                (l .0, (l .1 .0, (l .1 .1 .0, rw (first-is (l .1 .0) (l .1 .1 .0)) at (l .1 .1 .1))));
+          }
+
+-- What a well-formed input has. The bounds engine is lent no rewards.
+pub first-given : (b : Bool) (x : Entry) (l : Lent) (k : Sets) → WellFormed x l → x .work ≡ true → (b ≡ rounding → x .rewards ≡ false) → Right (l .chain) k
+    → Asked b (l .chain) k (l .rewards) (l .work)
+first-given b x l k formed lent free right =
+    record {
+      few = few-states x l formed;
+      room = room x l formed lent;
+      fine = formed-fine x l formed;
+      sources = from-in x l formed;
+      size = denominators-length x l formed;
+      small = denominator-small x l formed;
+      right = right;
+      paid = λ i h. go (x .rewards) refl i h;
+      unpaid = λ e i. unpaid x l formed (free e) i;
+    }
+  where
+    go : (p : Bool) → x .rewards ≡ p → (i : ℕ) → i < l .chain .states → getD (l .rewards) i 0 ≤ mostReward
+    go true e i h = reward-small x l formed e i h
+    go false e i h = omega (arith, unpaid x l formed e i)
+
+-- A first row that does not fit stops the elimination before the first step.
+pub first-stops : (b : Bool) (l : Lent) (k : Sets) → Unfit b (l .chain .states) (first b (l .chain) k (rewardOf l) (λ _. 0)) → Stops b l k 12 mostStates
+unfolding after
+first-stops b l k u = Stops.before-steps u
+
+-- A table that is reached is ready for the walk.
+pub reached-ready : {b : Bool} {n : ℕ} {t : Table} {w v : List ℕ} → n ≤ mostStates → n * (n + 4) ≤ length w → Reached b n t w v → Ready b n v
+reached-ready {n = n} {v = v} few room z =
+    record {
+      few = few;
+      room = omega (arith, z .kept .len);
+      fit = λ i h. rw (← z .same, row-is n v i h) at (z .fit i h);
+    }

@@ -1,0 +1,16 @@
+pub mod Loop
+pub mod Lowest
+pub mod Rows
+pub mod Shifts
+pub mod Tables
+pub mod Removal
+pub mod Turns
+pub mod Growth
+pub mod Members
+pub mod Cells
+pub mod FirstRows
+pub mod Course
+pub mod Figures
+pub mod Looked
+pub mod Surveyed
+pub mod Outcomes

@@ -1,0 +1,71 @@
+-- The divisor of a row, and the row divided.
+use mathlib.Core.Path.{_≡_, sym, ap, _∙_}
+use mathlib.Core.Logic.{dite, ⊎-elim}
+use mathlib.Core.List.{List, [], _∷_}
+use Prim.Native.Nat.{ℕ, zero, suc, _-_, _*_, _/_, _≤_, _<_}
+use native.Mathlib.Nat.{div-le-self, zero-div, div-one, mul-div-le, mod-one}
+use native.Mathlib.Numerals.{sub-one}
+use native.Mathlib.Decide.{decLt}
+use native.Mathlib.Omega.{arith}
+use lib.ListN.{length, getD, drop, List·getD-eq-default}
+use lib.Seq.{drop-cons, ext-getD}
+use borrow.Author.Tests.{eq-eqb, ne-eqb}
+use Rattle.meaning.specs.Number.{sumTo, gcd}
+use Rattle.meaning.specs.Row.{Row, cell, gcdOf, divisor, over, lowest}
+use Rattle.theory.specs.Gcd.{gcd-zero, gcd-step}
+use Rattle.theory.specs.Sum.{same, sum-le, sum-scale}
+use Rattle.theory.specs.Tab.{tab-at, tab-length}
+
+pub gcdOf-more : (l : List ℕ) (j : ℕ) → 0 < j → j ≤ length l → gcdOf (drop (j - 1) l) ≡ gcd (getD l (j - 1) 0) (gcdOf (drop j l))
+unfolding gcdOf
+gcdOf-more l zero h g = absurd (omega arith)
+gcdOf-more l (suc j) h g = rw (sub-one, drop-cons l j 0)
+
+gcd-one : (x g : ℕ) → g ≡ 1 → gcd x g ≡ 1
+gcd-one x g e = rw e (gcd-step x 1 ∙ rw (mod-one x) (gcd-zero 1))
+
+pub gcdOf-one : (l : List ℕ) (j : ℕ) → gcdOf (drop j l) ≡ 1 → gcdOf l ≡ 1
+unfolding gcdOf
+gcdOf-one l zero h = h
+gcdOf-one [] (suc j) h = h
+gcdOf-one (x ∷ l) (suc j) h = gcd-one x (gcdOf l) (gcdOf-one l j h)
+
+pub over-length : (d : ℕ) (r : Row) → length (over d r) ≡ length r
+unfolding over
+over-length d r = tab-length 0 (length r) (λ j. cell r j / d)
+
+pub over-at : (d : ℕ) (r : Row) (j : ℕ) → cell (over d r) j ≡ cell r j / d
+unfolding over
+over-at d r j =
+    dite (decLt j (length r)) (λ h. tab-at (length r) (λ i. cell r i / d) 0 j h)
+    (λ h.
+    let l : length r ≤ j = omega arith in
+    List·getD-eq-default (over d r) 0 (rw (over-length d r) l) ∙ sym (zero-div d) ∙ ap (λ (x : ℕ). x / d) (sym (List·getD-eq-default r 0 l)))
+
+pub over-sum : (d : ℕ) (r : Row) (m : ℕ) → sumTo (cell (over d r)) m ≤ sumTo (cell r) m
+over-sum d r m = sum-le (cell (over d r)) (cell r) m (λ j h. omega (arith, over-at d r j, div-le-self (cell r j) d))
+
+pub over-parts : (d : ℕ) (r : Row) (m : ℕ) → d * sumTo (cell (over d r)) m ≤ sumTo (cell r) m
+over-parts d r m =
+    rw (← sum-scale d (cell (over d r)) m)
+    (sum-le (λ j. d * cell (over d r) j) (cell r) m (λ j h. rw (over-at d r j) (mul-div-le (cell r j) d)))
+
+over-one : (r : Row) → over 1 r ≡ r
+over-one r = ext-getD 0 (over 1 r) r (over-length 1 r) (λ j h. over-at 1 r j ∙ div-one (cell r j))
+
+divisor-one : (r : Row) → gcdOf r ≤ 1 → divisor r ≡ 1
+unfolding divisor
+divisor-one r h =
+    ⊎-elim
+    (λ (e : gcdOf r ≡ 0). rw (eq-eqb (gcdOf r) 0 e))
+    (λ (d : gcdOf r ≡ 0 → ⊥). rw (ne-eqb (gcdOf r) 0 d) (omega arith))
+    (same (gcdOf r) 0)
+
+pub lowest-same : (r : Row) (g : ℕ) → g ≡ gcdOf r → g ≤ 1 → r ≡ lowest r
+lowest-same r g e h = sym (rw (divisor-one r (omega arith)) (over-one r))
+
+pub lowest-over : (r q : Row) (g : ℕ) → g ≡ gcdOf r → 1 < g → q ≡ over g r → q ≡ lowest r
+unfolding divisor
+lowest-over r q g e h k =
+    let d : gcdOf r ≡ 0 → ⊥ = λ z. omega arith in
+    k ∙ rw (e, ne-eqb (gcdOf r) 0 d)

@@ -1,0 +1,192 @@
+-- From what the figures are read off to the outcome of each entry.
+use Prim.Native.Nat.{ℕ, _+_, _≤_, _<_}
+use mathlib.Core.Path.{_≡_, refl, sym, ap, ap₂, subst, _∙_}
+use mathlib.Core.Bool.{Bool}
+use mathlib.Core.List.{List}
+use mathlib.Core.Logic.{⊎-elim}
+use native.Mathlib.Omega.{arith}
+use native.Mathlib.Nat.{eq-zero-or-pos}
+use Rattle.meaning.specs.Number.{gcdIn, gcd, Reduced}
+use Rattle.meaning.specs.Chain.{M, Chain, FromStart}
+use Rattle.meaning.specs.Figure.{Chance, Missed, Expected}
+use Rattle.meaning.specs.Row.{cell, goalColumn, unknownColumn, exact, rounding}
+use Rattle.meaning.specs.Row.{reward as rewardIn}
+use Rattle.meaning.specs.Step.{row, Sets, outside}
+use Rattle.meaning.specs.Refusal.{Lent, Entry, plain, paid, Applies, Refused, WellFormed}
+use Rattle.meaning.specs.Stop.{rewardOf, tableAt, Stopped}
+use Rattle.meaning.specs.Outcome.{cleared, refused, stopped, answered, refusal, ChanceFigure, ChanceOutcome, RewardFigure, noBounds, between, BoundsFigure, BoundsOutcome}
+use Rattle.theory.specs.Sum.{sum-two}
+use Rattle.theory.specs.Gcd.{reduced-share}
+use Rattle.theory.specs.Formed.{start-in, unpaid}
+use Rattle.theory.specs.Fits.{bounds-fit}
+use Rattle.theory.specs.Whole.{formed-ready, exact-whole, exact-chance, exact-reward, bounds-whole, chance-won, chance-lost, reward-won}
+use Rattle.theory.specs.Outcomes.{passed-unstopped}
+use Rattle.theory.specs.DemandTwo.{stopped-twelve}
+use Rattle.chain.specs.Reduce.{reduced}
+use Rattle.chain.specs.declared.fraction.Fraction.{Fraction}
+use Rattle.chain.specs.declared.answer.Chance.the-variants as chance
+use Rattle.chain.specs.declared.answer.Reward.the-variants as reward
+use Rattle.chain.specs.declared.answer.Bounds.the-variants as bounds
+use Rattle.chain.specs.Answer.{toldChance, toldBounds}
+use Rattle.chain.proofs.Terms.{terms}
+use Rattle.engines.specs.Run.{Ended}
+use Rattle.engines.specs.Figured.{Read, won, lost, live, figured}
+use Rattle.engines.specs.Told.{Rewarded}
+use Rattle.engines.specs.declared.run.Course.{Course}
+use Rattle.engines.specs.declared.run.Course.the-variants.{Ends, Stops}
+
+-- The fraction of two numbers.
+abbrev over : ℕ → ℕ → Fraction
+over a b = record { numerator = a; denominator = b }
+
+-- Where something can be read off nothing stopped the engine.
+pub read-unstopped : (b : Bool) (l : Lent) {g u e d : ℕ} → Read b l g u e d → (number place : ℕ) → Stopped b l number place → ⊥
+read-unstopped b l (won h q) number place s = s .alive .unwon h
+read-unstopped b l (lost h q) number place s = h (s .alive .leads)
+read-unstopped b l (live k right alive z) number place s = passed-unstopped l k right b (z .passed) number place s
+
+-- A chance, and an expected reward, in lowest terms.
+lowest-chance : (c : Chain) (a b p q : ℕ) → Chance c a b → Reduced a b p q → Chance c p q
+lowest-chance c a b p q h r =
+    record { lowest = r .lowest; share = λ d x s. reduced-share a b p q d (x (c .start)) r (h .lowest .below) (h .share d x s) }
+
+lowest-reward : (c : Chain) (r : ℕ → ℕ) (a b p q : ℕ) → Expected c r a b → Reduced a b p q → Expected c r p q
+lowest-reward c r a b p q h t =
+    record { lowest = t .lowest; share = λ d x s. reduced-share a b p q d (x (c .start)) t (h .lowest .below) (h .share d x s) }
+
+-- The numbers that were read.
+module _ {b : Bool} {l : Lent} {k : Sets} {g u e d : ℕ} (z : Ended b l k g u e d) where
+  abbrev n : ℕ
+  n = l .chain .states
+
+  read-goal : g ≡ cell (row (tableAt b l k n) (l .chain .start)) (goalColumn n)
+  read-goal = let q = z .read in cc
+
+  read-unknown : u ≡ cell (row (tableAt b l k n) (l .chain .start)) (unknownColumn n)
+  read-unknown = let q = z .read in cc
+
+  read-reward : e ≡ rewardIn n (row (tableAt b l k n) (l .chain .start))
+  read-reward = let q = z .read in cc
+
+  read-outside : d ≡ outside n (l .chain .start) (row (tableAt b l k n) (l .chain .start))
+  read-outside = let q = z .read in cc
+
+chance-read : (l : Lent) → WellFormed plain l → {g u e d : ℕ} → Read exact l g u e d
+    → Chance (l .chain) (reduced (over g d) .numerator) (reduced (over g d) .denominator)
+chance-read l formed {g} {u} {e} {d} (won h q) =
+    let eg : g ≡ 1 = cc in
+    let ed : d ≡ 1 = cc in
+    rw (eg, ed) (lowest-chance (l .chain) 1 1 _ _ (chance-won (l .chain) (start-in plain l formed) h) (terms (over 1 1) (omega arith)))
+chance-read l formed {g} {u} {e} {d} (lost h q) =
+    let eg : g ≡ 0 = cc in
+    let ed : d ≡ 1 = cc in
+    rw (eg, ed) (lowest-chance (l .chain) 0 1 _ _ (chance-lost (l .chain) (start-in plain l formed) h) (terms (over 0 1) (omega arith)))
+chance-read l formed {g} {u} {e} {d} (live k right alive z) =
+    let ready = formed-ready plain l formed refl k right in
+    let whole = exact-whole (l .chain) k (l .order) ready (rewardOf l) alive in
+    rw (read-goal z, read-outside z)
+    (exact-chance (l .chain) k (l .order) ready (rewardOf l) alive _ _ (terms (over _ _) whole))
+
+reward-read : (l : Lent) → WellFormed paid l → (Missed (l .chain) → ⊥) → {g u e d : ℕ} → Read exact l g u e d
+    → Expected (l .chain) (rewardOf l) (reduced (over e d) .numerator) (reduced (over e d) .denominator)
+reward-read l formed sure {g} {u} {e} {d} (won h q) =
+    let ee : e ≡ 0 = cc in
+    let ed : d ≡ 1 = cc in
+    rw (ee, ed) (lowest-reward (l .chain) (rewardOf l) 0 1 _ _ (reward-won (l .chain) (rewardOf l) h) (terms (over 0 1) (omega arith)))
+reward-read l formed sure (lost h q) = absurd (sure (l .chain .start, FromStart.begin, h))
+reward-read l formed sure (live k right alive z) =
+    let ready = formed-ready paid l formed refl k right in
+    let whole = exact-whole (l .chain) k (l .order) ready (rewardOf l) alive in
+    rw (read-reward z, read-outside z)
+    (exact-reward (l .chain) k (l .order) ready (rewardOf l) alive sure _ _ (terms (over _ _) whole))
+
+bounds-read : (l : Lent) → WellFormed plain l → {g u e d : ℕ} → Read rounding l g u e d
+    → let lower = reduced (over g d) in
+    let upper = reduced (over (g + u) d) in
+    BoundsFigure l (between (lower .numerator) (lower .denominator) (upper .numerator) (upper .denominator))
+unfolding gcd gcdIn
+bounds-read l formed {g} {u} {e} {d} (won h q) =
+    let eg : g ≡ 1 = cc in
+    let eu : u ≡ 0 = cc in
+    let ed : d ≡ 1 = cc in
+    rw (eg, eu, ed) (BoundsFigure.won h refl)
+bounds-read l formed {g} {u} {e} {d} (lost h q) =
+    let eg : g ≡ 0 = cc in
+    let eu : u ≡ 0 = cc in
+    let ed : d ≡ 1 = cc in
+    rw (eg, eu, ed) (BoundsFigure.lost h refl)
+bounds-read l formed (live k right alive z) =
+    let whole = bounds-whole (l .chain) k (l .order) (formed-ready plain l formed refl k right) (rewardOf l) alive (unpaid plain l formed refl) in
+    rw (read-goal z, read-unknown z, read-outside z)
+    (BoundsFigure.live k right alive _ _ _ _ (terms (over _ _) whole, terms (over _ _) whole) refl)
+
+-- Goal and Unknown can be added: together they are no more than the row's total.
+read-sum : (l : Lent) → WellFormed plain l → {g u e d : ℕ} → Read rounding l g u e d → g + u ≤ M
+read-sum l formed {g} {u} (won h q) = let eg : g ≡ 1 = cc in let eu : u ≡ 0 = cc in omega arith
+read-sum l formed {g} {u} (lost h q) = let eg : g ≡ 0 = cc in let eu : u ≡ 0 = cc in omega arith
+read-sum l formed (live k right alive z) =
+    let n = l .chain .states in
+    let r = row (tableAt rounding l k n) (l .chain .start) in
+    omega (
+      arith,
+      read-goal z,
+      read-unknown z,
+      sum-two (cell r) (n + 3) n (n + 2) (omega arith) (omega arith) (omega arith),
+      bounds-fit (l .chain) k (rewardOf l) (l .order) n (l .chain .start) (start-in plain l formed),
+    )
+
+pub bounds-sum : (l : Lent) → WellFormed plain l → {r : Course} {g u e d : ℕ} → r ≡ Ends g u e d → figured rounding l r → g + u ≤ M
+bounds-sum l formed q z = read-sum l formed (subst (figured rounding l) q z)
+
+-- Number 0 is no refusal.
+refused-some : {x : Entry} {l : Lent} {number place : ℕ} → Refused x l number place → 0 < number
+refused-some {x} {l} {number} {place} z =
+    ⊎-elim (λ (e : number ≡ 0). absurd (subst (λ k. Applies x l k place) e (z .applies))) (λ h. h) (eq-zero-or-pos number)
+
+-- A fraction that was made of two numbers and reduced.
+pub reduced-of : {f g : Fraction} {a b : ℕ} → (f .numerator ≡ a) × (f .denominator ≡ b) → g ≡ reduced f → g ≡ reduced (over a b)
+reduced-of {a = a} {b = b} e q = q ∙ ap reduced (ap₂ over (e .0) (e .1))
+
+-- The outcomes, by what the figures are read off.
+module _ (l : Lent) (formed : WellFormed plain l) {w : List ℕ} (s : w ≡ cleared l) {r : Course} where
+  pub chance-answers : {g u e d : ℕ} → r ≡ Ends g u e d → figured exact l r → {f : Fraction} → f ≡ reduced (over g d) → ChanceOutcome l (toldChance (chance.Is f)) w
+  chance-answers q z t =
+      let y = subst (figured exact l) q z in
+      subst (λ f. ChanceOutcome l (toldChance (chance.Is f)) w) (sym t)
+      (answered formed (read-unstopped exact l y) (ChanceFigure.chance _ _ (chance-read l formed y) refl) s)
+
+  pub chance-stops : {number place : ℕ} → r ≡ Stops number place → figured exact l r → ChanceOutcome l (refusal number place) w
+  chance-stops q z = stopped _ _ formed (subst (figured exact l) q z) refl s
+
+  pub bounds-answer : {g u e d : ℕ} → r ≡ Ends g u e d → figured rounding l r → {f h : Fraction} → f ≡ reduced (over g d) → h ≡ reduced (over (g + u) d)
+      → BoundsOutcome l (toldBounds (bounds.Between f h)) w
+  bounds-answer q z t v =
+      let y = subst (figured rounding l) q z in
+      rw (t, v) (answered formed (read-unstopped rounding l y) (bounds-read l formed y) s)
+
+  pub bounds-stop : {number place : ℕ} → r ≡ Stops number place → figured rounding l r → BoundsOutcome l (noBounds number place) w
+  bounds-stop q z = stopped _ _ formed (subst (figured rounding l) q z) refl s
+
+-- A refusal by the numbers 1 to 11 leaves the work table.
+pub reward-refuses : {l : Lent} {number place : ℕ} → Refused paid l number place → Rewarded l (reward.Refused number place) (l .work)
+reward-refuses z = record { outcome = refused _ _ z refl refl; proper = refused-some z }
+
+module _ (l : Lent) (formed : WellFormed paid l) {w : List ℕ} (s : w ≡ cleared l) where
+  pub reward-misses : Missed (l .chain) → Rewarded l reward.Infinite w
+  reward-misses m = record { outcome = answered formed (λ number place z. z .0 m) (RewardFigure.missed m refl) s; proper = tt }
+
+  module _ (sure : Missed (l .chain) → ⊥) {r : Course} where
+    pub reward-answers : {g u e d : ℕ} → r ≡ Ends g u e d → figured exact l r → {f : Fraction} → f ≡ reduced (over e d) → Rewarded l (reward.Is f) w
+    reward-answers q z t =
+        let y = subst (figured exact l) q z in
+        let h = reward-read l formed sure y in
+        subst (λ f. Rewarded l (reward.Is f) w) (sym t)
+        (record {
+          outcome = answered formed (λ number place s. read-unstopped exact l y number place (s .1)) (RewardFigure.expected sure _ _ h refl) s;
+          proper = h .lowest .below;
+        })
+
+    pub reward-stops : {number place : ℕ} → r ≡ Stops number place → figured exact l r → Rewarded l (reward.Refused number place) w
+    reward-stops q z =
+        let y = subst (figured exact l) q z in
+        record { outcome = stopped _ _ formed (sure, y) refl s; proper = omega (arith, stopped-twelve paid l formed refl y) }

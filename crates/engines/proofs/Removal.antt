@@ -1,0 +1,132 @@
+-- The rows of a table renewed one after the other, and the table once a state is removed.
+use mathlib.Core.Path.{_≡_, refl, sym, _∙_}
+use mathlib.Core.Logic.{dite}
+use mathlib.Core.Bool.{Bool, true, false}
+use mathlib.Core.List.{List, []}
+use Prim.Native.Nat.{ℕ, _+_, _*_, _≤_, _<_, zero-le}
+use native.Mathlib.Decide.{decLt}
+use native.Mathlib.Omega.{arith}
+use lib.Dec.{eqb}
+use lib.ListN.{length}
+use Rattle.meaning.specs.Number.{choose}
+use Rattle.meaning.specs.Row.{Row, cell}
+use Rattle.meaning.specs.Step.{row, outside, combined, renewed, removed}
+use Rattle.theory.specs.Sum.{sum-ext}
+use Rattle.theory.specs.Tab.{tab-at, tab-ext}
+use Rattle.engines.specs.Row.{Fit, Tested}
+use Rattle.engines.specs.Table.{rowAt, tableOf, Kept, Put, Renewed}
+use Rattle.engines.specs.Turn.{Unfit, Reached}
+use Rattle.engines.proofs.Rows.{apart}
+use Rattle.engines.proofs.Tables.{kept-same, kept-more}
+
+-- After i turns.
+pub record Renewing (b : Bool) (g : ℕ → Row) (n : ℕ) (w : List ℕ) (i : ℕ) (v : List ℕ) : Type 0 where
+  pub upto : i ≤ n
+  pub kept : Kept n w v
+  pub new : (k : ℕ) → k < i → rowAt n v k ≡ g k
+  pub old : (k : ℕ) → i ≤ k → k < n → rowAt n v k ≡ rowAt n w k
+  pub fit : (k : ℕ) → k < i → Fit b n (g k)
+
+module _ {b : Bool} {g : ℕ → Row} {n : ℕ} {w : List ℕ} where
+  pub renewing-none : Renewing b g n w 0 w
+  renewing-none =
+      record {
+        upto = zero-le;
+        kept = kept-same n w;
+        new = λ k h. absurd (omega arith);
+        old = λ k h b. refl;
+        fit = λ k h. absurd (omega arith);
+      }
+
+  module _ {i : ℕ} {v : List ℕ} (z : Renewing b g n w i v) where
+    module _ {u : List ℕ} {answer : Bool} (h : i < n) (p : Put n v i (g i) u) (t : Tested b n (g i) answer) where
+      pub renewing-more : answer ≡ true → Renewing b g n w (i + 1) u
+      renewing-more e =
+          record {
+            upto = omega arith;
+            kept = kept-more (z .kept) (p .kept);
+            new =
+                λ k c.
+                dite (decLt k i) (λ l. p .other k (omega arith) (λ q. omega arith) ∙ z .new k l)
+                (λ l. let q : k ≡ i = omega arith in rw q (p .here));
+            old = λ k l c. p .other k c (λ q. omega arith) ∙ z .old k (omega arith) c;
+            fit = λ k c. dite (decLt k i) (λ l. z .fit k l) (λ l. let q : k ≡ i = omega arith in rw q (t .fit e));
+          }
+
+      pub renewing-stop : answer ≡ false → Renewed b g n w u false
+      renewing-stop e =
+          record {
+            kept = kept-more (z .kept) (p .kept);
+            all = λ e. absurd (apart e);
+            fit = λ e. absurd (apart e);
+            large = λ _. let l = t .large e in (l .0, (i, (h, l .1)));
+          }
+
+    pub renewing-all : n ≤ i → Renewed b g n w v true
+    renewing-all h =
+        record {
+          kept = z .kept;
+          all = λ e k c. z .new k (omega arith);
+          fit = λ e k c. z .fit k (omega arith);
+          large = λ e. absurd (apart (sym e));
+        }
+
+-- Only the cells of the row of s count.
+combined-same : (s d : ℕ) (p q r : Row) → ((j : ℕ) → cell p j ≡ cell q j) → combined s d p r ≡ combined s d q r
+unfolding combined
+combined-same s d p q r h =
+    tab-ext (length r) (λ j. choose (eqb j s) 0 (cell r j * d + cell r s * cell p j))
+    (λ j. choose (eqb j s) 0 (cell r j * d + cell r s * cell q j)) (λ j b. rw (h j))
+
+renewed-same : (b : Bool) (n s d : ℕ) (p q : Row) (o : Bool) (r : Row) → ((j : ℕ) → cell p j ≡ cell q j)
+    → renewed b n s d p o r ≡ renewed b n s d q o r
+unfolding renewed
+renewed-same b n s d p q o r h = rw (combined-same s d p q r h)
+
+pub fit-same : {b : Bool} (n : ℕ) (p q : Row) → ((j : ℕ) → cell p j ≡ cell q j) → Fit b n q → Fit b n p
+fit-same n p q h f =
+    record {
+      weights = rw (sum-ext (cell p) (cell q) (n + 3) (λ j b. h j)) (f .weights);
+      earned = rw (h (n + 3)) (f .earned);
+      unpaid = λ e. h (n + 3) ∙ f .unpaid e;
+    }
+
+pub row-is : (n : ℕ) (w : List ℕ) (i : ℕ) → i < n → row (tableOf n w) i ≡ rowAt n w i
+row-is n w i h = tab-at n (rowAt n w) [] i h
+
+-- D of the table's row of s.
+pub outside-is : (n s : ℕ) (w : List ℕ) → s < n → {d : ℕ} → d ≡ outside n s (rowAt n w s) → outside n s (row (tableOf n w) s) ≡ d
+outside-is n s w h e = rw (row-is n w s h) (sym e)
+
+module _ (b : Bool) (n s : ℕ) (w : List ℕ) (hs : s < n) (d : ℕ) (ed : d ≡ outside n s (rowAt n w s)) (p : Row)
+    (ep : (j : ℕ) → cell p j ≡ cell (rowAt n w s) j) where
+  next : ℕ → Row
+  next i = renewed b n s (outside n s (row (tableOf n w) s)) (row (tableOf n w) s) (eqb i s) (row (tableOf n w) i)
+
+  row-next : (k : ℕ) → k < n → renewed b n s d p (eqb k s) (rowAt n w k) ≡ next k
+  unfolding next
+  row-next k h =
+      renewed-same b n s d p (rowAt n w s) (eqb k s) (rowAt n w k) ep ∙ rw (ed, row-is n w k h, row-is n w s hs)
+
+  row-removed : (k : ℕ) → k < n → renewed b n s d p (eqb k s) (rowAt n w k) ≡ row (removed b n s (tableOf n w)) k
+  unfolding removed next
+  row-removed k h = row-next k h ∙ sym (tab-at n next [] k h)
+
+  table-removed : (v : List ℕ) → ((k : ℕ) → k < n → rowAt n v k ≡ renewed b n s d p (eqb k s) (rowAt n w k))
+      → tableOf n v ≡ removed b n s (tableOf n w)
+  unfolding removed next
+  table-removed v h = tab-ext n (rowAt n v) next (λ k l. h k l ∙ row-next k l)
+
+  module _ {v : List ℕ} {answer : Bool} (z : Renewed b (λ k. renewed b n s d p (eqb k s) (rowAt n w k)) n w v answer) where
+    pub removed-all : answer ≡ true → Reached b n (removed b n s (tableOf n w)) w v
+    removed-all e =
+        record {
+          kept = z .kept;
+          same = table-removed v (z .all e);
+          fit = λ i h. rw (row-removed i h) at (z .fit e i h);
+        }
+
+    pub removed-unfit : answer ≡ false → Unfit b n (removed b n s (tableOf n w))
+    removed-unfit e =
+        let l = z .large e in
+        (l .0, (l .1 .0, (l .1 .1 .0, rw (row-removed (l .1 .0) (l .1 .1 .0)) at (l .1 .1 .1))))

@@ -1,0 +1,188 @@
+-- What rounding, settling and combining do to the total and the Reward of a row.
+use mathlib.Core.Path.{_≡_, refl, sym, ap, _∙_}
+use mathlib.Core.Logic.{dite, inl, inr}
+use mathlib.Core.Bool.{Bool, true, false}
+use Prim.Native.Nat.{ℕ, _+_, _-_, _*_, _^_, _≤_, _<_}
+use native.Mathlib.Nat.{mul-le-mul, zero-div, le-div-iff-mul-le}
+use native.Mathlib.Decide.{decLt}
+use native.Mathlib.Omega.{arith}
+use lib.Dec.{eqb}
+use lib.ListN.{length, set, List·getD-eq-default}
+use lib.Seq.{getD-set-same, getD-set-other}
+use borrow.Author.Tests.{le-ltb, lt-ltb, eq-eqb, ne-eqb}
+use Rattle.meaning.specs.Number.{sumTo, choose}
+use Rattle.meaning.specs.Chain.{M}
+use Rattle.meaning.specs.Row.{
+  Row,
+  cell,
+  total,
+  reward,
+  divisor,
+  over,
+  lowest,
+  upTo,
+  shiftOf,
+  topped,
+  roundedBy,
+  rounded,
+  bounded,
+  settled,
+}
+use Rattle.meaning.specs.Step.{noRow, combined, renewed}
+use Rattle.theory.specs.Sum.{sum-ext, sum-le, sum-zero, sum-next, sum-up, sum-mix, sum-term}
+use Rattle.theory.specs.Tab.{tab-at, tab-length}
+use Rattle.theory.specs.Shift.{pow-whole, shift-fits}
+use Rattle.engines.specs.Row.{Small, Sized, Fit, Tested}
+use Rattle.engines.proofs.Lowest.{over-at, over-sum, over-parts}
+
+topped-total : (n t : ℕ) (r : Row) → length r ≡ n + 4 → sumTo (cell r) (n + 2) ≤ t → total n (topped n t r) ≡ t
+topped-total n t r l h =
+    omega (
+      arith,
+      sum-next (cell (topped n t r)) (n + 2) (n + 3) (omega arith),
+      sum-ext (cell (topped n t r)) (cell r) (n + 2) (λ j b. getD-set-other r (n + 2) j _ 0 (λ q. omega arith)),
+      getD-set-same r (n + 2) (t - sumTo (cell r) (n + 2)) 0 (omega arith),
+    )
+
+-- Of a row that was divided, all columns but Unknown and Reward.
+module _ (n d : ℕ) (r q : Row) (e : q ≡ over d r) where
+  pub rest-le : sumTo (cell q) (n + 2) ≤ total n r
+  rest-le =
+      rw e
+      (omega (arith, over-sum d r (n + 2), sum-up (cell r) (n + 2) (n + 3) (omega arith)))
+
+  pub total-le : total n q ≤ total n r
+  total-le = rw e (over-sum d r (n + 3))
+
+pub rest-up : (n k : ℕ) (r q : Row) → q ≡ over (2 ^ k) r → (t : ℕ) → t ≡ total n r → sumTo (cell q) (n + 2) ≤ upTo t k
+rest-up n k r q e t et =
+    rw (e, et)
+    (le-div-iff-mul-le (pow-whole k) .1
+    (omega (arith, over-parts (2 ^ k) r (n + 2), sum-up (cell r) (n + 2) (n + 3) (omega arith), pow-whole k)))
+
+module _ (n : ℕ) (r q : Row) {t k s u : ℕ} (et : t ≡ total n r) (ek : k ≡ shiftOf t) (eq : q ≡ over (2 ^ k) r) (es : s ≡ sumTo (cell q) (n + 2))
+    (eu : u ≡ upTo t k) where
+  pub round-is : set q (n + 2) (u - s) ≡ rounded n r
+  unfolding roundedBy
+  round-is = rw (es, eu, eq, ek, et)
+
+  pub round-fits : length q ≡ n + 4 → total n (set q (n + 2) (u - s)) ≤ M
+  round-fits l =
+      rw (es, eu)
+      (let z : sumTo (cell q) (n + 2) ≤ upTo t k = rest-up n k r q eq t et in
+      let f : upTo t k ≤ M = rw ek (shift-fits t) in
+      omega (arith, topped-total n (upTo t k) q l z))
+
+module _ (n : ℕ) (r : Row) where
+  pub bounded-in : total n r ≤ M → r ≡ bounded true n r
+  unfolding bounded
+  bounded-in h = rw (le-ltb M (total n r) h)
+
+  pub bounded-out : M < total n r → rounded n r ≡ bounded true n r
+  unfolding bounded
+  bounded-out h = rw (lt-ltb M (total n r) h)
+
+  pub bounded-off : (b : Bool) → b ≡ false → r ≡ bounded b n r
+  unfolding bounded
+  bounded-off b e = rw e
+
+  -- A row that earns nothing earns nothing once it is settled.
+  over-unpaid : (d : ℕ) → reward n r ≡ 0 → reward n (over d r) ≡ 0
+  over-unpaid d h = over-at d r (n + 3) ∙ rw h (zero-div d)
+
+bounded-unpaid : (n : ℕ) (r : Row) → reward n r ≡ 0 → reward n (bounded true n r) ≡ 0
+unfolding roundedBy
+bounded-unpaid n r h =
+    dite (decLt M (total n r))
+    (λ l. rw (← bounded-out n r l) (getD-set-other (over (2 ^ shiftOf (total n r)) r) (n + 2) (n + 3) _ 0 (λ q. omega arith) ∙ over-unpaid n r _ h))
+    (λ l. rw (← bounded-in n r (omega arith)) h)
+
+pub settled-fit : (n : ℕ) (r q : Row) (b : Bool) → b ≡ true → q ≡ bounded true n (lowest r) → total n q ≤ M → reward n r ≡ 0 → Fit b n q
+settled-fit n r q b e eq h z =
+    let y : reward n q ≡ 0 = rw eq (bounded-unpaid n (lowest r) (over-unpaid n r (divisor r) z)) in
+    record { weights = h; earned = omega arith; unpaid = λ _. y }
+
+pub fit-small : {b : Bool} (n : ℕ) (r : Row) → Fit b n r → Small (n + 4) r
+fit-small n r h j b =
+    dite (decLt j (n + 3)) (λ l. omega (arith, h .weights, sum-term (cell r) (n + 3) j l))
+    (λ l. let e : j ≡ n + 3 = omega arith in rw e (h .earned))
+
+choose-le : (b : Bool) (x : ℕ) → choose b 0 x ≤ x
+choose-le true x = omega arith
+choose-le false x = omega arith
+
+module _ (b : Bool) (n s d : ℕ) (p r : Row) (l : length r ≡ n + 4) (hs : s < n) (hr : Fit b n r) (hp : Fit b n p) where
+  combined-at : (j : ℕ) → j < n + 4 → cell (combined s d p r) j ≤ cell r j * d + cell r s * cell p j
+  unfolding combined
+  combined-at j h =
+      rw (tab-at (length r) (λ j. choose (eqb j s) 0 (cell r j * d + cell r s * cell p j)) 0 j (omega arith))
+      (choose-le (eqb j s) (cell r j * d + cell r s * cell p j))
+
+  combined-length : length (combined s d p r) ≡ length r
+  unfolding combined
+  combined-length = tab-length 0 (length r) _
+
+  pub combined-sized : d ≤ M → Sized n (combined s d p r)
+  combined-sized hd =
+      record {
+        columns = combined-length ∙ l;
+        bound = omega (
+          arith,
+          sum-le (cell (combined s d p r)) (λ j. cell r j * d + cell r s * cell p j) (n + 3) (λ j h. combined-at j (omega arith)),
+          sum-mix (cell r) (cell p) d (cell r s) (n + 3),
+          mul-le-mul (hr .weights) hd,
+          mul-le-mul (fit-small n r hr s (omega arith)) (hp .weights),
+        );
+      }
+
+  pub combined-unpaid : b ≡ true → reward n (combined s d p r) ≡ 0
+  combined-unpaid e =
+      omega (
+        arith,
+        combined-at (n + 3) (omega arith),
+        ap (λ x. x * d) (hr .unpaid e),
+        ap (λ x. cell r s * x) (hp .unpaid e),
+      )
+
+noRow-at : (n j : ℕ) → cell (noRow n) j ≡ 0
+unfolding noRow
+noRow-at n j =
+    dite (decLt j (n + 4)) (λ h. tab-at (n + 4) (λ _. 0) 0 j h)
+    (λ h. List·getD-eq-default (noRow n) 0 (rw (tab-length {A = ℕ} 0 (n + 4) (λ _. 0)) (omega arith)))
+
+pub noRow-fit : (b : Bool) (n : ℕ) → Fit b n (noRow n)
+noRow-fit b n =
+    record {
+      weights = omega (arith, sum-zero (cell (noRow n)) (n + 3) (λ j _. noRow-at n j));
+      earned = omega (arith, noRow-at n (n + 3));
+      unpaid = λ _. noRow-at n (n + 3);
+    }
+
+module _ (b : Bool) (n s d : ℕ) (p r : Row) where
+  pub renewed-own : (o : Bool) → o ≡ true → renewed b n s d p o r ≡ noRow n
+  unfolding renewed
+  renewed-own o e = rw e
+
+  pub renewed-none : (o : Bool) → o ≡ false → cell r s ≡ 0 → renewed b n s d p o r ≡ r
+  unfolding renewed
+  renewed-none o e h = rw (e, eq-eqb (cell r s) 0 h)
+
+  pub renewed-some : (o : Bool) → o ≡ false → (cell r s ≡ 0 → ⊥) → renewed b n s d p o r ≡ settled b n (combined s d p r)
+  unfolding renewed
+  renewed-some o e h = rw (e, ne-eqb (cell r s) 0 h)
+
+-- Answers that are known.
+pub apart : false ≡ true → ⊥
+apart e = let z : _≡_ {A = ℕ} 0 1 = cc in omega arith
+
+pub tested-fit : {b : Bool} {n : ℕ} {r : Row} → Fit b n r → Tested b n r true
+tested-fit f = record { fit = λ _. f; large = λ e. absurd (apart (sym e)) }
+
+pub tested-total : {n : ℕ} {r : Row} → M < total n r → Tested false n r false
+tested-total h = record { fit = λ e. absurd (apart e); large = λ _. (refl, inl h) }
+
+pub tested-reward : {n : ℕ} {r : Row} → M < reward n r → Tested false n r false
+tested-reward h = record { fit = λ e. absurd (apart e); large = λ _. (refl, inr h) }
+
+pub tested-exact : {n : ℕ} {r : Row} → total n r ≤ M → reward n r ≤ M → Tested false n r true
+tested-exact h k = tested-fit (record { weights = h; earned = k; unpaid = λ e. absurd (apart e) })

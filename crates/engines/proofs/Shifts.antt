@@ -1,0 +1,23 @@
+-- The shifts of the code: 1 << k is 2 ^ k, and 33 places are enough for a total below 2 ^ 63.
+use mathlib.Core.Path.{_≡_}
+use mathlib.Core.Logic.{⊎-elim}
+use Prim.Native.Nat.{ℕ, _*_, _%_, _^_, _≤_, _<_}
+use native.Mathlib.Nat.{pow-le-pow-right, mod-eq-of-lt, one-mul}
+use native.Mathlib.Omega.{arith}
+use Rattle.meaning.specs.Chain.{M}
+use Rattle.meaning.specs.Row.{upTo}
+use Rattle.theory.specs.Sum.{same}
+use Rattle.theory.specs.Shift.{up-least}
+
+pub pow-small : (k : ℕ) → k ≤ 33 → 2 ^ k ≤ 2 ^ 33
+pow-small k h = pow-le-pow-right {n = 2} (omega arith) h
+
+pub one-shifted : (k : ℕ) → k ≤ 33 → 1 * 2 ^ k % 2 ^ 64 ≡ 2 ^ k
+one-shifted k h = rw (one-mul (2 ^ k)) (mod-eq-of-lt (omega (arith, pow-small k h)))
+
+pub room-left : (t k : ℕ) → t < 2 ^ 63 → k ≤ 33 → M < upTo t k → k < 33
+room-left t k h l g =
+    ⊎-elim
+    (λ (e : k ≡ 33). absurd (let b : upTo t 33 ≤ M = up-least t (2 ^ 33) M (omega arith) (omega arith) in let c : M < upTo t 33 = rw e at g in omega arith))
+    (λ (d : k ≡ 33 → ⊥). omega arith)
+    (same k 33)

@@ -1,0 +1,33 @@
+use borrow.Author.Needs.{needs}
+use Rattle.engines.specs.First.{setsOf}
+use Rattle.engines.specs.Sets.{chainOf}
+use Rattle.engines.proofs.FirstRows.{asked-gatherable, asked-finishable, first-made}
+use Rattle.engines.proofs.first.first_rows.Statement.{statement}
+use Rattle.engines.proofs.first.first_rows.Tie as tie
+
+gather-requires : tie.Need-gather-requires
+gather-requires c κs =
+    let s = c .before .before .before .before .before in
+    let a = s .args in
+    asked-gatherable (chainOf (a .c) (a .denominators .now) (a .edges .now)) (setsOf (a .good) (a .live)) (a .rounding)
+    (a .rewards .now) (a .work .now) (s .pre)
+
+finish-all-requires : tie.Need-finish-all-requires
+finish-all-requires c κs =
+    let g = c .before .before .before in
+    let s = g .before .before .before .before .before .before in
+    let a = s .args in
+    asked-finishable (chainOf (a .c) (a .denominators .now) (a .edges .now)) (setsOf (a .good) (a .live)) (a .rounding)
+    (a .rewards .now) (a .work .now) (s .pre) _ (g .gather .ensures)
+
+returns : tie.Need-returns
+returns c =
+    let f = c .before .before in
+    let g = f .before .before .before .before in
+    let s = g .before .before .before .before .before .before in
+    let a = s .args in
+    first-made (chainOf (a .c) (a .denominators .now) (a .edges .now)) (setsOf (a .good) (a .live)) (a .rounding)
+    (a .rewards .now) (a .work .now) (s .pre) _ (g .gather .ensures) (f .finish-all .ensures)
+
+pub first-rows-spec : {M : Type 1} → statement M
+first-rows-spec = tie.close (tie.spec gather-requires finish-all-requires (λ c. search needs) returns)

@@ -1,0 +1,45 @@
+use mathlib.Core.Path.{sym, _∙_}
+use borrow.Author.Needs.{needs}
+use Rattle.engines.proofs.Rows.{renewed-own, renewed-none, renewed-some, tested-fit, noRow-fit}
+use Rattle.engines.proofs.step.renew.Statement.{statement}
+use Rattle.engines.proofs.step.renew.Tie as tie
+
+returns : tie.Need-returns
+returns c =
+    let a = c .before .before .before .before .before .before .args in
+    let e = c .before .before .clear .ensures in (
+      e ∙ sym (renewed-own (a .rounding) (a .n) (a .s) (a .d) (a .pivot .now) (a .row .now) (a .own) (c .before .before .before .before .if1 .taken)),
+      rw e (tested-fit (noRow-fit (a .rounding) (a .n))),
+    )
+
+returns-2 : tie.Need-returns-2
+returns-2 c =
+    let s = c .before .before .before .before in
+    let a = s .args in (
+      sym (renewed-none (a .rounding) (a .n) (a .s) (a .d) (a .pivot .now) (a .row .now) (a .own) (c .before .before .if1 .left) (c .if2 .taken)),
+      tested-fit (s .pre .4),
+    )
+
+returns-3 : tie.Need-returns-3
+returns-3 c =
+    let a = c .before .before .before .before .before .before .before .before .args in
+    let e = c .before .before .change .ensures in (
+      e .0
+          ∙ sym
+          (renewed-some (a .rounding) (a .n) (a .s) (a .d) (a .pivot .now) (a .row .now) (a .own) (c .before .before .before .before .before .before .if1 .left) (c .before .before .before .before .if2 .left)),
+      e .1,
+    )
+
+pub renew-spec : {M : Type 1} → statement M
+renew-spec =
+    tie.close
+    (tie.spec
+    (λ c κs. search needs)
+    (λ c. search needs)
+    returns
+    (λ c. search needs)
+    (λ c. search needs)
+    returns-2
+    (λ c κs. search needs)
+    (λ c. search needs)
+    returns-3)

@@ -1,0 +1,102 @@
+-- The first rows: what is gathered along the edges, what is made of it, and what is asked of the chain.
+use mathlib.Core.Path.{_≡_}
+use mathlib.Core.Bool.{Bool, true, false}
+use mathlib.Core.List.{List}
+use Prim.Native.Nat.{ℕ, _+_, _*_, _^_, _≤_, _<_}
+use lib.Dec.{eqb}
+use lib.ListN.{length, getD, set}
+use Rattle.meaning.specs.Number.{only, choose, bit}
+use Rattle.meaning.specs.Chain.{mostStates, M, mostReward, Chain, denominator, edgeCount, from, to, weight, carried, rowSum}
+use Rattle.meaning.specs.Row.{Row, cell, total, goalColumn, trapColumn, rewardColumn, settled, rounding}
+use Rattle.meaning.specs.Step.{Table, Sets, Right}
+use Rattle.meaning.specs.Refusal.{workSize}
+use Rattle.theory.specs.Fine.{Fine}
+use Rattle.engines.specs.Row.{Fit}
+use Rattle.engines.specs.Table.{rowAt, Kept}
+use Rattle.engines.specs.Turn.{Unfit, Reached}
+
+-- Both sets.
+abbrev pub setsOf : ℕ → ℕ → Sets
+setsOf good live = record { good = good; live = live }
+
+-- The column of a target in the row of a live state: its own where it is live, else Goal where it has a path to a goal, since then it is one,
+-- else Trap.
+unfoldable pub columnOf : ℕ → Sets → ℕ → ℕ
+columnOf n k t =
+    choose (eqb (bit (k .live) t) 1) t (choose (eqb (bit (k .good) t) 1) (goalColumn n) (trapColumn n))
+
+-- What edge e brings to column j of row i: nothing where i is not live.
+unfoldable pub share : ℕ → Sets → List ℕ → ℕ → ℕ → ℕ → ℕ
+share n k edges i j e = only (eqb (bit (k .live) i) 1) (carried edges i (λ t. only (eqb (columnOf n k t) j) 1) e)
+
+-- In v each number of the table is that of w and what `more` says of its row and column.
+pub record Added (n : ℕ) (more : ℕ → ℕ → ℕ) (w v : List ℕ) : Type 0 where
+  pub kept : Kept n w v
+  pub cells : (i j : ℕ) → i < n → j < n + 4 → cell (rowAt n v i) j ≡ cell (rowAt n w i) j + more i j
+
+-- In v the table is what `held` says of each row and column.
+pub record Held (n : ℕ) (held : ℕ → ℕ → ℕ) (w v : List ℕ) : Type 0 where
+  pub kept : Kept n w v
+  pub cells : (i j : ℕ) → i < n → j < n + 4 → cell (rowAt n v i) j ≡ held i j
+
+-- Edge e can be added to the table in w.
+pub record Addable (n : ℕ) (edges : List ℕ) (e : ℕ) (w : List ℕ) : Type 0 where
+  pub few : n ≤ mostStates
+  pub room : n * (n + 4) ≤ length w
+  pub source : from edges e < n
+  pub target : to edges e < n
+  pub small : (j : ℕ) → j < n + 4 → cell (rowAt n w (from edges e)) j + weight edges e ≤ M
+
+-- The edges can be gathered in the table in w.
+pub record Gatherable (n : ℕ) (edges w : List ℕ) : Type 0 where
+  pub few : n ≤ mostStates
+  pub room : n * (n + 4) ≤ length w
+  pub sources : (e : ℕ) → e < edgeCount edges → from edges e < n
+  pub targets : (e : ℕ) → e < edgeCount edges → to edges e < n
+  pub sums : (i : ℕ) → i < n → rowSum edges i ≤ M
+
+-- A row that is gathered, with what it earns, and settled; the row of a state that is not live stays.
+unfoldable pub finished : Bool → ℕ → Bool → ℕ → Row → Row
+finished b n alive earns r = choose alive (settled b n (set r (rewardColumn n) earns)) r
+
+-- What is known of a gathered row: the row of a live state can be summed, that of another fits, and the bounds engine earns nothing.
+pub record Gathered (b : Bool) (n : ℕ) (alive : Bool) (earns : ℕ) (r : Row) : Type 0 where
+  pub bound : alive ≡ true → total n r < 2 ^ 63
+  pub fit : alive ≡ false → Fit b n r
+  pub unpaid : b ≡ rounding → earns ≡ 0
+
+-- What one turn in state i earns, times its denominator.
+abbrev pub earnedAt : List ℕ → List ℕ → ℕ → ℕ
+earnedAt denominators rewards i = getD rewards i 0 * getD denominators i 0
+
+-- Row i of the table in w, finished.
+abbrev pub finishedAt : Bool → ℕ → ℕ → List ℕ → List ℕ → List ℕ → ℕ → Row
+finishedAt b n live denominators rewards w i =
+    finished b n (eqb (bit live i) 1) (earnedAt denominators rewards i) (rowAt n w i)
+
+-- Each row of the table in w can be finished.
+pub record Finishable (b : Bool) (n live : ℕ) (denominators rewards w : List ℕ) : Type 0 where
+  pub few : n ≤ mostStates
+  pub room : n * (n + 4) ≤ length w
+  pub size : length denominators ≡ n
+  pub small : (i : ℕ) → i < n → getD denominators i 0 ≤ M
+  pub paid : (i : ℕ) → i < n → getD rewards i 0 ≤ mostReward
+  pub gathered : (i : ℕ) → i < n → Gathered b n (eqb (bit live i) 1) (earnedAt denominators rewards i) (rowAt n w i)
+
+-- What the first rows are made from: a chain whose denominators fit, its own sets, rewards that fit, in the bounds engine none, and room.
+pub record Asked (b : Bool) (c : Chain) (k : Sets) (rewards work : List ℕ) : Type 0 where
+  pub few : c .states ≤ mostStates
+  pub room : workSize (c .states) ≤ length work
+  pub fine : Fine c
+  pub sources : (e : ℕ) → e < edgeCount (c .edges) → from (c .edges) e < c .states
+  pub size : length (c .denominators) ≡ c .states
+  pub small : (i : ℕ) → i < c .states → denominator c i ≤ M
+  pub right : Right c k
+  pub paid : (i : ℕ) → i < c .states → getD rewards i 0 ≤ mostReward
+  pub unpaid : b ≡ rounding → (i : ℕ) → getD rewards i 0 ≡ 0
+
+-- The table t is made in v and each row of it fits, or one does not.
+pub record Made (b : Bool) (n : ℕ) (t : Table) (w v : List ℕ) (answer : Bool) : Type 0 where
+  pub kept : Kept n w v
+  pub reached : answer ≡ true → Reached b n t w v
+  pub unfit : answer ≡ false → Unfit b n t

@@ -1,0 +1,11 @@
+pub mod Row
+pub mod Table
+pub mod Turn
+pub mod Order
+pub mod Stops
+pub mod Grow
+pub mod Sets
+pub mod Told
+pub mod First
+pub mod Run
+pub mod Figured

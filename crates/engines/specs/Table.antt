@@ -1,0 +1,42 @@
+-- A table in one list, row after row.
+use mathlib.Core.Path.{_≡_}
+use mathlib.Core.Bool.{Bool, true, false}
+use mathlib.Core.List.{List}
+use Prim.Native.Nat.{ℕ, _+_, _*_, _≤_, _<_}
+use lib.ListN.{length, take, drop}
+use Rattle.meaning.specs.Number.{tabFrom}
+use Rattle.meaning.specs.Row.{Row, exact}
+use Rattle.meaning.specs.Step.{Table}
+use Rattle.meaning.specs.Stop.{Large}
+use Rattle.engines.specs.Row.{Fit}
+
+-- Row i of the table in w.
+unfoldable pub rowAt : ℕ → List ℕ → ℕ → Row
+rowAt n w i = take (n + 4) (drop (i * (n + 4)) w)
+
+abbrev pub tableOf : ℕ → List ℕ → Table
+tableOf n w = tabFrom 0 n (rowAt n w)
+
+-- The work table holds n rows, and each of them fits.
+pub record Ready (b : Bool) (n : ℕ) (w : List ℕ) : Type 0 where
+  pub few : n ≤ 64
+  pub room : n * (n + 4) ≤ length w
+  pub fit : (i : ℕ) → i < n → Fit b n (rowAt n w i)
+
+-- v is as long as w, and the same past the table.
+pub record Kept (n : ℕ) (w v : List ℕ) : Type 0 where
+  pub len : length v ≡ length w
+  pub past : drop (n * (n + 4)) v ≡ drop (n * (n + 4)) w
+
+-- v is w with r in the place of row i.
+pub record Put (n : ℕ) (w : List ℕ) (i : ℕ) (r : Row) (v : List ℕ) : Type 0 where
+  pub kept : Kept n w v
+  pub here : rowAt n v i ≡ r
+  pub other : (j : ℕ) → j < n → (j ≡ i → ⊥) → rowAt n v j ≡ rowAt n w j
+
+-- In v each row k of w has become g k, and fits; or some g k does not.
+pub record Renewed (b : Bool) (g : ℕ → Row) (n : ℕ) (w v : List ℕ) (answer : Bool) : Type 0 where
+  pub kept : Kept n w v
+  pub all : answer ≡ true → (k : ℕ) → k < n → rowAt n v k ≡ g k
+  pub fit : answer ≡ true → (k : ℕ) → k < n → Fit b n (g k)
+  pub large : answer ≡ false → (b ≡ exact) × ((k : ℕ) × ((k < n) × Large n (g k)))

@@ -1,0 +1,146 @@
+// One row: its lowest terms, its total, and how it is rounded. A row has n + 4 columns: the n states, Goal, Trap, Unknown and Reward.
+ghost use mathlib.Core.Path.{_≡_};
+ghost use mathlib.Core.Bool.{true, false};
+ghost use Prim.Native.Nat.{_^_, _<_, _≤_};
+ghost use lib.ListN.{length};
+ghost use Rattle.meaning.specs.Chain.{M};
+ghost use Rattle.meaning.specs.Number.{sumTo};
+ghost use Rattle.meaning.specs.Row.{cell, total, reward, gcdOf, over, lowest, upTo, shiftOf, rounded, bounded, settled};
+ghost use Rattle.engines.specs.Row.{Sized, Tested};
+use chain::Chain;
+use chain::fraction::gcd;
+
+// The greatest common divisor of the numbers of a row, 0 where all are 0. Once it is 1, it stays 1.
+fn common(row: &[u64]) -> u64
+    ensures { λ r. ⌜ r ≡ gcdOf (now (row .entry)) ⌝ }
+{
+    let mut g = 0;
+    let mut j = row.len();
+    while 0 < j {
+        j -= 1;
+        g = gcd(row[j], g);
+        if g == 1 {
+            return 1;
+        }
+    }
+    g
+}
+
+// Divides each number of a row.
+fn divide(row: &mut [u64], d: u64)
+    requires { ⌜ 0 < d ⌝ }
+    ensures { λ _. ⌜ now (row .exit) ≡ over d (now (row .entry)) ⌝ }
+{
+    let mut j = 0;
+    while j < row.len() {
+        row[j] = row[j] / d;
+        j += 1;
+    }
+}
+
+// Brings a row to lowest terms. A row of zeros stays, and so does a row whose divisor is 1.
+pub(crate) fn reduce(row: &mut [u64])
+    ensures { λ _. ⌜ now (row .exit) ≡ lowest (now (row .entry)) ⌝ }
+{
+    let g = common(row);
+    if g <= 1 {
+        return;
+    }
+    divide(row, g);
+}
+
+// The sum of the first m numbers of a row.
+pub(crate) fn sum(row: &[u64], m: usize) -> u64
+    requires { ⌜ (m ≤ length (now row)) × (sumTo (cell (now row)) m < 2 ^ 63) ⌝ }
+    ensures { λ r. ⌜ r ≡ sumTo (cell (now (row .entry))) m ⌝ }
+{
+    let mut t = 0;
+    let mut j = 0;
+    while j < m {
+        t += row[j];
+        j += 1;
+    }
+    t
+}
+
+// A total divided by 2 ^ k and rounded up.
+fn up(t: u64, k: u64) -> u64
+    requires { ⌜ (t < 2 ^ 63) × (k ≤ 33) ⌝ }
+    ensures { λ r. ⌜ r ≡ upTo t k ⌝ }
+{
+    (t + (1 << k) - 1) >> k
+}
+
+// The least shift that brings a total down to the largest.
+fn shift(t: u64) -> u64
+    requires { ⌜ t < 2 ^ 63 ⌝ }
+    ensures { λ r. ⌜ (r ≡ shiftOf t) × (r ≤ 33) ⌝ }
+{
+    let mut k = 0;
+    while Chain::LIMIT < up(t, k) {
+        k += 1;
+    }
+    k
+}
+
+// Divides each number of a row by 2 ^ k.
+fn lower(row: &mut [u64], k: u64)
+    requires { ⌜ k < 64 ⌝ }
+    ensures { λ _. ⌜ now (row .exit) ≡ over (2 ^ k) (now (row .entry)) ⌝ }
+{
+    let mut j = 0;
+    while j < row.len() {
+        row[j] = row[j] >> k;
+        j += 1;
+    }
+}
+
+// Rounds a row: the total up, each number but Unknown down, and Unknown takes what the total lacks.
+pub(crate) fn round(row: &mut [u64], n: usize)
+    requires { ⌜ Sized n (now row) ⌝ }
+    ensures { λ _. ⌜ (now (row .exit) ≡ rounded n (now (row .entry))) × (total n (now (row .exit)) ≤ M) ⌝ }
+{
+    let t = sum(row, n + 3);
+    let k = shift(t);
+    lower(row, k);
+    let q = sum(row, n + 2);
+    row[n + 2] = up(t, k) - q;
+}
+
+// Rounds a row whose total does not fit.
+fn bound(row: &mut [u64], n: usize)
+    requires { ⌜ Sized n (now row) ⌝ }
+    ensures { λ _. ⌜ (now (row .exit) ≡ bounded true n (now (row .entry))) × (total n (now (row .exit)) ≤ M) ⌝ }
+{
+    if sum(row, n + 3) <= Chain::LIMIT {
+        return;
+    }
+    round(row, n);
+}
+
+// Whether the total and the Reward of a row fit, where rows are exact.
+fn fits(row: &[u64], n: usize) -> bool
+    requires { ⌜ Sized n (now row) ⌝ }
+    ensures { λ r. ⌜ Tested false n (now (row .entry)) r ⌝ }
+{
+    if Chain::LIMIT < sum(row, n + 3) {
+        return false;
+    }
+    if Chain::LIMIT < row[n + 3] {
+        return false;
+    }
+    true
+}
+
+// Brings a new row to what is kept of it, and says whether it fits. A rounded row always does.
+pub(crate) fn settle(row: &mut [u64], n: usize, rounding: bool) -> bool
+    requires { ⌜ Sized n (now row) × (rounding ≡ true → reward n (now row) ≡ 0) ⌝ }
+    ensures { λ r. ⌜ (now (row .exit) ≡ settled rounding n (now (row .entry))) × Tested rounding n (now (row .exit)) r ⌝ }
+{
+    reduce(row);
+    if rounding {
+        bound(row, n);
+        return true;
+    }
+    fits(row, n)
+}

@@ -1,0 +1,176 @@
+// A step: one state is removed from the table, one row at a time.
+ghost use mathlib.Core.Path.{_≡_};
+ghost use Prim.Native.Nat.{ℕ, _+_, _*_, _<_, _≤_};
+ghost use lib.ListN.{length, getD};
+ghost use lib.Dec.{eqb};
+ghost use Rattle.meaning.specs.Chain.{mostStates, M};
+ghost use Rattle.meaning.specs.Number.{choose};
+ghost use Rattle.meaning.specs.Row.{width, settled};
+ghost use Rattle.meaning.specs.Step.{row, noRow, combined, renewed, outside, removed};
+ghost use Rattle.engines.specs.Row.{Small, Fit, Tested};
+ghost use Rattle.engines.specs.Table.{rowAt, tableOf, Put, Renewed, Ready};
+ghost use Rattle.engines.specs.Turn.{Turned};
+use crate::row::settle;
+use crate::row::sum;
+use chain::Chain;
+
+// How a step, or a turn, ends: done; with a row that does not fit; or with D zero, before the step.
+pub(crate) enum Turn {
+    Done,
+    NoFit,
+    NoWay,
+}
+
+// A cell of a row that the row of a state is put into: x of the row, p of the state's row, w the weight to the state.
+fn merge(x: u64, d: u64, w: u64, p: u64, gone: bool) -> u64
+    requires { ⌜ (x ≤ M) × (d ≤ M) × (w ≤ M) × (p ≤ M) ⌝ }
+    ensures { λ r. ⌜ r ≡ choose gone 0 (x * d + w * p) ⌝ }
+{
+    if gone { 0 } else { x * d + w * p }
+}
+
+// Puts the row of state s, whose D is d, in the place of a row's weight to s.
+pub(crate) fn combine(row: &mut [u64], pivot: &[u64; Chain::WIDTH], s: usize, d: u64)
+    requires { ⌜ (s < length (now row)) × (length (now row) ≤ width mostStates) × (d ≤ M) × Small (length (now row)) (now row) × Small (length (now row)) (now pivot) ⌝ }
+    ensures { λ _. ⌜ now (row .exit) ≡ combined s d (now (pivot .entry)) (now (row .entry)) ⌝ }
+{
+    let w = row[s];
+    let mut j = 0;
+    while j < row.len() {
+        row[j] = merge(row[j], d, w, pivot[j], j == s);
+        j += 1;
+    }
+}
+
+// The row of another state, which has a weight to s, once s is removed. Answers whether it fits.
+fn change(
+    row: &mut [u64],
+    n: usize,
+    s: usize,
+    d: u64,
+    pivot: &[u64; Chain::WIDTH],
+    rounding: bool,
+) -> bool
+    requires { ⌜ (length (now row) ≡ n + 4) × (n ≤ mostStates) × (s < n) × (d ≤ M) × Fit rounding n (now row) × Fit rounding n (now pivot) ⌝ }
+    ensures { λ r. ⌜ (now (row .exit) ≡ settled rounding n (combined s d (now (pivot .entry)) (now (row .entry)))) × Tested rounding n (now (row .exit)) r ⌝ }
+{
+    combine(row, pivot, s, d);
+    settle(row, n, rounding)
+}
+
+// Makes a row that of a state that is not kept.
+fn clear(row: &mut [u64], n: usize)
+    requires { ⌜ length (now row) ≡ n + 4 ⌝ }
+    ensures { λ _. ⌜ now (row .exit) ≡ noRow n ⌝ }
+{
+    let mut j = 0;
+    while j < row.len() {
+        row[j] = 0;
+        j += 1;
+    }
+}
+
+// A row once s is removed: the row of s itself where `own` holds. A row with no weight to s is only read at s.
+fn renew(
+    row: &mut [u64],
+    own: bool,
+    n: usize,
+    s: usize,
+    d: u64,
+    pivot: &[u64; Chain::WIDTH],
+    rounding: bool,
+) -> bool
+    requires { ⌜ (length (now row) ≡ n + 4) × (n ≤ mostStates) × (s < n) × (d ≤ M) × Fit rounding n (now row) × Fit rounding n (now pivot) ⌝ }
+    ensures { λ r. ⌜ (now (row .exit) ≡ renewed rounding n s d (now (pivot .entry)) own (now (row .entry))) × Tested rounding n (now (row .exit)) r ⌝ }
+{
+    if own {
+        clear(row, n);
+        return true;
+    }
+    if row[s] == 0 {
+        return true;
+    }
+    change(row, n, s, d, pivot, rounding)
+}
+
+// Renews row i of the table. The rest of the work table is as it was.
+fn renew_row(
+    work: &mut [u64],
+    i: usize,
+    n: usize,
+    s: usize,
+    d: u64,
+    pivot: &[u64; Chain::WIDTH],
+    rounding: bool,
+) -> bool
+    requires { ⌜ (n * (n + 4) ≤ length (now work)) × (n ≤ mostStates) × (i < n) × (s < n) × (d ≤ M) × Fit rounding n (rowAt n (now work) i) × Fit rounding n (now pivot) ⌝ }
+    ensures { λ r. ⌜ Put n (now (work .entry)) i (renewed rounding n s d (now (pivot .entry)) (eqb i s) (rowAt n (now (work .entry)) i)) (now (work .exit)) × Tested rounding n (renewed rounding n s d (now (pivot .entry)) (eqb i s) (rowAt n (now (work .entry)) i)) r ⌝ }
+{
+    let m = n + 4;
+    let a = i * m;
+    let e = a + m;
+    renew(&mut work[a..e], i == s, n, s, d, pivot, rounding)
+}
+
+// A copy of a row.
+fn load(row: &[u64]) -> [u64; Chain::WIDTH]
+    requires { ⌜ length (now row) ≤ width mostStates ⌝ }
+    ensures { λ r. ⌜ ((j : ℕ) → getD r j 0 ≡ getD (now (row .entry)) j 0) ⌝ }
+{
+    let mut p = [0u64; Chain::WIDTH];
+    let mut j = 0;
+    while j < row.len() {
+        p[j] = row[j];
+        j += 1;
+    }
+    p
+}
+
+// D of state s, whose row this is.
+pub(crate) fn beside(row: &[u64], n: usize, s: usize, rounding: bool) -> u64
+    requires { ⌜ (length (now row) ≡ n + 4) × (s < n) × Fit rounding n (now row) ⌝ }
+    ensures { λ r. ⌜ (r ≡ outside n s (now (row .entry))) × (r ≤ M) ⌝ }
+{
+    sum(row, n + 3) - row[s]
+}
+
+// Renews each row, up to the first that does not fit. Answers whether all fit.
+fn renew_all(
+    work: &mut [u64],
+    n: usize,
+    s: usize,
+    d: u64,
+    pivot: &[u64; Chain::WIDTH],
+    rounding: bool,
+) -> bool
+    requires { ⌜ Ready rounding n (now work) × (s < n) × (d ≤ M) × Fit rounding n (now pivot) ⌝ }
+    ensures { λ r. ⌜ Renewed rounding (λ k. renewed rounding n s d (now (pivot .entry)) (eqb k s) (rowAt n (now (work .entry)) k)) n (now (work .entry)) (now (work .exit)) r ⌝ }
+{
+    let mut i = 0;
+    while i < n {
+        if !renew_row(work, i, n, s, d, pivot, rounding) {
+            return false;
+        }
+        i += 1;
+    }
+    true
+}
+
+// Removes the state s from the table.
+pub(crate) fn remove(work: &mut [u64], n: usize, s: usize, rounding: bool) -> Turn
+    requires { ⌜ Ready rounding n (now work) × (s < n) ⌝ }
+    ensures { λ r. ⌜ Turned rounding n (outside n s (row (tableOf n (now (work .entry))) s) ≡ 0) (removed rounding n s (tableOf n (now (work .entry)))) (now (work .entry)) (now (work .exit)) r ⌝ }
+{
+    let m = n + 4;
+    let a = s * m;
+    let e = a + m;
+    let d = beside(&work[a..e], n, s, rounding);
+    if d == 0 {
+        return Turn::NoWay;
+    }
+    let pivot = load(&work[a..e]);
+    if renew_all(work, n, s, d, &pivot, rounding) {
+        return Turn::Done;
+    }
+    Turn::NoFit
+}
