@@ -7,3 +7,8 @@ pub mod Refusal
 pub mod Stop
 pub mod Outcome
 pub mod Survey
+pub mod Block
+pub mod File
+pub mod Text
+pub mod Report
+pub mod Call

@@ -43,3 +43,5 @@ pub mod Counted
 pub mod Entries
 pub mod DemandTwo
 pub mod DemandThree
+pub mod Small
+pub mod FileOne

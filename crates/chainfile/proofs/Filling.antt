@@ -1,0 +1,105 @@
+-- A table that is filled from the front, and the numbers that go into it.
+use Prim.Native.Nat.{ℕ, zero, suc, _+_, _*_, _-_, _/_, _%_, _≤_, _<_}
+use mathlib.Core.Path.{_≡_, refl, sym, ap, _∙_}
+use mathlib.Core.Logic.{⊎-elim, inl, inr}
+use mathlib.Core.List.{List}
+use native.Mathlib.Nat.{add-zero}
+use native.Mathlib.Omega.{arith}
+use lib.ListN.{length, getD, set, drop, length-set, length-append, length-drop, List·getD-append}
+use lib.Seq.{ext-getD, getD-set-same, getD-set-other, getD-append-add, getD-drop}
+use Rattle.meaning.specs.Number.{sumTo, tabFrom}
+use Rattle.meaning.specs.Chain.{mostStates, mostEdges, edgeSize}
+use Rattle.meaning.specs.Block.{Input, byte, numberAt, headStates, stateAt, fromIn, toIn, weightIn}
+use Rattle.meaning.specs.File.{Tables, Short, filled, denominatorsIn, ordersIn, edgeNumber}
+use Rattle.theory.specs.Sum.{below, last-or-below}
+use Rattle.theory.specs.Tab.{tab-at, tab-length}
+
+-- The entries before k are new, the others as they were.
+pub record Filled (f : ℕ → ℕ) (before : List ℕ) (k : ℕ) (table : List ℕ) : Type 0 where
+  pub size : length table ≡ length before
+  pub new : (j : ℕ) → j < k → getD table j 0 ≡ f j
+  pub old : (j : ℕ) → k ≤ j → getD table j 0 ≡ getD before j 0
+
+-- Where an entry of the list at the front of a table lies, and where one of the table's own.
+filled-front : (l t : List ℕ) (j : ℕ) → j < length l → getD (filled l t) j 0 ≡ getD l j 0
+filled-front l t j h = List·getD-append l (drop (length l) t) 0 j h
+
+filled-past : (l t : List ℕ) (j : ℕ) → length l ≤ j → getD (filled l t) j 0 ≡ getD t j 0
+filled-past l t j h =
+    let e : length l + (j - length l) ≡ j = omega arith in
+    ap (λ z. getD (filled l t) z 0) (sym e) ∙ getD-append-add l (drop (length l) t) (j - length l) 0
+    ∙ getD-drop (length l) t (j - length l) 0
+    ∙ ap (λ z. getD t z 0) e
+
+module _ {f : ℕ → ℕ} {before : List ℕ} where
+  pub none : Filled f before 0 before
+  none = record { size = refl; new = λ j h. absurd (omega arith); old = λ j h. refl }
+
+  module _ {k : ℕ} {table : List ℕ} (w : Filled f before k table) where
+    pub more : (i : ℕ) {v : ℕ} (k′ : ℕ) → i ≡ k → k′ ≡ k + 1 → k < length before → v ≡ f i → Filled f before k′ (set table i v)
+    more i {v} k′ p q h e =
+        record {
+          size = simp length-set (w .size);
+          new =
+              λ j b.
+              last-or-below {j = j} {n = i} (omega arith)
+              (λ z. rw z (getD-set-same table i v 0 (omega (arith, w .size)) ∙ e))
+              (λ l. getD-set-other table i j v 0 (λ z. omega arith) ∙ w .new j (omega arith));
+          old = λ j b. getD-set-other table i j v 0 (λ z. omega arith) ∙ w .old j (omega arith);
+        }
+
+    pub all : (n : ℕ) → k ≡ n → n ≤ length before → table ≡ filled (tabFrom 0 n f) before
+    all n e h =
+        let l = tabFrom 0 n f in
+        let m : length l ≡ n = tab-length 0 n f in
+        ext-getD 0 table (filled l before)
+        (w .size ∙ sym (length-append l (drop (length l) before) ∙ rw (length-drop (length l) before, m) (omega arith)))
+        (λ j b.
+        ⊎-elim
+        (λ (q : j < n). w .new j (omega arith) ∙ sym (filled-front l before j (omega arith) ∙ tab-at n f 0 j q))
+        (λ (q : n ≤ j). w .old j (omega arith) ∙ sym (filled-past l before j (omega arith)))
+        (below j n))
+
+-- Two lists of the same numbers.
+pub tab-same : (i n : ℕ) (f g : ℕ → ℕ) → ((j : ℕ) → f j ≡ g j) → tabFrom i n f ≡ tabFrom i n g
+unfolding tabFrom
+tab-same i zero f g h = refl
+tab-same i (suc n) f g h = rw (h i, tab-same (suc i) n f g h)
+
+-- Numbers 3e, 3e + 1 and 3e + 2 of the edges are from, to and weight of edge e.
+module _ (f : Input) (e : ℕ) where
+  pub number-from : (j : ℕ) → j ≡ 3 * e → edgeNumber f j ≡ fromIn f e
+  number-from j h = let m : j % 3 ≡ 0 = omega arith in let d : j / 3 ≡ e = omega arith in rw (m, d)
+
+  pub number-to : (j : ℕ) → j ≡ 3 * e + 1 → edgeNumber f j ≡ toIn f e
+  number-to j h = let m : j % 3 ≡ 1 = omega arith in let d : j / 3 ≡ e = omega arith in rw (m, d)
+
+  pub number-weight : (j : ℕ) → j ≡ 3 * e + 2 → edgeNumber f j ≡ weightIn f e
+  number-weight j h = let m : j % 3 ≡ 2 = omega arith in let d : j / 3 ≡ e = omega arith in rw (m, d)
+
+-- Tables that are not short have room for the largest chain.
+pub record Room (t : Tables) : Type 0 where
+  pub for-denominators : mostStates ≤ length (t .denominators)
+  pub for-edges : edgeSize * mostEdges ≤ length (t .edges)
+  pub for-order : mostStates ≤ length (t .order)
+  pub for-rewards : mostStates ≤ length (t .rewards)
+
+pub room : (t : Tables) → (Short t → ⊥) → Room t
+room t s =
+    let d : length (t .denominators) < mostStates → ⊥ = λ h. s (inl h) in
+    let e : length (t .edges) < edgeSize * mostEdges → ⊥ = λ h. s (inr (inl h)) in
+    let o : length (t .order) < mostStates → ⊥ = λ h. s (inr (inr (inl h))) in
+    let r : length (t .rewards) < mostStates → ⊥ = λ h. s (inr (inr (inr h))) in
+    record { for-denominators = omega arith; for-edges = omega arith; for-order = omega arith; for-rewards = omega arith }
+
+one-byte : (f : Input) (j : ℕ) → numberAt f j 1 ≡ byte f j
+unfolding sumTo
+one-byte f j = rw add-zero (omega arith)
+
+-- A denominator begins its record, and an order's entry is one byte.
+module _ (f : Input) (t : List ℕ) where
+  pub denominators-are : filled (tabFrom 0 (headStates f) (λ i. numberAt f (stateAt i + 0) 4)) t ≡ filled (denominatorsIn f) t
+  denominators-are = ap (λ l. filled l t) (tab-same 0 (headStates f) _ _ (λ j. ap (λ z. numberAt f z 4) (add-zero (stateAt j))))
+
+  pub orders-are : filled (tabFrom 0 (headStates f) (λ i. numberAt f (stateAt i + 7) 1)) t ≡ filled (ordersIn f) t
+  orders-are = ap (λ l. filled l t) (tab-same 0 (headStates f) _ _ (λ j. one-byte f (stateAt j + 7)))

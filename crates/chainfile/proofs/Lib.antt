@@ -1,0 +1,9 @@
+pub mod Law
+pub mod Digits
+pub mod Fletcher
+pub mod Turn
+pub mod Content
+pub mod Tested
+pub mod Filling
+pub mod Flags
+pub mod Unique

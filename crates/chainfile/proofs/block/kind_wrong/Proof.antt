@@ -1,0 +1,41 @@
+use Prim.Native.Nat.{_*_}
+use mathlib.Core.Path.{_≡_, refl, _∙_, ap}
+use mathlib.Core.Logic.{⊎-elim, inl, inr}
+use mathlib.Core.List.{[]}
+use lib.ListN.{getD}
+use borrow.Author.Needs.{needs}
+use native.Mathlib.Nat.{add-zero}
+use Rattle.chainfile.proofs.Law.{differs, agrees}
+use Rattle.chainfile.proofs.block.kind_wrong.Statement.{statement}
+use Rattle.chainfile.proofs.block.kind_wrong.Tie as tie
+
+-- The kind is a block's first byte.
+first : (c : tie.After-byte) → let a = c .before .before .args in c .byte .result ≡ getD (a .kept .now) (512 * a .b) 0
+first c = c .byte .ensures .0 ∙ ap (λ z. getD (c .before .before .args .kept .now) z 0) (add-zero _)
+
+returns : tie.Need-returns
+returns c = inl (differs (first (c .before .before)) (c .before .kind .ensures) (c .if1 .taken))
+
+returns-2 : tie.Need-returns-2
+returns-2 c = inr (differs (c .before .byte2 .ensures .0) refl (c .if2 .taken))
+
+returns-3 : tie.Need-returns-3
+returns-3 c =
+    let a = c .before .before in
+    ⊎-elim
+    (λ bad. bad (agrees (first (a .before .before)) (a .before .kind .ensures) (a .if1 .left)))
+    (λ bad. bad (agrees (c .before .byte2 .ensures .0) refl (c .if2 .left)))
+
+pub kind-wrong-spec : {M : Type 1} → statement M
+kind-wrong-spec =
+    tie.close
+    (tie.spec
+    (λ c. search needs)
+    (λ c. search needs)
+    (λ c κs. search needs)
+    (λ c κs. search needs)
+    returns
+    (λ c. search needs)
+    (λ c κs. search needs)
+    returns-2
+    returns-3)

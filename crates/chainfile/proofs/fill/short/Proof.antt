@@ -1,0 +1,24 @@
+use mathlib.Core.Logic.{⊎-elim, inl, inr}
+use mathlib.Core.List.{[]}
+use native.Mathlib.Omega.{arith}
+use borrow.Author.Needs.{needs}
+use Rattle.chainfile.proofs.fill.short.Statement.{statement}
+use Rattle.chainfile.proofs.fill.short.Tie as tie
+
+returns : tie.Need-returns
+returns c = inl (c .if1 .taken)
+
+returns-2 : tie.Need-returns-2
+returns-2 c = inr (inl (c .if2 .taken))
+
+returns-3 : tie.Need-returns-3
+returns-3 c = inr (inr (inl (c .if3 .taken)))
+
+returns-4 : tie.Need-returns-4
+returns-4 c = inr (inr (inr (c .if4 .taken)))
+
+returns-5 : tie.Need-returns-5
+returns-5 c = ⊎-elim (λ h. omega arith) (⊎-elim (λ h. omega arith) (⊎-elim (λ h. omega arith) (λ h. omega arith)))
+
+pub short-spec : {M : Type 1} → statement M
+short-spec = tie.close (tie.spec returns (λ c. search needs) returns-2 returns-3 returns-4 returns-5)

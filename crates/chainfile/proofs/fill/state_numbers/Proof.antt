@@ -1,0 +1,65 @@
+use Prim.Native.Nat.{_+_, _-_, _≤_}
+use mathlib.Core.Path.{refl, _∙_, ap}
+use mathlib.Core.List.{[]}
+use native.Mathlib.Omega.{arith}
+use borrow.Author.Needs.{needs}
+use Rattle.meaning.specs.Block.{numberAt, stateAt}
+use Rattle.chainfile.specs.Input.{input}
+use Rattle.chainfile.proofs.Filling.{Filled, none, more, all}
+use Rattle.chainfile.proofs.fill.state_numbers.Statement.{statement}
+use Rattle.chainfile.proofs.fill.state_numbers.Tie as tie
+
+abbrev Inv-loop : tie.InvT-loop
+Inv-loop kept offset width table₀ count i₀ table i = (i ≤ count) × Filled (λ k. numberAt (input kept 0) (stateAt k + offset) width) table₀ i table
+
+abbrev μ-loop : tie.MeasureT-loop
+μ-loop kept offset width table₀ count i₀ table i = count - i
+
+loop-holds : tie.Need-loop-holds Inv-loop μ-loop
+loop-holds c = (search needs, none)
+
+record-at-requires : tie.Need-record-at-requires Inv-loop μ-loop
+record-at-requires c κs = omega arith
+
+add-number : tie.Need-add-number Inv-loop μ-loop
+add-number c = omega arith
+
+number-requires : tie.Need-number-requires Inv-loop μ-loop
+number-requires c κs = omega arith
+
+slice-write-table : tie.Need-slice-write-table Inv-loop μ-loop
+slice-write-table c = omega arith
+
+loop-again : tie.Need-loop-again Inv-loop μ-loop
+loop-again c =
+    let at = c .before .before .before in
+    let a = at .before .before .before .before .args in (
+      search needs,
+      more (at .loop .inv .1) _ _ refl refl (omega arith)
+          (c .number .ensures .0 ∙ ap (λ z. numberAt (input (a .kept .now) 0) (z + a .offset) (a .width)) (c .before .record-at .ensures .0)),
+    )
+
+same-length : tie.Need-same-length Inv-loop μ-loop
+same-length c = c .before .loop .inv .1 .size
+
+returns : tie.Need-returns Inv-loop μ-loop
+returns c = let at = c .before in all (at .loop .inv .1) _ (omega (arith, at .before .states .ensures .0)) (search needs)
+
+pub state-numbers-spec : {M : Type 1} → statement M
+state-numbers-spec =
+    tie.close
+    (tie.spec
+    Inv-loop
+    μ-loop
+    (λ c κs. search needs)
+    loop-holds
+    record-at-requires
+    add-number
+    number-requires
+    (λ c. search needs)
+    slice-write-table
+    (λ c. search needs)
+    (λ c. search needs)
+    loop-again
+    same-length
+    returns)

@@ -1,0 +1,43 @@
+use Prim.Native.Nat.{_+_, _*_, _-_}
+use mathlib.Core.List.{[]}
+use native.Mathlib.Omega.{arith}
+use borrow.Author.Needs.{needs}
+use Rattle.chain.proofs.Law.{Passed, pass, holds, fails}
+use Rattle.chainfile.specs.Input.{NonZero}
+use Rattle.chainfile.proofs.records.reserved_wrong.Statement.{statement}
+use Rattle.chainfile.proofs.records.reserved_wrong.Tie as tie
+
+abbrev Inv-loop : tie.InvT-loop
+Inv-loop kept at count i₀ i = Passed (λ k. NonZero kept (at + 8 * k + 2) (at + 8 * k + 4)) count i
+
+abbrev μ-loop : tie.MeasureT-loop
+μ-loop kept at count i₀ i = count - i
+
+returns : tie.Need-returns Inv-loop μ-loop
+returns c =
+    let at = c .before .before .before in
+    record { which = at .loop .i; below = search needs; other = holds _ (c .before .written .ensures) (c .if1 .taken) }
+
+loop-again : tie.Need-loop-again Inv-loop μ-loop
+loop-again c = pass (c .before .before .before .loop .inv) (search needs) (fails _ (c .before .written .ensures) (c .if1 .left))
+
+returns-2 : tie.Need-returns-2 Inv-loop μ-loop
+returns-2 c = λ bad. c .before .loop .inv .1 (bad .which) (omega (arith, bad .below)) (bad .other)
+
+pub reserved-wrong-spec : {M : Type 1} → statement M
+reserved-wrong-spec =
+    tie.close
+    (tie.spec
+    Inv-loop
+    μ-loop
+    (λ c. search needs)
+    (λ c. search needs)
+    (λ c. search needs)
+    (λ c. search needs)
+    (λ c. search needs)
+    (λ c κs. search needs)
+    returns
+    (λ c. search needs)
+    (λ c. search needs)
+    loop-again
+    returns-2)

@@ -1,0 +1,146 @@
+// The test of one block: 21 to 24 in turn.
+ghost use mathlib.Core.Path.{_≡_};
+ghost use Prim.Native.Nat.{ℕ, _*_, _-_, _≤_, _<_, min};
+ghost use Rattle.meaning.specs.Block.{fullBlock};
+ghost use Rattle.meaning.specs.File.{CheckFault, PlaceFault, KindFault, ContentFault, kindOf, countOf};
+ghost use Rattle.chain.specs.Least.{decides};
+ghost use Rattle.chainfile.specs.Input.{input, mostBlocks};
+ghost use Rattle.chainfile.specs.Tells.{tested};
+use crate::bytes;
+use crate::check;
+use crate::head;
+use crate::layout;
+use crate::records;
+
+// What a test of a block finds.
+pub(crate) enum Block {
+    Right,
+    Wrong(u32),
+}
+
+// 21: the check is wrong.
+fn check_wrong(kept: &[u8], b: usize) -> bool
+    requires { ⌜ b < mostBlocks ⌝ }
+    ensures { λ r. ⌜ decides (CheckFault (input (now (kept .entry)) 0) b) r ⌝ }
+{
+    let at = layout::BLOCK * b;
+    let sums = check::fletcher(kept, at, layout::CHECKED, check::MODULUS, check::BEGIN);
+    if bytes::byte(kept, at + layout::CHECKED) != sums.first {
+        return true;
+    }
+    if bytes::byte(kept, at + layout::CHECKED + 1) != sums.second {
+        return true;
+    }
+    false
+}
+
+// 22: the block number is not the block's place.
+fn place_wrong(kept: &[u8], b: usize) -> bool
+    requires { ⌜ b < mostBlocks ⌝ }
+    ensures { λ r. ⌜ decides (PlaceFault (input (now (kept .entry)) 0) b) r ⌝ }
+{
+    let place = b as u64;
+    if bytes::number(kept, layout::BLOCK * b + layout::PLACE, layout::PAIR) != place {
+        return true;
+    }
+    false
+}
+
+// The kind whose turn it is.
+fn kind(kept: &[u8], b: usize) -> u64
+    ensures { λ r. ⌜ r ≡ kindOf (input (now (kept .entry)) 0) b ⌝ }
+{
+    if b == 0 {
+        return layout::HEAD;
+    }
+    if b <= head::state_blocks(kept) {
+        return layout::STATE;
+    }
+    layout::EDGE
+}
+
+// 23: kind or version wrong, or kind out of turn.
+fn kind_wrong(kept: &[u8], b: usize) -> bool
+    requires { ⌜ b < mostBlocks ⌝ }
+    ensures { λ r. ⌜ decides (KindFault (input (now (kept .entry)) 0) b) r ⌝ }
+{
+    let at = layout::BLOCK * b;
+    if bytes::byte(kept, at + layout::KIND) != kind(kept, b) {
+        return true;
+    }
+    if bytes::byte(kept, at + layout::VERSION) != layout::FORMAT {
+        return true;
+    }
+    false
+}
+
+// How many of so many records block k of their kind holds.
+fn held(records: usize, k: usize) -> usize
+    requires { ⌜ k < mostBlocks ⌝ }
+    ensures { λ r. ⌜ r ≡ min fullBlock (records - fullBlock * k) ⌝ }
+{
+    let before = layout::FULL * k;
+    if records <= before {
+        return 0;
+    }
+    let left = records - before;
+    if layout::FULL < left {
+        return layout::FULL;
+    }
+    left
+}
+
+// How many records the block holds.
+fn count(kept: &[u8], b: usize) -> usize
+    requires { ⌜ b < mostBlocks ⌝ }
+    ensures { λ r. ⌜ (r ≡ countOf (input (now (kept .entry)) 0) b) × (r ≤ fullBlock) ⌝ }
+{
+    let kind = kind(kept, b);
+    match kind {
+        layout::HEAD => 1,
+        layout::STATE => held(head::states(kept), b - 1),
+        _ => held(head::edges(kept), b - 1 - head::state_blocks(kept)),
+    }
+}
+
+// 24: count, flag or reserved byte wrong.
+fn content_wrong(kept: &[u8], b: usize) -> bool
+    requires { ⌜ b < mostBlocks ⌝ }
+    ensures { λ r. ⌜ ((more : ℕ) → decides (ContentFault (input (now (kept .entry)) more) b) r) ⌝ }
+{
+    let at = layout::BLOCK * b;
+    let begin = at + layout::RECORDS;
+    let count = count(kept, b);
+    if bytes::number(kept, at + layout::COUNT, layout::PAIR) != count as u64 {
+        return true;
+    }
+    if bytes::written(kept, begin + layout::RECORD * count, at + layout::CHECKED) {
+        return true;
+    }
+    let kind = kind(kept, b);
+    match kind {
+        layout::HEAD => records::head_wrong(kept),
+        layout::STATE => records::flag_wrong(kept, begin, count),
+        _ => records::reserved_wrong(kept, begin, count),
+    }
+}
+
+// The first of 21 to 24 that applies to the block.
+pub(crate) fn test(kept: &[u8], b: usize) -> Block
+    requires { ⌜ b < mostBlocks ⌝ }
+    ensures { λ r. ⌜ ((more : ℕ) → tested (input (now (kept .entry)) more) b r) ⌝ }
+{
+    if check_wrong(kept, b) {
+        return Block::Wrong(21);
+    }
+    if place_wrong(kept, b) {
+        return Block::Wrong(22);
+    }
+    if kind_wrong(kept, b) {
+        return Block::Wrong(23);
+    }
+    if content_wrong(kept, b) {
+        return Block::Wrong(24);
+    }
+    Block::Right
+}

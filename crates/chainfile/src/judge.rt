@@ -1,0 +1,81 @@
+// A whole file: 20, the head block, the block total, and then each further block in turn.
+ghost use Prim.Native.Nat.{ℕ, _≤_};
+ghost use Rattle.meaning.specs.Block.{demanded};
+ghost use Rattle.meaning.specs.File.{LengthFault, TotalFault};
+ghost use Rattle.chain.specs.Least.{decides};
+ghost use Rattle.chainfile.specs.Input.{input, mostBlocks};
+ghost use Rattle.chainfile.specs.Tells.{further, judged};
+use crate::block;
+use crate::block::Block;
+use crate::head;
+use crate::layout;
+
+// What a file is found to be: accepted, or refused with a number at a place.
+pub(crate) enum Verdict {
+    Accepted,
+    Refused(u32, usize),
+}
+
+// 20: the file is empty, or no multiple of a block. The parts' remainders never wrap.
+fn length_wrong(kept: &[u8], more: u64) -> bool
+    ensures { λ r. ⌜ decides (LengthFault (input (now (kept .entry)) more)) r ⌝ }
+{
+    let length = kept.len() as u64;
+    let size = layout::BLOCK as u64;
+    if (length % size + more % size) % size != 0 {
+        return true;
+    }
+    if length != 0 {
+        return false;
+    }
+    if more != 0 {
+        return false;
+    }
+    true
+}
+
+// 24 at 0: the block total is not what the head demands.
+fn total_wrong(kept: &[u8], more: u64) -> bool
+    ensures { λ r. ⌜ decides (TotalFault (input (now (kept .entry)) more)) r ⌝ }
+{
+    let whole = layout::BLOCK * head::demanded(kept);
+    if whole < kept.len() {
+        return true;
+    }
+    let left = whole - kept.len();
+    if more != left as u64 {
+        return true;
+    }
+    false
+}
+
+// Each block after the head.
+fn further(kept: &[u8]) -> Verdict
+    requires { ⌜ demanded (input (now kept) 0) ≤ mostBlocks ⌝ }
+    ensures { λ r. ⌜ ((more : ℕ) → further (input (now (kept .entry)) more) r) ⌝ }
+{
+    let demanded = head::demanded(kept);
+    let mut b = 1;
+    while b < demanded {
+        if let Block::Wrong(number) = block::test(kept, b) {
+            return Verdict::Refused(number, b);
+        }
+        b += 1;
+    }
+    Verdict::Accepted
+}
+
+pub(crate) fn judge(kept: &[u8], more: u64) -> Verdict
+    ensures { λ r. ⌜ judged (input (now (kept .entry)) more) r ⌝ }
+{
+    if length_wrong(kept, more) {
+        return Verdict::Refused(20, 0);
+    }
+    if let Block::Wrong(number) = block::test(kept, 0) {
+        return Verdict::Refused(number, 0);
+    }
+    if total_wrong(kept, more) {
+        return Verdict::Refused(24, 0);
+    }
+    further(kept)
+}

@@ -1,0 +1,66 @@
+// What is wrong in the records of a block.
+ghost use Prim.Native.Nat.{_+_, _*_, _≤_};
+ghost use Rattle.meaning.specs.Block.{recordSize};
+ghost use Rattle.chain.specs.Least.{decides};
+ghost use Rattle.chainfile.specs.Input.{end};
+ghost use Rattle.chainfile.specs.Fault.{HeadFault, FlagFault, ReservedFault};
+use crate::bytes;
+use crate::head;
+use crate::layout;
+use chain::Chain;
+
+// The head's n or edges are out of bounds, or a reserved byte is not 0.
+pub(crate) fn head_wrong(kept: &[u8]) -> bool
+    ensures { λ r. ⌜ decides (HeadFault (now (kept .entry))) r ⌝ }
+{
+    let states = head::states(kept);
+    if states == 0 {
+        return true;
+    }
+    if Chain::STATES < states {
+        return true;
+    }
+    let edges = head::edges(kept);
+    if edges == 0 {
+        return true;
+    }
+    if Chain::EDGES < edges {
+        return true;
+    }
+    bytes::written(
+        kept,
+        layout::RECORDS + layout::HEAD_REST,
+        layout::RECORDS + layout::RECORD,
+    )
+}
+
+// Of `count` states' records from byte `at` on, one has a flag above 1.
+pub(crate) fn flag_wrong(kept: &[u8], at: usize, count: usize) -> bool
+    requires { ⌜ at + recordSize * count ≤ end ⌝ }
+    ensures { λ r. ⌜ decides (FlagFault (now (kept .entry)) at count) r ⌝ }
+{
+    let mut i = 0;
+    while i < count {
+        if 1 < bytes::byte(kept, at + layout::RECORD * i + layout::FLAG) {
+            return true;
+        }
+        i += 1;
+    }
+    false
+}
+
+// Of `count` edges' records from byte `at` on, one has a reserved byte that is not 0.
+pub(crate) fn reserved_wrong(kept: &[u8], at: usize, count: usize) -> bool
+    requires { ⌜ at + recordSize * count ≤ end ⌝ }
+    ensures { λ r. ⌜ decides (ReservedFault (now (kept .entry)) at count) r ⌝ }
+{
+    let mut i = 0;
+    while i < count {
+        let begin = at + layout::RECORD * i;
+        if bytes::written(kept, begin + layout::EDGE_REST, begin + layout::WEIGHT) {
+            return true;
+        }
+        i += 1;
+    }
+    false
+}

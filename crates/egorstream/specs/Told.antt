@@ -1,0 +1,54 @@
+-- The numbers of an answer in the report, and which refusals end it.
+use Prim.Native.Nat.{ℕ, _≤_}
+use mathlib.Core.Bool.{Bool, true, false}
+use mathlib.Core.List.{List, _++_}
+use Rattle.meaning.specs.Outcome.{Answer, Bounds}
+use Rattle.meaning.specs.Text.{bytesOf, decimal}
+use Rattle.meaning.specs.Report.{linesText}
+use Rattle.egorstream.specs.declared.lines.Counts.{Counts}
+use Rattle.egorstream.specs.declared.lines.Figure.{Figure}
+use Rattle.egorstream.specs.declared.lines.Limits.{Limits}
+
+abbrev pub toldFigure : Figure → Answer
+toldFigure f = record { number = f .number; place = f .place; numerator = f .numerator; denominator = f .denominator }
+
+abbrev pub toldLimits : Limits → Bounds
+toldLimits f =
+    record {
+      number = f .number;
+      place = f .place;
+      lowerNumerator = f .p;
+      lowerDenominator = f .q;
+      upperNumerator = f .s;
+      upperDenominator = f .t;
+    }
+
+-- A line: a name and what it is.
+abbrev pub lineText : List ℕ → List ℕ → List ℕ
+lineText name value = name ++ value ++ bytesOf "\n"
+
+-- The first four lines.
+abbrev pub countsText : ℕ → ℕ → ℕ → ℕ → List ℕ
+countsText states edges goals live =
+    lineText (bytesOf "states ") (decimal states)
+    ++ bytesOf "edges " ++ decimal edges ++ bytesOf "\n"
+    ++ bytesOf "goals " ++ decimal goals ++ bytesOf "\n"
+    ++ bytesOf "live " ++ decimal live ++ bytesOf "\n"
+
+-- The seven lines.
+abbrev pub toldLines : Counts → Figure → Figure → Limits → List ℕ
+toldLines c chance reward limits =
+    linesText (c .states) (c .edges) (c .goals) (c .live) (toldFigure chance) (toldFigure reward) (toldLimits limits)
+
+-- The numbers that end the report with a single line.
+pub data Ends (number : ℕ) : Type 0 where
+  chain : 1 ≤ number → number ≤ 11 → Ends number
+  file : 20 ≤ number → number ≤ 24 → Ends number
+
+abbrev pub decided : Type 0 → Bool → Type 0
+decided P true = P
+decided P false = P → ⊥
+
+-- The longest report: counts of 2, 4, 2 and 2 digits, and fractions of 21 bytes.
+abbrev pub longest : ℕ
+longest = 147

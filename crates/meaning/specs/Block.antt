@@ -1,0 +1,130 @@
+-- The blocks of a chain file: where each field of each record lies, and the check.
+use Prim.Native.Nat.{ℕ, zero, suc, _+_, _*_, _-_, _/_, _%_, _^_}
+use mathlib.Core.List.{List}
+use lib.ListN.{length, getD}
+use Rattle.meaning.specs.Number.{sumTo}
+
+-- An input: the bytes that are kept, and how many more came after them, which only count.
+pub record Input : Type 0 where
+  pub kept : List ℕ
+  pub more : ℕ
+
+abbrev pub inputLength : Input → ℕ
+inputLength f = length (f .kept) + f .more
+
+abbrev pub byte : Input → ℕ → ℕ
+byte f j = getD (f .kept) j 0
+
+-- The number in `width` bytes from byte j on, little-endian.
+abbrev pub numberAt : Input → ℕ → ℕ → ℕ
+numberAt f j width = sumTo (λ i. byte f (j + i) * 256 ^ i) width
+
+-- A block: kind, version, block number, records in this block, up to 63 records of 8 bytes, the rest zero, the check.
+abbrev pub blockSize : ℕ
+blockSize = 512
+
+abbrev pub blockAt : ℕ → ℕ
+blockAt b = blockSize * b
+
+-- Byte j of block b.
+abbrev pub blockByte : Input → ℕ → ℕ → ℕ
+blockByte f b j = byte f (blockAt b + j)
+
+abbrev pub kindAt : ℕ → ℕ
+kindAt b = blockAt b
+
+abbrev pub versionAt : ℕ → ℕ
+versionAt b = blockAt b + 1
+
+abbrev pub placeAt : ℕ → ℕ
+placeAt b = blockAt b + 2
+
+abbrev pub countAt : ℕ → ℕ
+countAt b = blockAt b + 4
+
+abbrev pub recordsAt : ℕ → ℕ
+recordsAt b = blockAt b + 6
+
+abbrev pub checkAt : ℕ → ℕ
+checkAt b = blockAt b + 510
+
+abbrev pub recordSize : ℕ
+recordSize = 8
+
+-- The most records of a block.
+abbrev pub fullBlock : ℕ
+fullBlock = 63
+
+-- Fletcher's two sums of f 0, .., f (n - 1), modulo m, both begun at s.
+unfoldable pub firstSum : ℕ → ℕ → (ℕ → ℕ) → ℕ → ℕ
+firstSum m s f zero = s
+firstSum m s f (suc n) = (firstSum m s f n + f n) % m
+
+unfoldable pub secondSum : ℕ → ℕ → (ℕ → ℕ) → ℕ → ℕ
+secondSum m s f zero = s
+secondSum m s f (suc n) = (secondSum m s f n + firstSum m s f (suc n)) % m
+
+-- The modulus of the check, and what its sums begin with.
+abbrev pub checkModulus : ℕ
+checkModulus = 255
+
+abbrev pub checkBegin : ℕ
+checkBegin = 0
+
+-- How many bytes of a block are checked: all but the check itself.
+abbrev pub checkedBytes : ℕ
+checkedBytes = 510
+
+-- How many blocks hold that many records: every block but the last of its kind is full.
+abbrev pub blocksOf : ℕ → ℕ
+blocksOf records = (records + (fullBlock - 1)) / fullBlock
+
+-- The head's one record: n (1 byte), start (1), edges (2), four zeros.
+abbrev pub headStates : Input → ℕ
+headStates f = byte f (recordsAt 0)
+
+abbrev pub headStart : Input → ℕ
+headStart f = byte f (recordsAt 0 + 1)
+
+abbrev pub headEdges : Input → ℕ
+headEdges f = numberAt f (recordsAt 0 + 2) 2
+
+-- How many blocks the head demands: itself, the states' and the edges'.
+abbrev pub stateBlocks : Input → ℕ
+stateBlocks f = blocksOf (headStates f)
+
+abbrev pub demanded : Input → ℕ
+demanded f = 1 + stateBlocks f + blocksOf (headEdges f)
+
+-- Where record i of a kind begins whose first block is b.
+abbrev pub recordAt : ℕ → ℕ → ℕ
+recordAt b i = recordsAt (b + i / fullBlock) + recordSize * (i % fullBlock)
+
+-- A state's record: denominator (4), reward (2), goal flag (1), the order's entry at that position (1).
+abbrev pub stateAt : ℕ → ℕ
+stateAt i = recordAt 1 i
+
+abbrev pub denominatorIn : Input → ℕ → ℕ
+denominatorIn f i = numberAt f (stateAt i) 4
+
+abbrev pub rewardIn : Input → ℕ → ℕ
+rewardIn f i = numberAt f (stateAt i + 4) 2
+
+abbrev pub flagIn : Input → ℕ → ℕ
+flagIn f i = byte f (stateAt i + 6)
+
+abbrev pub orderIn : Input → ℕ → ℕ
+orderIn f i = byte f (stateAt i + 7)
+
+-- An edge's record: from (1), to (1), two zeros, weight (4).
+abbrev pub edgeAt : Input → ℕ → ℕ
+edgeAt f e = recordAt (1 + stateBlocks f) e
+
+abbrev pub fromIn : Input → ℕ → ℕ
+fromIn f e = byte f (edgeAt f e)
+
+abbrev pub toIn : Input → ℕ → ℕ
+toIn f e = byte f (edgeAt f e + 1)
+
+abbrev pub weightIn : Input → ℕ → ℕ
+weightIn f e = numberAt f (edgeAt f e + 4) 4

@@ -1,0 +1,207 @@
+-- Chain files: the numbers of refusal 20 to 24 with their block, in the order in which they are tested, and the tables of a file that is accepted.
+use Prim.Native.Nat.{ℕ, _+_, _*_, _-_, _/_, _%_, _^_, _≤_, _<_, min}
+use mathlib.Core.Path.{_≡_}
+use mathlib.Core.Logic.{_⊎_}
+use mathlib.Core.List.{List, _++_}
+use lib.ListN.{length, drop}
+use lib.Dec.{eqb, leb}
+use Rattle.meaning.specs.Number.{sumTo, choose, tabFrom}
+use Rattle.meaning.specs.Chain.{mostStates, mostEdges, Chain, edgeSize}
+use Rattle.meaning.specs.Block.{
+  Input,
+  inputLength,
+  byte,
+  blockByte,
+  numberAt,
+  blockSize,
+  kindAt,
+  versionAt,
+  placeAt,
+  countAt,
+  recordsAt,
+  checkAt,
+  recordSize,
+  fullBlock,
+  firstSum,
+  secondSum,
+  checkModulus,
+  checkBegin,
+  checkedBytes,
+  headStates,
+  headStart,
+  headEdges,
+  stateBlocks,
+  demanded,
+  denominatorIn,
+  rewardIn,
+  flagIn,
+  orderIn,
+  fromIn,
+  toIn,
+  weightIn,
+}
+
+-- 20: the file is empty, or no multiple of 512.
+abbrev pub LengthFault : Input → Type 0
+LengthFault f = (inputLength f ≡ 0) ⊎ (inputLength f % blockSize ≡ 0 → ⊥)
+
+-- 21: the check is not Fletcher's two sums over bytes 0 to 509, the first sum at 510, the second at 511.
+abbrev pub CheckFault : Input → ℕ → Type 0
+CheckFault f b =
+    (byte f (checkAt b) ≡ firstSum checkModulus checkBegin (blockByte f b) checkedBytes → ⊥)
+    ⊎ (byte f (checkAt b + 1) ≡ secondSum checkModulus checkBegin (blockByte f b) checkedBytes → ⊥)
+
+-- 22: the block number is not the block's place, from 0.
+abbrev pub PlaceFault : Input → ℕ → Type 0
+PlaceFault f b = numberAt f (placeAt b) 2 ≡ b → ⊥
+
+-- The kind whose turn it is at block b: 1, one block; then 2, as many as the states need; then 3.
+abbrev pub kindOf : Input → ℕ → ℕ
+kindOf f b = choose (eqb b 0) 1 (choose (leb b (stateBlocks f)) 2 3)
+
+-- The version.
+abbrev pub version : ℕ
+version = 1
+
+-- 23: kind or version wrong, or kind out of turn.
+abbrev pub KindFault : Input → ℕ → Type 0
+KindFault f b = (byte f (kindAt b) ≡ kindOf f b → ⊥) ⊎ (byte f (versionAt b) ≡ version → ⊥)
+
+-- How many records block b holds: every block but the last of its kind is full.
+abbrev pub countOf : Input → ℕ → ℕ
+countOf f b =
+    choose (eqb b 0) 1
+    (choose (leb b (stateBlocks f)) (min fullBlock (headStates f - fullBlock * (b - 1)))
+    (min fullBlock (headEdges f - fullBlock * (b - 1 - stateBlocks f))))
+
+-- Byte j of record r of block b.
+abbrev pub recordByte : Input → ℕ → ℕ → ℕ → ℕ
+recordByte f b r j = byte f (recordsAt b + recordSize * r + j)
+
+-- 24: count, flag or reserved byte wrong; in the head also n not 1 to 64, or edges not 1 to 4,096.
+pub data ContentFault (f : Input) (b : ℕ) : Type 0 where
+  count-wrong : (numberAt f (countAt b) 2 ≡ countOf f b → ⊥) → ContentFault f b
+  rest-wrong : (j : ℕ) → recordsAt b + recordSize * countOf f b ≤ j → j < checkAt b → (byte f j ≡ 0 → ⊥) → ContentFault f b
+  states-wrong : b ≡ 0 → (headStates f ≡ 0) ⊎ (mostStates < headStates f) → ContentFault f b
+  edges-wrong : b ≡ 0 → (headEdges f ≡ 0) ⊎ (mostEdges < headEdges f) → ContentFault f b
+  head-reserved : kindOf f b ≡ 1 → (j : ℕ) → 4 ≤ j → j < recordSize → (recordByte f b 0 j ≡ 0 → ⊥) → ContentFault f b
+  flag-wrong : kindOf f b ≡ 2 → (r : ℕ) → r < countOf f b → 1 < recordByte f b r 6 → ContentFault f b
+  edge-reserved : kindOf f b ≡ 3 → (r : ℕ) → r < countOf f b → (j : ℕ) → 2 ≤ j → j < 4 → (recordByte f b r j ≡ 0 → ⊥) → ContentFault f b
+
+-- Block b is refused: 21, 22, 23 and 24 are tested in turn.
+pub data BlockRefused (f : Input) (b : ℕ) : ℕ → Type 0 where
+  check-refused : CheckFault f b → BlockRefused f b 21
+  place-refused : (CheckFault f b → ⊥) → PlaceFault f b → BlockRefused f b 22
+  kind-refused : (CheckFault f b → ⊥) → (PlaceFault f b → ⊥) → KindFault f b → BlockRefused f b 23
+  content-refused : (CheckFault f b → ⊥) → (PlaceFault f b → ⊥) → (KindFault f b → ⊥) → ContentFault f b → BlockRefused f b 24
+
+abbrev pub BlockRight : Input → ℕ → Type 0
+BlockRight f b = (number : ℕ) → BlockRefused f b number → ⊥
+
+-- 24 at 0: the block total is not what the head demands.
+abbrev pub TotalFault : Input → Type 0
+TotalFault f = inputLength f ≡ blockSize * demanded f → ⊥
+
+-- A file is refused: 20 is tested first, then the head block, then the block total, then each further block in turn.
+pub data FileRefused (f : Input) : ℕ → ℕ → Type 0 where
+  length-wrong : LengthFault f → FileRefused f 20 0
+  head-wrong : (number : ℕ) → (LengthFault f → ⊥) → BlockRefused f 0 number → FileRefused f number 0
+  total-wrong : (LengthFault f → ⊥) → BlockRight f 0 → TotalFault f → FileRefused f 24 0
+  block-wrong : (number b : ℕ) → (LengthFault f → ⊥) → (TotalFault f → ⊥) → 0 < b → b < demanded f
+      → ((a : ℕ) → a < b → BlockRight f a) → BlockRefused f b number → FileRefused f number b
+
+-- A file that meets none of 20 to 24.
+pub record Accepted (f : Input) : Type 0 where
+  pub whole : LengthFault f → ⊥
+  pub total : TotalFault f → ⊥
+  pub blocks : (b : ℕ) → b < demanded f → BlockRight f b
+
+-- The tables of an accepted file.
+abbrev pub goalsIn : Input → ℕ
+goalsIn f = sumTo (λ i. flagIn f i * 2 ^ i) (headStates f)
+
+abbrev pub denominatorsIn : Input → List ℕ
+denominatorsIn f = tabFrom 0 (headStates f) (denominatorIn f)
+
+abbrev pub rewardsIn : Input → List ℕ
+rewardsIn f = tabFrom 0 (headStates f) (rewardIn f)
+
+abbrev pub ordersIn : Input → List ℕ
+ordersIn f = tabFrom 0 (headStates f) (orderIn f)
+
+-- Number j of the list of edges: from, to and weight of each edge in turn.
+abbrev pub edgeNumber : Input → ℕ → ℕ
+edgeNumber f j =
+    choose (eqb (j % edgeSize) 0) (fromIn f (j / edgeSize))
+    (choose (eqb (j % edgeSize) 1) (toIn f (j / edgeSize)) (weightIn f (j / edgeSize)))
+
+abbrev pub edgesIn : Input → List ℕ
+edgesIn f = tabFrom 0 (edgeSize * headEdges f) (edgeNumber f)
+
+abbrev pub chainIn : Input → Chain
+chainIn f =
+    record {
+      states = headStates f;
+      start = headStart f;
+      goals = goalsIn f;
+      denominators = denominatorsIn f;
+      edges = edgesIn f;
+    }
+
+-- The tables that the reader fills, lent at the largest chain's size or more.
+pub record Tables : Type 0 where
+  pub denominators : List ℕ
+  pub edges : List ℕ
+  pub order : List ℕ
+  pub rewards : List ℕ
+
+abbrev pub Short : Tables → Type 0
+Short t =
+    (length (t .denominators) < mostStates)
+    ⊎ (length (t .edges) < edgeSize * mostEdges)
+    ⊎ (length (t .order) < mostStates)
+    ⊎ (length (t .rewards) < mostStates)
+
+-- A list at the front of a table; entries past the list's own stay.
+abbrev pub filled : List ℕ → List ℕ → List ℕ
+filled l t = l ++ drop (length l) t
+
+abbrev pub filledIn : Input → Tables → Tables
+filledIn f t =
+    record {
+      denominators = filled (denominatorsIn f) (t .denominators);
+      edges = filled (edgesIn f) (t .edges);
+      order = filled (ordersIn f) (t .order);
+      rewards = filled (rewardsIn f) (t .rewards);
+    }
+
+-- What the reader answers: a number and its block, or the head's numbers and the goals.
+pub record Reading : Type 0 where
+  pub number : ℕ
+  pub place : ℕ
+  pub states : ℕ
+  pub start : ℕ
+  pub goals : ℕ
+  pub edges : ℕ
+
+abbrev pub noReading : ℕ → ℕ → Reading
+noReading number place =
+    record { number = number; place = place; states = 0; start = 0; goals = 0; edges = 0 }
+
+abbrev pub reading : Input → Reading
+reading f =
+    record {
+      number = 0;
+      place = 0;
+      states = headStates f;
+      start = headStart f;
+      goals = goalsIn f;
+      edges = headEdges f;
+    }
+
+-- The reader gives only 2, before 20, and 20 to 24; a refusal leaves the tables.
+pub data ReadOutcome (f : Input) (before : Tables) (a : Reading) (after : Tables) : Type 0 where
+  short : Short before → a ≡ noReading 2 0 → after ≡ before → ReadOutcome f before a after
+  refused : (Short before → ⊥) → (number place : ℕ) → FileRefused f number place → a ≡ noReading number place → after ≡ before
+      → ReadOutcome f before a after
+  accepted : (Short before → ⊥) → Accepted f → a ≡ reading f → after ≡ filledIn f before → ReadOutcome f before a after

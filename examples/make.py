@@ -1,0 +1,108 @@
+#!/usr/bin/env python3
+"""Writes the example chain files beside this script. Each run writes the same bytes."""
+
+from pathlib import Path
+import struct
+
+BLOCK = 512
+RECORDS_IN_A_BLOCK = 63
+
+
+def block(kind, number, records):
+    """One block of 512 bytes: its fields, its records, zeros, and its check."""
+    body = struct.pack("<BBHH", kind, 1, number, len(records)) + b"".join(records)
+    body = body.ljust(BLOCK - 2, b"\0")
+    first = second = 0
+    for byte in body:
+        first = (first + byte) % 255
+        second = (second + first) % 255
+    return body + bytes([first, second])
+
+
+def chain_file(rows, goals, rewards=None, start=0, order=None):
+    """The bytes of a chain file.
+
+    rows     for each state, a dictionary of the weight to each target; a row's sum is its
+             denominator
+    goals    the goal states
+    rewards  the reward of each state that has one
+    order    the order in which states are removed, that of their numbers unless given
+    """
+    rewards = rewards or {}
+    order = order or list(range(len(rows)))
+    edges = [(source, to, weight) for source, row in enumerate(rows) for to, weight in row.items()]
+    states = [
+        struct.pack("<IHBB", sum(row.values()), rewards.get(i, 0), i in goals, order[i])
+        for i, row in enumerate(rows)
+    ]
+    kinds = [
+        (1, [struct.pack("<BBHI", len(rows), start, len(edges), 0)]),
+        (2, states),
+        (3, [struct.pack("<BBHI", source, to, 0, weight) for source, to, weight in edges]),
+    ]
+    blocks = []
+    for kind, records in kinds:
+        for i in range(0, len(records), RECORDS_IN_A_BLOCK):
+            blocks.append(block(kind, len(blocks), records[i : i + RECORDS_IN_A_BLOCK]))
+    return b"".join(blocks)
+
+
+def address():
+    """A host picks an address and asks four times whether it is taken. Goal 5: it has a free one.
+
+    Chance 4375/4376.
+    """
+    rows = [{5: 7, 1: 1}] + [{0: 4, probe + 1: 1} for probe in (1, 2, 3)]
+    rows += [{0: 4, 6: 1}, {5: 1}, {6: 1}]
+    return chain_file(rows, goals={5})
+
+
+def dice():
+    """A die thrown with a coin, after Knuth and Yao. The goals are the six faces.
+
+    Chance 1/1; the expected reward counts the throws of the coin: 11/3.
+    """
+    turns = [(1, 2), (3, 4), (5, 6), (1, 7), (8, 9), (10, 11), (2, 12)]
+    faces = range(7, 13)
+    rows = [{heads: 1, tails: 1} for heads, tails in turns] + [{face: 1} for face in faces]
+    return chain_file(rows, goals=set(faces), rewards={state: 1 for state in range(7)})
+
+
+def long():
+    """A night of twelve jobs. A job ends well 9,970 times in 10,000; 25 times the night begins
+    again from the first, and 5 times it is lost.
+
+    The exact numbers grow with every job and have no fit; the bounds answer.
+    """
+    jobs, done, lost = 12, 12, 13
+    rows = []
+    for job in range(jobs):
+        row = {job + 1: 9_970, lost: 5}
+        row[0] = row.get(0, 0) + 25
+        rows.append(row)
+    return chain_file(rows + [{done: 1}, {lost: 1}], goals={done})
+
+
+def backup():
+    """A backup night, in thousandths. The reward of a state is the minutes that a visit takes.
+
+    0 fetched       the day's data lie ready: 990 a copy is begun, 8 they are fetched again, 2 lost
+    1 half written  970 the copy is finished, 20 writing goes on, 9 back to fetched, 1 lost
+    2 copied        the goal
+    3 lost          nothing brings the data back
+
+    Chance 19206/19265. The reward is infinite, because a lost night is never copied.
+    """
+    rows = [
+        {1: 990, 0: 8, 3: 2},
+        {2: 970, 1: 20, 0: 9, 3: 1},
+        {2: 1},
+        {3: 1},
+    ]
+    return chain_file(rows, goals={2}, rewards={0: 4, 1: 7})
+
+
+if __name__ == "__main__":
+    here = Path(__file__).resolve().parent
+    for make in (address, dice, long, backup):
+        (here / f"{make.__name__}.chain").write_bytes(make())

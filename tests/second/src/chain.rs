@@ -1,0 +1,46 @@
+//! The chain: its tables as a chain file holds them, and its limits.
+
+/// The most states of a chain.
+pub const MOST_STATES: usize = 64;
+/// The most edges of a chain.
+pub const MOST_EDGES: usize = 4_096;
+/// The most that a denominator, a weight and a kept row's total may be.
+pub const M: u32 = 2_147_483_647;
+
+/// One edge: its probability is `weight` over the denominator of `from`.
+#[derive(Clone, Copy, Debug, PartialEq, Eq)]
+pub struct Edge {
+    pub from: u8,
+    pub to: u8,
+    pub weight: u32,
+}
+
+/// A chain as a file holds it; whether it is well formed is for `refusal` to say.
+///
+/// `denominators`, `rewards`, `goals` and `order` have one entry a state.
+#[derive(Clone, Debug, PartialEq, Eq)]
+pub struct Chain {
+    pub start: u8,
+    pub denominators: Vec<u32>,
+    pub rewards: Vec<u16>,
+    pub goals: Vec<bool>,
+    pub order: Vec<u8>,
+    pub edges: Vec<Edge>,
+}
+
+impl Chain {
+    /// n, the number of states.
+    pub fn states(&self) -> usize {
+        self.denominators.len()
+    }
+
+    /// The start state as an index.
+    pub fn start(&self) -> usize {
+        usize::from(self.start)
+    }
+
+    /// Whether the start is a goal.
+    pub fn starts_at_goal(&self) -> bool {
+        self.goals[self.start()]
+    }
+}

@@ -1,0 +1,121 @@
+//! Compares the product with this implementation, one request at a time.
+
+use crate::block::four_bytes;
+use crate::damage::Request;
+use crate::entry::{self, Pair, ANSWER, BOUNDS};
+use crate::fraction::Fraction;
+use crate::product;
+use crate::random::Random;
+use crate::report;
+use crate::tally::{Asked, Case, Tally};
+
+/// Bytes before and behind the answer that must stay as they are.
+const AROUND: usize = 24;
+
+/// Calls the C entry; compares its number, its answer and every byte around the answer. Hands back
+/// the product's answer where it gives one.
+pub fn entry(tally: &mut Tally, case: Case, request: &Request, asked: Asked) -> Option<Pair> {
+    let Request { file, mode, answer_length } = request;
+    let expected = entry::chance(file, *mode, *answer_length);
+
+    // Filled with random bytes, and at any alignment.
+    let mut random = Random::new(case.seed);
+    let start = random.between(AROUND - 8, AROUND);
+    let mut memory: Vec<u8> = (0..answer_length + 2 * AROUND).map(|_| random.byte()).collect();
+    let mut expected_memory = memory.clone();
+    if let Ok(answer) = expected {
+        expected_memory[start..start + ANSWER].copy_from_slice(&entry::bytes(answer));
+    }
+    let given = file.clone();
+    let number = product::chance(&given, *mode, &mut memory[start..start + answer_length]);
+
+    let expected_number = expected.map_or_else(|refusal| refusal.number, |_| 0);
+    let alike = number == expected_number && memory == expected_memory && given == *file;
+    tally.check(case, file, alike, || {
+        let told = |number, memory: &[u8]| match number {
+            0 => format!("the answer {:?}", numbers(&memory[start..])),
+            _ => format!("refusal {number}"),
+        };
+        let changed = (0..memory.len()).filter(|&at| memory[at] != expected_memory[at]);
+        format!(
+            "entry, mode {mode}, answer of {answer_length}: expected {}, came {}; wrong bytes, \
+             counted from the answer: {:?}; file unchanged: {}",
+            told(expected_number, &expected_memory),
+            told(number, &memory),
+            changed.map(|at| at as isize - start as isize).collect::<Vec<_>>(),
+            given == *file
+        )
+    });
+    tally.number(asked, expected_number);
+    if number != 0 || *answer_length < ANSWER {
+        return None;
+    }
+    let answer = decode(&memory[start..])?;
+    if *mode == BOUNDS && answer.0 != answer.1 {
+        tally.open_bounds += 1;
+    }
+    Some(answer)
+}
+
+/// The four numbers of an answer.
+fn numbers(answer: &[u8]) -> [u32; 4] {
+    [0, 4, 8, 12].map(|at| four_bytes(answer, at))
+}
+
+/// The two fractions of an answer; None where one is over 0, which `entry` has told of.
+fn decode(answer: &[u8]) -> Option<Pair> {
+    let [lower, lower_by, upper, upper_by] = numbers(answer).map(u128::from);
+    if lower_by == 0 || upper_by == 0 {
+        return None;
+    }
+    Some((Fraction::new(lower, lower_by), Fraction::new(upper, upper_by)))
+}
+
+/// Whether the product's bounds hold the product's exact chance.
+pub fn enclosure(tally: &mut Tally, case: Case, file: &[u8], exact: Fraction, bounds: Pair) {
+    let (lower, upper) = bounds;
+    tally.check(case, file, lower.at_most(exact) && exact.at_most(upper), || {
+        format!("the bounds {lower} and {upper} do not hold the chance {exact}")
+    });
+}
+
+/// Runs `nightchance` and compares its whole report.
+pub fn report(tally: &mut Tally, case: Case, file: &[u8]) {
+    let expected = report::of_file(file);
+    let came = product_report(file);
+    tally.check(case, file, came == expected, || {
+        format!("report: expected {expected:?}, came {came:?}")
+    });
+
+    for line in expected.lines() {
+        let words: Vec<&str> = line.split(' ').collect();
+        match words[..] {
+            ["refused" | "chance", .., "at", _] => {
+                let number = words[words.len() - 3].parse().expect("a refusal's number");
+                tally.number(Asked::Report, number);
+            }
+            ["chance", _] => tally.number(Asked::Report, 0),
+            ["reward", "refused", ..] => tally.rewards[2] += 1,
+            ["reward", "infinite"] => tally.rewards[1] += 1,
+            ["reward", _] => tally.rewards[0] += 1,
+            _ => {}
+        }
+    }
+}
+
+/// Runs `nightchance` and compares the lines of its report that are known from elsewhere.
+pub fn report_lines(tally: &mut Tally, case: Case, file: &[u8], expected: &[&str]) {
+    let came = product_report(file);
+    for line in expected {
+        tally.check(case, file, came.lines().any(|other| other == *line), || {
+            format!("report: expected the line {line:?}, came {came:?}")
+        });
+    }
+}
+
+fn product_report(file: &[u8]) -> String {
+    match product::report(file) {
+        Ok(bytes) => String::from_utf8_lossy(&bytes).into_owned(),
+        Err(error) => format!("nothing: {error}"),
+    }
+}

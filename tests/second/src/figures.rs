@@ -1,0 +1,54 @@
+//! The three figures of a chain that gives no refusal 3 to 11.
+//!
+//! The equations alone give the chance and the reward; the steps only say whether they fit.
+
+use crate::chain::Chain;
+use crate::equations;
+use crate::fraction::Fraction;
+use crate::live::Reach;
+use crate::refusal::Refusal;
+use crate::steps::{last_row, Figure};
+
+/// The exact chance, or refusal 12.
+pub fn chance(chain: &Chain, reach: &Reach) -> Result<Fraction, Refusal> {
+    if let Some(known) = known_chance(chain, reach) {
+        return Ok(known);
+    }
+    last_row(chain, reach, Figure::Chance)?;
+    Ok(equations::chance(chain, reach).fraction().expect("a chance whose steps fit is at most M"))
+}
+
+/// The expected reward, None where it is infinite, or refusal 12.
+pub fn reward(chain: &Chain, reach: &Reach) -> Result<Option<Fraction>, Refusal> {
+    if chain.starts_at_goal() {
+        return Ok(Some(Fraction::ZERO));
+    }
+    if reach.reward_is_infinite() {
+        return Ok(None);
+    }
+    last_row(chain, reach, Figure::Reward)?;
+    let reward = equations::reward(chain, reach).fraction();
+    Ok(Some(reward.expect("a reward whose steps fit is at most M")))
+}
+
+/// The lower and the upper bound of the chance. They are never refused: rounding makes rows fit.
+pub fn bounds(chain: &Chain, reach: &Reach) -> (Fraction, Fraction) {
+    if let Some(known) = known_chance(chain, reach) {
+        return (known, known);
+    }
+    let Ok(row) = last_row(chain, reach, Figure::Bounds) else {
+        unreachable!("the bounds were refused");
+    };
+    (row.lower, row.upper)
+}
+
+/// The chance where no row is made: the start is a goal or is not live.
+fn known_chance(chain: &Chain, reach: &Reach) -> Option<Fraction> {
+    if chain.starts_at_goal() {
+        Some(Fraction::ONE)
+    } else if !reach.live[chain.start()] {
+        Some(Fraction::ZERO)
+    } else {
+        None
+    }
+}

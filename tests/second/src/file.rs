@@ -1,0 +1,135 @@
+//! The writer and the reader of chain files.
+
+use crate::block::{self, four_bytes, two_bytes, RECORD, RECORDS};
+use crate::chain::{Chain, Edge, MOST_EDGES, MOST_STATES};
+use crate::refusal::Refusal;
+
+/// The most blocks of a chain file.
+pub const MOST_BLOCKS: usize = 1 + MOST_STATES.div_ceil(RECORDS) + MOST_EDGES.div_ceil(RECORDS);
+
+/// The chain file that holds these tables, well formed or not.
+pub fn write(chain: &Chain) -> Vec<u8> {
+    let edge_count = (chain.edges.len() as u16).to_le_bytes();
+    let head = [chain.states() as u8, chain.start, edge_count[0], edge_count[1], 0, 0, 0, 0];
+    let states: Vec<[u8; RECORD]> = (0..chain.states()).map(|i| state_record(chain, i)).collect();
+    let edges: Vec<[u8; RECORD]> = chain.edges.iter().map(edge_record).collect();
+
+    let mut file = block::build(block::HEAD, 0, &[head]).to_vec();
+    for (kind, records) in [(block::STATES, states), (block::EDGES, edges)] {
+        for part in records.chunks(RECORDS) {
+            let number = file.len() / block::LENGTH;
+            file.extend(block::build(kind, number, part));
+        }
+    }
+    file
+}
+
+fn state_record(chain: &Chain, i: usize) -> [u8; RECORD] {
+    let d = chain.denominators[i].to_le_bytes();
+    let r = chain.rewards[i].to_le_bytes();
+    [d[0], d[1], d[2], d[3], r[0], r[1], u8::from(chain.goals[i]), chain.order[i]]
+}
+
+fn edge_record(edge: &Edge) -> [u8; RECORD] {
+    let w = edge.weight.to_le_bytes();
+    [edge.from, edge.to, 0, 0, w[0], w[1], w[2], w[3]]
+}
+
+/// The tables that a chain file holds, or the refusal 20 to 24 that it gives.
+pub fn read(file: &[u8]) -> Result<Chain, Refusal> {
+    if file.is_empty() || !file.len().is_multiple_of(block::LENGTH) {
+        return Err(Refusal { number: 20, place: 0 });
+    }
+    let blocks: Vec<&[u8]> = file.chunks(block::LENGTH).collect();
+    let head = records(blocks[0], 0, block::HEAD, 1)?[0];
+    let n = usize::from(head[0]);
+    let edge_count = usize::from(two_bytes(head, 2));
+    let head_fits = (1..=MOST_STATES).contains(&n)
+        && (1..=MOST_EDGES).contains(&edge_count)
+        && head[4..] == [0; 4];
+    let state_blocks = n.div_ceil(RECORDS);
+    if !head_fits || blocks.len() != 1 + state_blocks + edge_count.div_ceil(RECORDS) {
+        return Err(Refusal { number: 24, place: 0 });
+    }
+
+    let mut chain = Chain {
+        start: head[1],
+        denominators: Vec::new(),
+        rewards: Vec::new(),
+        goals: Vec::new(),
+        order: Vec::new(),
+        edges: Vec::new(),
+    };
+    for (place, bytes) in blocks.iter().enumerate().skip(1) {
+        if place <= state_blocks {
+            let rest = n - chain.states();
+            for record in records(bytes, place, block::STATES, rest.min(RECORDS))? {
+                if record[6] > 1 {
+                    return Err(Refusal { number: 24, place });
+                }
+                chain.denominators.push(four_bytes(record, 0));
+                chain.rewards.push(two_bytes(record, 4));
+                chain.goals.push(record[6] == 1);
+                chain.order.push(record[7]);
+            }
+        } else {
+            let rest = edge_count - chain.edges.len();
+            for record in records(bytes, place, block::EDGES, rest.min(RECORDS))? {
+                if record[2..4] != [0; 2] {
+                    return Err(Refusal { number: 24, place });
+                }
+                let weight = four_bytes(record, 4);
+                chain.edges.push(Edge { from: record[0], to: record[1], weight });
+            }
+        }
+    }
+    Ok(chain)
+}
+
+/// The records of the block at `place`, which must be of this kind and have this count.
+///
+/// Tests what all kinds share, in its order: 21, 22, 23, 24.
+fn records(bytes: &[u8], place: usize, kind: u8, count: usize) -> Result<Vec<&[u8]>, Refusal> {
+    let end = block::FIRST_RECORD + count * RECORD;
+    let tests = [
+        (21, bytes[block::CHECK..] == block::check(bytes)),
+        (22, usize::from(two_bytes(bytes, block::NUMBER)) == place),
+        (23, bytes[block::KIND] == kind && bytes[block::VERSION] == 1),
+        (24, usize::from(two_bytes(bytes, block::COUNT)) == count),
+        (24, bytes[end..block::CHECK].iter().all(|&byte| byte == 0)),
+    ];
+    match tests.iter().find(|(_, holds)| !holds) {
+        Some(&(number, _)) => Err(Refusal { number, place }),
+        None => Ok(bytes[block::FIRST_RECORD..end].chunks(RECORD).collect()),
+    }
+}
+
+#[cfg(test)]
+mod tests {
+    use super::*;
+    use crate::worked;
+
+    #[test]
+    fn reads_what_it_wrote() {
+        for case in worked::chains() {
+            assert_eq!(read(&write(&case.chain)), Ok(case.chain), "{}", case.name);
+        }
+    }
+
+    #[test]
+    fn zeros_pass_the_check_and_have_no_kind() {
+        assert_eq!(read(&[0; 512]), Err(Refusal { number: 23, place: 0 }));
+    }
+
+    #[test]
+    fn empty_and_broken_lengths_are_20() {
+        for length in [0, 1, 511, 513] {
+            assert_eq!(read(&vec![0; length]), Err(Refusal { number: 20, place: 0 }));
+        }
+    }
+
+    #[test]
+    fn the_largest_chain_has_69_blocks() {
+        assert_eq!(MOST_BLOCKS, 69);
+    }
+}

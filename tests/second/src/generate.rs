@@ -1,0 +1,191 @@
+//! Families of well-formed chains.
+
+use crate::chain::{Chain, M, MOST_STATES};
+use crate::draft::Draft;
+use crate::random::Random;
+
+/// A family: a name, and what makes one of its chains.
+pub type Family = (&'static str, fn(&mut Random) -> Chain);
+
+pub const FAMILIES: [Family; 9] = [
+    ("tiny", tiny),
+    ("walk", walk),
+    ("banded", banded),
+    ("retry", retry),
+    ("dense", dense),
+    ("traps", traps),
+    ("unreachable", unreachable_states),
+    ("near M", near_m),
+    ("powers", powers),
+];
+
+/// One to four states, any edges: loops, starts that are goals, goals with edges out.
+fn tiny(random: &mut Random) -> Chain {
+    let n = random.between(1, 4);
+    let mut draft = Draft::new(n);
+    for from in 0..n {
+        for to in 0..n {
+            if random.once_in(2) {
+                draft.edge(from, to, random.between(1, 4) as u32);
+            }
+        }
+    }
+    draft.some_goals(random, 4);
+    draft.start = random.below(n);
+    draft.finish(random)
+}
+
+/// Even steps to both neighbours between a goal and a trap or another goal: long chains that fit.
+fn walk(random: &mut Random) -> Chain {
+    let n = random.between(3, MOST_STATES);
+    let mut draft = Draft::new(n);
+    let waits = random.once_in(2);
+    for state in 1..n - 1 {
+        let scale = random.pick(&[1, 1, 1, 6, 1_000_003]);
+        draft.edge(state, state - 1, scale);
+        draft.edge(state, state + 1, scale);
+        if waits && random.once_in(3) {
+            draft.edge(state, state, scale);
+        }
+    }
+    draft.goals[n - 1] = true;
+    draft.goals[0] = random.once_in(2);
+    draft.start = random.below(n);
+    // A goal's own row counts as a loop, wherever it leads.
+    draft.edge(n - 1, random.below(n), 1);
+    draft.finish(random)
+}
+
+/// Edges to states close by, with small weights.
+fn banded(random: &mut Random) -> Chain {
+    let most_states = random.pick(&[12, 12, MOST_STATES]);
+    let n = random.between(3, most_states);
+    let width = random.between(1, 4);
+    let most = random.pick(&[1, 1, 2, 5, 1_000]);
+    let mut draft = Draft::new(n);
+    for from in 0..n {
+        for to in from.saturating_sub(width)..(from + width + 1).min(n) {
+            if !random.once_in(3) {
+                draft.edge(from, to, random.between(1, most) as u32);
+            }
+        }
+    }
+    draft.some_goals(random, 20);
+    draft.start = random.below(n);
+    draft.finish(random)
+}
+
+/// As the address chain: each state goes on, back to the first, or is lost.
+fn retry(random: &mut Random) -> Chain {
+    let n = random.between(4, 24);
+    let (goal, lost) = (n - 1, n - 2);
+    let mut draft = Draft::new(n);
+    for state in 0..lost {
+        let next = if state + 1 == lost { goal } else { state + 1 };
+        draft.edge(state, next, random.between(1, 9) as u32);
+        draft.edge(state, 0, random.between(1, 3) as u32);
+        if random.once_in(3) {
+            draft.edge(state, lost, 1);
+        }
+    }
+    draft.goals[goal] = true;
+    draft.goals[lost] = random.once_in(3);
+    draft.finish(random)
+}
+
+/// Every pair of states has an edge; now and then all 4,096 of them.
+fn dense(random: &mut Random) -> Chain {
+    let n = if random.once_in(40) { MOST_STATES } else { random.between(2, 16) };
+    let most = random.pick(&[1, 2, 100, 30_000_000]);
+    let mut draft = Draft::new(n);
+    for from in 0..n {
+        for to in 0..n {
+            draft.edge(from, to, random.between(1, most) as u32);
+        }
+    }
+    draft.some_goals(random, n);
+    draft.finish(random)
+}
+
+/// Some states form closed cycles or loops that no goal can be reached from.
+fn traps(random: &mut Random) -> Chain {
+    let n = random.between(4, 20);
+    let trapped = random.between(1, n / 2);
+    let mut draft = Draft::new(n);
+    for state in 0..trapped {
+        draft.edge(state, random.below(trapped), 1);
+        draft.edge(state, (state + 1) % trapped, random.between(1, 5) as u32);
+    }
+    for state in trapped..n {
+        for _ in 0..random.between(1, 4) {
+            draft.edge(state, random.below(n), random.between(1, 3) as u32);
+        }
+    }
+    draft.goals[random.between(trapped, n - 1)] = true;
+    draft.start = if random.once_in(8) { random.below(n) } else { random.between(trapped, n - 1) };
+    draft.finish(random)
+}
+
+/// A few states are reached; others, whose weights would never fit, only lead to them or lie
+/// behind a goal.
+fn unreachable_states(random: &mut Random) -> Chain {
+    let near = random.between(2, 6);
+    let n = near + random.between(1, 12);
+    let mut draft = Draft::new(n);
+    for from in 0..near {
+        for _ in 0..random.between(1, 3) {
+            draft.edge(from, random.below(near), random.between(1, 4) as u32);
+        }
+    }
+    for from in near..n {
+        let heavy = M - random.between(0, 50) as u32;
+        let light = random.between(1, 1_000) as u32;
+        draft.edge(from, random.below(n), heavy - light);
+        draft.edge(from, random.below(n), light);
+    }
+    let goal = random.below(near);
+    draft.goals[goal] = true;
+    draft.edge(goal, random.between(near, n - 1), 1);
+    draft.start = random.below(near);
+    draft.finish(random)
+}
+
+/// Denominators at M or a little below, with rare and frequent ways out.
+fn near_m(random: &mut Random) -> Chain {
+    let n = random.between(2, 9);
+    let mut draft = Draft::new(n);
+    for from in 0..n {
+        let mut left = M - random.pick(&[0, 0, 1, 2, 1_000]);
+        for _ in 0..random.between(0, 3) {
+            let most = random.pick(&[1, 3, 100, M as usize / 4]);
+            let weight = random.between(1, most) as u32;
+            draft.edge(from, random.below(n), weight);
+            left -= weight;
+        }
+        draft.edge(from, random.below(n), left);
+    }
+    draft.some_goals(random, n);
+    draft.finish(random)
+}
+
+/// Row totals at and beside powers of two: their products lie where rounding takes one more bit.
+fn powers(random: &mut Random) -> Chain {
+    let n = random.between(3, 8);
+    let (goal, trap) = (n - 1, n - 2);
+    let mut draft = Draft::new(n);
+    for from in 0..trap {
+        let total = ((1u32 << random.between(3, 31)) - 1 + random.below(3) as u32).min(M);
+        let next = if from + 1 == trap { goal } else { from + 1 };
+        draft.edge(from, next, 1);
+        let to_next = random.pick(&[0, 0, 1, total / 2 - 1]);
+        let to_self = random.pick(&[0, 0, 0, 1, total / 4]);
+        for (to, weight) in [(next, to_next), (from, to_self)] {
+            if weight > 0 {
+                draft.edge(from, to, weight);
+            }
+        }
+        draft.edge(from, random.pick(&[trap, trap, goal, 0]), total - 1 - to_next - to_self);
+    }
+    draft.goals[goal] = true;
+    draft.finish(random)
+}

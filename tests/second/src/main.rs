@@ -1,0 +1,51 @@
+//! A second implementation of document 01, compared with the product.
+//!
+//! It makes chains and damaged requests from fixed seeds, calls the C entry of the product's static
+//! library on all of them and its program `nightchance` on a part, and compares every answer with
+//! its own. Its last line is `second: N passed, 0 failed`, where N counts comparisons.
+//!
+//! `cargo run --release` compares; `cargo test` tries this implementation alone on the chains that
+//! document 01 works by hand. The product is sought below the repository's `target`; the variables
+//! `EGORSTREAM_LIBRARY_DIR` (at build) and `NIGHTCHANCE` (at run) name another place.
+
+mod block;
+mod chain;
+mod compare;
+mod damage;
+mod damage_tables;
+mod draft;
+mod entry;
+mod equations;
+mod examples;
+mod figures;
+mod file;
+mod fraction;
+mod generate;
+mod live;
+mod modular;
+mod product;
+mod random;
+mod refusal;
+mod report;
+mod steps;
+mod tally;
+mod work;
+mod worked;
+
+use std::process::ExitCode;
+
+fn main() -> ExitCode {
+    if !product::LIBRARY_LINKED {
+        eprintln!("The static library {} is missing.", product::LIBRARY);
+        return ExitCode::FAILURE;
+    }
+    if !product::program().is_file() {
+        eprintln!("The program {} is missing.", product::program().display());
+        return ExitCode::FAILURE;
+    }
+    if work::run().print() {
+        ExitCode::SUCCESS
+    } else {
+        ExitCode::FAILURE
+    }
+}

@@ -1,0 +1,41 @@
+//! What `nightchance` must print.
+
+use crate::chain::Chain;
+use crate::figures;
+use crate::file;
+use crate::live::Reach;
+use crate::refusal::{of_tables, Refusal};
+
+/// The whole report on a chain file.
+pub fn of_file(file: &[u8]) -> String {
+    let read = file::read(file).and_then(|chain| match of_tables(&chain) {
+        Some(refusal) => Err(refusal),
+        None => Ok(chain),
+    });
+    match read {
+        Ok(chain) => of_chain(&chain),
+        Err(refusal) => format!("{}\n", refused(refusal)),
+    }
+}
+
+fn of_chain(chain: &Chain) -> String {
+    let reach = Reach::of(chain);
+    let chance = figures::chance(chain, &reach).map_or_else(refused, |chance| chance.to_string());
+    let reward = figures::reward(chain, &reach).map_or_else(refused, |reward| match reward {
+        Some(fraction) => fraction.to_string(),
+        None => "infinite".to_string(),
+    });
+    let (lower, upper) = figures::bounds(chain, &reach);
+    let goals = chain.goals.iter().filter(|&&goal| goal).count();
+    format!(
+        "states {}\nedges {}\ngoals {goals}\nlive {}\n\
+         chance {chance}\nreward {reward}\nbounds {lower} {upper}\n",
+        chain.states(),
+        chain.edges.len(),
+        reach.live_count(),
+    )
+}
+
+fn refused(refusal: Refusal) -> String {
+    format!("refused {} at {}", refusal.number, refusal.place)
+}

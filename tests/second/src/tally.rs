@@ -1,0 +1,101 @@
+//! Counts checks and tells of the first that fail.
+
+use std::{env, fs};
+
+/// How many failures are told in full.
+const TOLD: usize = 5;
+/// One more than the greatest number of refusal.
+const NUMBERS: usize = 25;
+
+/// Where a refusal number was expected; each is a column of the table.
+#[derive(Clone, Copy)]
+pub enum Asked {
+    EntryOnChain,
+    EntryOnDamage,
+    Report,
+}
+
+/// A case: what made it, and the seed that makes it again.
+#[derive(Clone, Copy)]
+pub struct Case {
+    pub family: &'static str,
+    pub seed: u64,
+}
+
+#[derive(Default)]
+pub struct Tally {
+    passed: u64,
+    failed: u64,
+    told: Vec<String>,
+    /// How often each number was expected, by `Asked`; 0 is an answer.
+    numbers: [[u64; NUMBERS]; 3],
+    /// Bounds whose lower and upper fraction differ.
+    pub open_bounds: u64,
+    /// Reports whose reward is a fraction, infinite, and refused.
+    pub rewards: [u64; 3],
+}
+
+impl Tally {
+    /// Counts one check; `differs` tells what was expected and what came, on this file.
+    pub fn check(
+        &mut self,
+        case: Case,
+        file: &[u8],
+        holds: bool,
+        differs: impl FnOnce() -> String,
+    ) {
+        if holds {
+            self.passed += 1;
+            return;
+        }
+        self.failed += 1;
+        if self.told.len() < TOLD {
+            let path = env::temp_dir().join(format!("second-{:016x}.chain", case.seed));
+            let kept = match fs::write(&path, file) {
+                Ok(()) => format!("the file is {}", path.display()),
+                Err(error) => format!("the file could not be kept: {error}"),
+            };
+            let Case { family, seed } = case;
+            self.told.push(format!("{family}, seed {seed:#018x}: {}; {kept}", differs()));
+        }
+    }
+
+    /// Counts a number that was expected.
+    pub fn number(&mut self, asked: Asked, number: u32) {
+        self.numbers[asked as usize][number as usize] += 1;
+    }
+
+    /// Adds what another thread counted.
+    pub fn join(&mut self, other: Tally) {
+        self.passed += other.passed;
+        self.failed += other.failed;
+        self.told.extend(other.told);
+        self.told.truncate(TOLD);
+        for (mine, theirs) in self.numbers.iter_mut().flatten().zip(other.numbers.as_flattened()) {
+            *mine += theirs;
+        }
+        for (mine, theirs) in self.rewards.iter_mut().zip(other.rewards) {
+            *mine += theirs;
+        }
+        self.open_bounds += other.open_bounds;
+    }
+
+    /// Prints the failures, the table and the last line; true where nothing failed.
+    pub fn print(&self) -> bool {
+        for failure in &self.told {
+            println!("{failure}");
+        }
+        println!("number   entry on chains   entry on damage   reports");
+        for number in 0..NUMBERS {
+            let [chains, damage, reports] = self.numbers.map(|column| column[number]);
+            if chains + damage + reports > 0 {
+                println!("{number:6}   {chains:15}   {damage:15}   {reports:7}");
+            }
+        }
+        let [fractions, infinite, refused] = self.rewards;
+        println!("bounds whose fractions differ: {}", self.open_bounds);
+        println!("rewards: {fractions} fractions, {infinite} infinite, {refused} refused");
+        println!("second: {} passed, {} failed", self.passed, self.failed);
+        self.failed == 0
+    }
+}

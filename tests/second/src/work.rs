@@ -1,0 +1,151 @@
+//! The whole work of a run, cut into units that any thread can take.
+
+use crate::block;
+use crate::chain::Chain;
+use crate::compare;
+use crate::damage::{self, Request, DAMAGES};
+use crate::entry::{Pair, ANSWER, BOUNDS, DEFAULT, EXACT};
+use crate::examples::EXAMPLES;
+use crate::file;
+use crate::generate::FAMILIES;
+use crate::random::Random;
+use crate::tally::{Asked, Case, Tally};
+use crate::worked;
+use std::sync::atomic::{AtomicU64, Ordering};
+use std::thread;
+
+/// The seed of the run; each unit has its own seed, made from this one and its place.
+const SEED: u64 = 0x6e69_6768_7463_6861;
+
+/// How many units each part has.
+const CHAINS: u64 = 2_000 * FAMILIES.len() as u64;
+const ORDERED: u64 = 400;
+const DAMAGED: u64 = 2_200 * DAMAGES.len() as u64;
+const UNITS: u64 = CHAINS + ORDERED + DAMAGED;
+
+/// How many orders each chain of the ordered part is given.
+const ORDERS: usize = 8;
+/// One unit in so many runs the program too. It shares no factor with the numbers of families, so
+/// that chains of every family reach the program.
+const REPORT_ONCE_IN: u64 = 7;
+
+/// Does all the work, on as many threads as the machine has cores.
+pub fn run() -> Tally {
+    let mut tally = Tally::default();
+    known_answers(&mut tally);
+    let next = AtomicU64::new(0);
+    let threads = thread::available_parallelism().map_or(1, usize::from);
+    thread::scope(|scope| {
+        let workers: Vec<_> = (0..threads).map(|_| scope.spawn(|| worker(&next))).collect();
+        for worker in workers {
+            tally.join(worker.join().expect("a thread of this program failed"));
+        }
+    });
+    tally
+}
+
+fn worker(next: &AtomicU64) -> Tally {
+    let mut tally = Tally::default();
+    loop {
+        let place = next.fetch_add(1, Ordering::Relaxed);
+        if place >= UNITS {
+            return tally;
+        }
+        let seed = Random::new(SEED ^ place).next();
+        let with_report = place.is_multiple_of(REPORT_ONCE_IN);
+        if place < CHAINS {
+            one_chain(&mut tally, seed, place, with_report);
+        } else if place < CHAINS + ORDERED {
+            one_chain_in_many_orders(&mut tally, seed);
+        } else {
+            one_damage(&mut tally, seed, place, with_report);
+        }
+    }
+}
+
+/// The chains worked by hand and the examples: all the product's answers, and the lines that
+/// document 01 and the examples' script give.
+fn known_answers(tally: &mut Tally) {
+    for (place, worked) in worked::chains().into_iter().enumerate() {
+        let case = Case { family: worked.name, seed: place as u64 };
+        compare_chain(tally, case, &worked.chain);
+        compare::report_lines(tally, case, &file::write(&worked.chain), worked.lines);
+    }
+    for (family, file, lines) in EXAMPLES {
+        let case = Case { family, seed: 0 };
+        compare::report(tally, case, file);
+        compare::report_lines(tally, case, file, lines);
+    }
+    let zeros = Case { family: "512 zero bytes", seed: 0 };
+    compare::report_lines(tally, zeros, &[0; 512], &["refused 23 at 0"]);
+    far_too_long(tally);
+}
+
+/// A chain file with 65,536 blocks behind it: in two bytes its block total would be right.
+fn far_too_long(tally: &mut Tally) {
+    let case = Case { family: "65,536 blocks too many", seed: 0 };
+    let mut file = file::write(&worked::chains()[0].chain);
+    file.resize(file.len() + 65_536 * block::LENGTH, 0);
+    compare::report(tally, case, &file);
+    let request = Request { file, mode: EXACT, answer_length: ANSWER };
+    compare::entry(tally, case, &request, Asked::EntryOnDamage);
+}
+
+/// Compares every mode on a well-formed chain. Hands back the exact chance and the bounds.
+fn compare_chain(tally: &mut Tally, case: Case, chain: &Chain) -> (Option<Pair>, Option<Pair>) {
+    let mut random = Random::new(case.seed);
+    let mut request = Request { file: file::write(chain), mode: EXACT, answer_length: ANSWER };
+    let exact = compare::entry(tally, case, &request, Asked::EntryOnChain);
+    request.mode = DEFAULT;
+    request.answer_length = random.between(ANSWER, 3 * ANSWER);
+    compare::entry(tally, case, &request, Asked::EntryOnChain);
+    request.mode = BOUNDS;
+    let bounds = compare::entry(tally, case, &request, Asked::EntryOnChain);
+    if let (Some(exact), Some(bounds)) = (exact, bounds) {
+        compare::enclosure(tally, case, &request.file, exact.0, bounds);
+    }
+    (exact, bounds)
+}
+
+fn one_chain(tally: &mut Tally, seed: u64, place: u64, with_report: bool) {
+    let (family, make) = FAMILIES[(place % FAMILIES.len() as u64) as usize];
+    let case = Case { family, seed };
+    let chain = make(&mut Random::new(seed));
+    compare_chain(tally, case, &chain);
+    if with_report {
+        compare::report(tally, case, &file::write(&chain));
+    }
+}
+
+/// The order decides whether the exact chance fits and how far the bounds open, never the chance.
+fn one_chain_in_many_orders(tally: &mut Tally, seed: u64) {
+    let case = Case { family: "orders", seed };
+    let mut random = Random::new(seed);
+    let mut chain = random.pick(&FAMILIES).1(&mut random);
+    let mut chances = Vec::new();
+    let mut all_bounds = Vec::new();
+    for _ in 0..ORDERS {
+        random.shuffle(&mut chain.order);
+        let (exact, bounds) = compare_chain(tally, case, &chain);
+        chances.extend(exact.map(|(chance, _)| chance));
+        all_bounds.extend(bounds);
+    }
+    let Some(&chance) = chances.first() else { return };
+    let file = file::write(&chain);
+    tally.check(case, &file, chances.iter().all(|&other| other == chance), || {
+        format!("one chain under many orders has the chances {chances:?}")
+    });
+    for bounds in all_bounds {
+        compare::enclosure(tally, case, &file, chance, bounds);
+    }
+}
+
+fn one_damage(tally: &mut Tally, seed: u64, place: u64, with_report: bool) {
+    let damage = DAMAGES[(place % DAMAGES.len() as u64) as usize];
+    let case = Case { family: damage.0, seed };
+    let request = damage::request(&mut Random::new(seed), damage);
+    compare::entry(tally, case, &request, Asked::EntryOnDamage);
+    if with_report {
+        compare::report(tally, case, &request.file);
+    }
+}
