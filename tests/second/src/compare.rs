@@ -4,7 +4,7 @@ use crate::block::four_bytes;
 use crate::damage::Request;
 use crate::entry::{self, Pair, ANSWER, BOUNDS};
 use crate::fraction::Fraction;
-use crate::product;
+use crate::product::{self, Call, Reply};
 use crate::random::Random;
 use crate::report;
 use crate::tally::{Asked, Case, Tally};
@@ -26,11 +26,11 @@ pub fn entry(tally: &mut Tally, case: Case, request: &Request, asked: Asked) -> 
     if let Ok(answer) = expected {
         expected_memory[start..start + ANSWER].copy_from_slice(&entry::bytes(answer));
     }
-    let given = file.clone();
-    let number = product::chance(&given, *mode, &mut memory[start..start + answer_length]);
+    let call = Call { file, mode: *mode, start, answer_length: *answer_length };
+    let Reply { number, file_unchanged } = product::chance(&call, &mut memory);
 
     let expected_number = expected.map_or_else(|refusal| refusal.number, |_| 0);
-    let alike = number == expected_number && memory == expected_memory && given == *file;
+    let alike = number == expected_number && memory == expected_memory && file_unchanged;
     tally.check(case, file, alike, || {
         let told = |number, memory: &[u8]| match number {
             0 => format!("the answer {:?}", numbers(&memory[start..])),
@@ -39,11 +39,10 @@ pub fn entry(tally: &mut Tally, case: Case, request: &Request, asked: Asked) -> 
         let changed = (0..memory.len()).filter(|&at| memory[at] != expected_memory[at]);
         format!(
             "entry, mode {mode}, answer of {answer_length}: expected {}, came {}; wrong bytes, \
-             counted from the answer: {:?}; file unchanged: {}",
+             counted from the answer: {:?}; file unchanged: {file_unchanged}",
             told(expected_number, &expected_memory),
             told(number, &memory),
-            changed.map(|at| at as isize - start as isize).collect::<Vec<_>>(),
-            given == *file
+            changed.map(|at| at as isize - start as isize).collect::<Vec<_>>()
         )
     });
     tally.number(asked, expected_number);

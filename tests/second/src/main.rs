@@ -5,8 +5,7 @@
 //! its own. Its last line is `second: N passed, 0 failed`, where N counts comparisons.
 //!
 //! `cargo run --release` compares; `cargo test` tries this implementation alone on the chains that
-//! document 01 works by hand. The product is sought below the repository's `target`; the variables
-//! `EGORSTREAM_LIBRARY_DIR` (at build) and `NIGHTCHANCE` (at run) name another place.
+//! document 01 works by hand. The product is sought below the repository's `target`.
 
 mod block;
 mod chain;
@@ -35,13 +34,11 @@ mod worked;
 use std::process::ExitCode;
 
 fn main() -> ExitCode {
-    if !product::LIBRARY_LINKED {
-        eprintln!("The static library {} is missing.", product::LIBRARY);
-        return ExitCode::FAILURE;
-    }
-    if !product::program().is_file() {
-        eprintln!("The program {} is missing.", product::program().display());
-        return ExitCode::FAILURE;
+    for program in [product::driver(), product::program()] {
+        if !program.is_file() {
+            eprintln!("The program {} is missing.", program.display());
+            return ExitCode::FAILURE;
+        }
     }
     if work::run().print() {
         ExitCode::SUCCESS

@@ -1,57 +1,107 @@
-//! The product as its users meet it: the C entry of its static library, and its program.
+//! The product as its users meet it: the C entry of its static library, and its program. Both are
+//! x86-64 code, so both are run as processes, by the script that runs such programs anywhere.
 
-use std::env;
-use std::io::{self, Write};
+use std::cell::RefCell;
+use std::io::{self, Read, Write};
 use std::path::{Path, PathBuf};
-use std::process::{Command, Stdio};
-use std::sync::Mutex;
+use std::process::{Child, ChildStdin, ChildStdout, Command, Stdio};
 
-/// Where the static library was sought when this program was built.
-pub const LIBRARY: &str = env!("EGORSTREAM_LIBRARY");
-/// Whether it was there.
-pub const LIBRARY_LINKED: bool = cfg!(product);
-
-#[cfg(product)]
-extern "C" {
-    fn egorstream_chance(
-        file: *const u8,
-        file_length: usize,
-        mode: u32,
-        answer: *mut u8,
-        answer_length: usize,
-    ) -> u32;
+/// A path below the repository's root.
+fn below_root(path: &str) -> PathBuf {
+    Path::new(env!("CARGO_MANIFEST_DIR")).join("../..").join(path)
 }
 
-#[cfg(not(product))]
-unsafe fn egorstream_chance(_: *const u8, _: usize, _: u32, _: *mut u8, _: usize) -> u32 {
-    unreachable!("the program ends first where the library is missing")
-}
-
-/// Document 01 does not say that two threads may be in the entry at once.
-static ONE_AT_A_TIME: Mutex<()> = Mutex::new(());
-
-/// The C entry's return value; `answer` holds what it wrote. An empty file is a null pointer.
-pub fn chance(file: &[u8], mode: u32, answer: &mut [u8]) -> u32 {
-    let bytes = if file.is_empty() { std::ptr::null() } else { file.as_ptr() };
-    let _guard = ONE_AT_A_TIME.lock().expect("no thread ends inside the entry");
-    // SAFETY: both pointers stand for as many bytes as the length beside them says, `answer` is
-    // borrowed for writing alone, and it cannot overlap `file`.
-    unsafe { egorstream_chance(bytes, file.len(), mode, answer.as_mut_ptr(), answer.len()) }
+/// The program that is linked with the static library and calls its entry: `driver.c`.
+pub fn driver() -> PathBuf {
+    below_root("target/second/driver")
 }
 
 /// Where `nightchance` is.
 pub fn program() -> PathBuf {
-    let beside = || Path::new(env!("CARGO_MANIFEST_DIR")).join("../../target/bin/nightchance");
-    env::var_os("NIGHTCHANCE").map_or_else(beside, PathBuf::from)
+    below_root("target/bin/nightchance")
+}
+
+fn start(program: &Path) -> Child {
+    Command::new(below_root("tests/x86-64"))
+        .arg("run")
+        .arg(program)
+        .stdin(Stdio::piped())
+        .stdout(Stdio::piped())
+        .stderr(Stdio::inherit())
+        .spawn()
+        .expect("the script that runs x86-64 programs starts")
+}
+
+/// A driver that waits for requests.
+struct Driver {
+    process: Child,
+    /// Taken away at the end, which tells the driver that no more come.
+    requests: Option<ChildStdin>,
+    replies: ChildStdout,
+}
+
+impl Driver {
+    fn new() -> Driver {
+        let mut process = start(&driver());
+        let requests = process.stdin.take();
+        let replies = process.stdout.take().expect("it is piped");
+        Driver { process, requests, replies }
+    }
+
+    fn call(&mut self, call: &Call, memory: &mut [u8]) -> io::Result<Reply> {
+        let requests = self.requests.as_mut().expect("it is piped");
+        let lengths = [call.file.len(), memory.len(), call.start, call.answer_length];
+        requests.write_all(&call.mode.to_ne_bytes())?;
+        for length in lengths {
+            let length = u32::try_from(length).expect("a request has less than 4 GiB");
+            requests.write_all(&length.to_ne_bytes())?;
+        }
+        requests.write_all(call.file)?;
+        requests.write_all(memory)?;
+        requests.flush()?;
+        let mut numbers = [[0; 4]; 2];
+        for number in &mut numbers {
+            self.replies.read_exact(number)?;
+        }
+        self.replies.read_exact(memory)?;
+        let [number, unchanged] = numbers.map(u32::from_ne_bytes);
+        Ok(Reply { number, file_unchanged: unchanged == 1 })
+    }
+}
+
+impl Drop for Driver {
+    fn drop(&mut self) {
+        drop(self.requests.take());
+        let _ = self.process.wait();
+    }
+}
+
+thread_local! {
+    /// Each thread has a driver of its own: the entry is never called twice at once.
+    static DRIVER: RefCell<Driver> = RefCell::new(Driver::new());
+}
+
+/// One call of the entry. The answer is the part of the memory from `start` on.
+pub struct Call<'a> {
+    pub file: &'a [u8],
+    pub mode: u32,
+    pub start: usize,
+    pub answer_length: usize,
+}
+
+pub struct Reply {
+    pub number: u32,
+    pub file_unchanged: bool,
+}
+
+/// What the C entry returns; `memory` then holds what it left there.
+pub fn chance(call: &Call, memory: &mut [u8]) -> Reply {
+    DRIVER.with_borrow_mut(|driver| driver.call(call, memory)).expect("the driver answers")
 }
 
 /// What `nightchance` prints for this file on its standard input.
 pub fn report(file: &[u8]) -> io::Result<Vec<u8>> {
-    let mut child = Command::new(program())
-        .stdin(Stdio::piped())
-        .stdout(Stdio::piped())
-        .stderr(Stdio::inherit())
-        .spawn()?;
+    let mut child = start(&program());
     // A program that stops reading early shows in its report; that the pipe broke is no more news.
     let _ = child.stdin.take().expect("it is piped").write_all(file);
     Ok(child.wait_with_output()?.stdout)

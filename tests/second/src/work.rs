@@ -27,7 +27,7 @@ const UNITS: u64 = CHAINS + ORDERED + DAMAGED;
 const ORDERS: usize = 8;
 /// One unit in so many runs the program too. It shares no factor with the numbers of families, so
 /// that chains of every family reach the program.
-const REPORT_ONCE_IN: u64 = 7;
+const REPORT_ONCE_IN: u64 = 23;
 
 /// Does all the work, on as many threads as the machine has cores.
 pub fn run() -> Tally {
