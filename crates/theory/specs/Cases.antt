@@ -6,6 +6,8 @@ use Rattle.meaning.specs.Number.{tabFrom}
 use Rattle.meaning.specs.Chain.{M}
 use Rattle.meaning.specs.Figure.{Chance}
 use Rattle.meaning.specs.Refusal.{Lent, workSize}
+use Rattle.meaning.specs.Block.{Input, blockSize}
+use Rattle.meaning.specs.File.{FileRefused}
 use Rattle.meaning.specs.Outcome.{
   cleared,
   Answer,
@@ -19,18 +21,21 @@ use Rattle.meaning.specs.Outcome.{
   BoundsOutcome,
 }
 
--- What an entry is lent, what it answers, and its work table then; or a chance that no entry need answer.
+-- What an entry is lent, what it answers, and its work table then; a chance that no entry need answer; or a file, with the number and the
+-- place that refuse it.
 pub data Case : Type 0 where
   chance : Lent → Answer → List ℕ → Case
   reward : Lent → Answer → List ℕ → Case
   bounds : Lent → Bounds → List ℕ → Case
   value : Lent → ℕ → ℕ → Case
+  file : Input → ℕ → ℕ → Case
 
 abbrev pub Claim : Case → Type 0
 Claim (chance l a w) = ChanceOutcome l a w
 Claim (reward l a w) = RewardOutcome l a w
 Claim (bounds l a w) = BoundsOutcome l a w
 Claim (value l p q) = Chance (l .chain) p q
+Claim (file f number place) = FileRefused f number place
 
 -- A chain that starts at state 0 is lent with the order 0, 1, 2, .. and a work table that has two numbers more than it need have.
 abbrev pub lend : ℕ → ℕ → List ℕ → List ℕ → List ℕ → Lent
@@ -108,6 +113,10 @@ full = lend 64 (2 ^ 64 - 1) (replicate 64 1) (loops 0 64) []
 abbrev pub goalless : Lent
 goalless = lend 1 0 (1 ∷ []) (loops 0 1) []
 
+-- 512 zero bytes: the check passes, and the kind is wrong.
+abbrev pub zeros : Input
+zeros = record { kept = replicate blockSize 0; more = 0 }
+
 abbrev pub cases : List Case
 cases =
     chance okay (fraction 4375 4376) (cleared okay)
@@ -125,4 +134,5 @@ cases =
     ∷ chance (least 2147483648) (refusal 5 0) (least 2147483648 .work)
     ∷ chance goalless (refusal 4 0) (goalless .work)
     ∷ chance full (fraction 1 1) (cleared full)
+    ∷ file zeros 23 0
     ∷ []

@@ -35,8 +35,6 @@ pub mod Look
 pub mod Halt
 pub mod Begin
 pub mod Outcomes
-pub mod Cases
-pub mod Listed
 pub mod Determined
 pub mod Bits
 pub mod Counted
@@ -44,4 +42,8 @@ pub mod Entries
 pub mod DemandTwo
 pub mod DemandThree
 pub mod Small
+pub mod Fletcher
+pub mod Head
+pub mod Cases
+pub mod Listed
 pub mod FileOne

@@ -15,11 +15,14 @@ use Rattle.meaning.specs.Step.{Sets, Right, given, noRow, first, combined, rene
 use Rattle.meaning.specs.Outcome.{Outcome, Answer, ChanceOutcome, RewardOutcome, Bounds, BoundsOutcome}
 use Rattle.meaning.specs.Figure.{Chance}
 use Rattle.meaning.specs.Refusal.{Lent, Entry, plain}
+use Rattle.meaning.specs.Block.{Input}
+use Rattle.meaning.specs.File.{FileRefused}
 use Rattle.theory.specs.Look.{refused, formed, look}
 use Rattle.theory.specs.Halt.{alike}
 use Rattle.theory.specs.Marks.{marks, enough, marks-right}
 use Rattle.theory.specs.Outcomes.{Told, chance-is, chance-told, reward-told, bounds-told}
-use Rattle.theory.specs.Cases.{Case, chance, reward, bounds, value, Claim, cases}
+use Rattle.theory.specs.Head.{headed}
+use Rattle.theory.specs.Cases.{Case, chance, reward, bounds, value, file, Claim, cases}
 
 -- Two lists of numbers, where they are found to be one.
 unfoldable matched : (s t : List ℕ) → Option (s ≡ t)
@@ -124,12 +127,24 @@ onceKnown c f =
       | some right ↦ f right
     ]
 
+unfoldable shows-file : (f : Input) (number place : ℕ) → Option (FileRefused f number place)
+unfolding headed matched
+shows-file f number place =
+    elim (headed f) [
+      | none ↦ none
+      | some r ↦ elim (matched (r .0 ∷ 0 ∷ []) (number ∷ place ∷ [])) [
+        | none ↦ none
+        | some e ↦ some (rw (← ap (λ s. getD s 0 0) e, ← ap (λ s. getD s 1 0) e) (r .1))
+      ]
+    ]
+
 unfoldable shows : (x : Case) → Option (Claim x)
-unfolding onceKnown shows-chance shows-reward shows-bounds shows-value
+unfolding onceKnown shows-chance shows-reward shows-bounds shows-value shows-file
 shows (chance l a w) = onceKnown (l .chain) (λ right. shows-chance l right a w)
 shows (reward l a w) = onceKnown (l .chain) (λ right. shows-reward l right a w)
 shows (bounds l a w) = onceKnown (l .chain) (λ right. shows-bounds l right a w)
 shows (value l p q) = onceKnown (l .chain) (λ right. shows-value l right p q)
+shows (file f number place) = shows-file f number place
 
 -- The test, and what it says.
 unfoldable found-in : {P : Type 0} → Option P → Bool
