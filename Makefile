@@ -1,8 +1,21 @@
-# make test runs the gate; make fmt lays every file of Rattle out.
-.PHONY: test fmt
+# make report prints the report of a chain file; make test runs the gate; make fmt lays every file of Rattle out; make bench times.
+CHAIN ?= examples/address.chain
+
+.PHONY: report test fmt bench
+
+report: target/bin/nightchance
+	@tests/x86-64 run target/bin/nightchance <$(CHAIN)
+
+# Only a proved program is built, so the first build takes as long as its proofs.
+target/bin/nightchance: $(shell find crates -name '*.rt' -o -name '*.antt') crates.txt
+	rt check nightchance
+	@touch $@
 
 test:
 	bash .ci/run
 
 fmt:
 	rt fmt
+
+bench:
+	bench/run
