@@ -63,6 +63,14 @@ module _ (f : Input) (b : ℕ) where
       go (Turn.state p h k n) = absurd (d k)
       go (Turn.edge p h k n) = (h, n)
 
+  pub third : (kindOf f b ≡ 1 → ⊥) → (kindOf f b ≡ 2 → ⊥) → kindOf f b ≡ 3
+  third c d = go turn
+    where
+      go : Turn f b → kindOf f b ≡ 3
+      go (Turn.head z k n) = absurd (c k)
+      go (Turn.state p h k n) = absurd (d k)
+      go (Turn.edge p h k n) = k
+
   -- A block holds no more than a full one.
   pub count-most : countOf f b ≤ fullBlock
   count-most = go turn

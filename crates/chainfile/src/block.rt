@@ -7,10 +7,10 @@ ghost use Rattle.chain.specs.Least.{decides};
 ghost use Rattle.chainfile.specs.Input.{input, mostBlocks};
 ghost use Rattle.chainfile.specs.Tells.{tested};
 use crate::bytes;
-use crate::check;
 use crate::head;
 use crate::layout;
 use crate::records;
+use crate::sums;
 
 // What a test of a block finds.
 pub(crate) enum Block {
@@ -24,7 +24,7 @@ fn check_wrong(kept: &[u8], b: usize) -> bool
     ensures { λ r. ⌜ decides (CheckFault (input (now (kept .entry)) 0) b) r ⌝ }
 {
     let at = layout::BLOCK * b;
-    let sums = check::fletcher(kept, at, layout::CHECKED, check::MODULUS, check::BEGIN);
+    let sums = sums::fletcher(kept, at, layout::CHECKED, sums::MODULUS, sums::BEGIN);
     if bytes::byte(kept, at + layout::CHECKED) != sums.first {
         return true;
     }

@@ -90,6 +90,7 @@ fn edge_numbers(kept: &[u8], table: &mut [u64])
     }
 }
 
+// Fills the four tables from the front, and leaves the entries past the chain's own.
 pub(crate) fn tables(
     kept: &[u8],
     denominators: &mut [u64],

@@ -1,4 +1,5 @@
 // Where everything of a chain file lies: nothing else knows.
+
 // The bytes of a block.
 pub(crate) const BLOCK: usize = 512;
 

@@ -8,12 +8,12 @@ use chain::Chain;
 
 mod block;
 mod bytes;
-mod check;
 mod fill;
 mod head;
 mod judge;
 mod layout;
 mod records;
+mod sums;
 
 pub enum Reading {
     Chain { chain: Chain, edges: usize },

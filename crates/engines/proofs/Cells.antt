@@ -10,7 +10,7 @@ use native.Mathlib.Decide.{decLt}
 use native.Mathlib.Omega.{arith}
 use lib.Dec.{eqb}
 use lib.ListN.{length, getD, take, drop, set, replicate, length-set, length-append, length-drop, length-replicate, getD-replicate, List·getD-append}
-use lib.Seq.{drop-at, getD-take, getD-drop, getD-set-same, getD-set-other, take-set-le, take-set-lt, drop-set-lt, drop-set-add}
+use lib.Seq.{drop-at, getD-set-same, getD-set-other, take-set-le, take-set-lt, drop-set-lt, drop-set-add}
 use borrow.Author.Tests.{eq-eqb, ne-eqb}
 use Rattle.meaning.specs.Number.{sumTo, only, bit}
 use Rattle.meaning.specs.Chain.{M, edgeCount, from, to, weight, carried, flow, rowSum}
@@ -21,14 +21,10 @@ use Rattle.theory.specs.Tab.{tab-of}
 use Rattle.engines.specs.Row.{Sized}
 use Rattle.engines.specs.Table.{rowAt, Kept, Put}
 use Rattle.engines.specs.First.{columnOf, share, Added, Held, Addable, Gathered}
-use Rattle.engines.proofs.Tables.{kept-same, kept-more, row-end, length-row}
+use Rattle.engines.proofs.Tables.{kept-same, kept-more, row-end, row-cell, length-row}
 
 -- The number in column j of row i.
 module _ (n : ℕ) (w : List ℕ) (i : ℕ) (b : i < n) (j : ℕ) (h : j < n + 4) where
-  pub at-cell : getD w (i * (n + 4) + j) 0 ≡ cell (rowAt n w i) j
-  unfolding rowAt
-  at-cell = sym (getD-take (n + 4) (drop (i * (n + 4)) w) j 0 h ∙ getD-drop (i * (n + 4)) w j 0)
-
   put-other : (x k : ℕ) → k < n → (k ≡ i → ⊥) → rowAt n (set w (i * (n + 4) + j) x) k ≡ rowAt n w k
   unfolding rowAt
   put-other x k l d =
@@ -77,7 +73,7 @@ module _ (n : ℕ) (w v : List ℕ) (room : n * (n + 4) ≤ length w) (e : v ≡
       let size = n * (n + 4) in
       let l : i * (n + 4) + j < n * (n + 4) = omega (arith, row-end i n b) in
       let z : length {A = ℕ} (replicate size 0) ≡ size = length-replicate size 0 in
-      sym (at-cell n v i b j h)
+      row-cell n v i j h
       ∙ ap (λ (x : List ℕ). getD x (i * (n + 4) + j) 0) e
       ∙ List·getD-append (replicate size 0) (drop size w) 0 (i * (n + 4) + j) (rw z l)
       ∙ getD-replicate size (i * (n + 4) + j) 0 0 l

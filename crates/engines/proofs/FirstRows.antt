@@ -13,7 +13,7 @@ use Rattle.meaning.specs.Number.{sumTo, only, choose, bit}
 use Rattle.meaning.specs.Chain.{mostReward, mostStates, Chain, denominator, edgeCount, from, to, carried, flow, along}
 use Rattle.meaning.specs.Figure.{earned}
 use Rattle.meaning.specs.Row.{cell, total, rounding}
-use Rattle.meaning.specs.Step.{Table, row, Sets, Right, given, firstRow, noRow, first, after}
+use Rattle.meaning.specs.Step.{row, Sets, Right, given, firstRow, noRow, first, after}
 use Rattle.meaning.specs.Refusal.{Lent, Entry, WellFormed}
 use Rattle.meaning.specs.Stop.{rewardOf, Stops}
 use Rattle.theory.specs.Sum.{same, below, sum-ext, sum-zero}
@@ -22,12 +22,11 @@ use Rattle.theory.specs.Flow.{flow-ext}
 use Rattle.theory.specs.Given.{Fate, live, won, lost, Alive, goes-to, given-state, given-goal, given-trap, given-unknown, given-reward, given-length, given-total}
 use Rattle.theory.specs.First.{first-row}
 use Rattle.theory.specs.Formed.{few-states, room, formed-fine, from-in, denominators-length, denominator-small, reward-small, unpaid}
-use Rattle.engines.specs.Table.{rowAt, Renewed, Ready}
-use Rattle.engines.specs.Turn.{Unfit, Reached}
+use Rattle.engines.specs.Table.{rowAt, Renewed}
+use Rattle.engines.specs.Turn.{Unfit}
 use Rattle.engines.specs.First.{columnOf, share, Held, Gatherable, finished, finishedAt, Finishable, Asked, Made}
 use Rattle.engines.proofs.Rows.{noRow-fit}
 use Rattle.engines.proofs.Tables.{kept-more, length-row}
-use Rattle.engines.proofs.Removal.{row-is}
 use Rattle.engines.proofs.Cells.{zero-row, share-dead, share-live}
 
 flow-none : (edges : List ℕ) (i : ℕ) → flow edges i (λ _. 0) ≡ 0
@@ -240,12 +239,3 @@ first-given b x l k formed lent free right =
 pub first-stops : (b : Bool) (l : Lent) (k : Sets) → Unfit b (l .chain .states) (first b (l .chain) k (rewardOf l) (λ _. 0)) → Stops b l k 12 mostStates
 unfolding after
 first-stops b l k u = Stops.before-steps u
-
--- A table that is reached is ready for the walk.
-pub reached-ready : {b : Bool} {n : ℕ} {t : Table} {w v : List ℕ} → n ≤ mostStates → n * (n + 4) ≤ length w → Reached b n t w v → Ready b n v
-reached-ready {n = n} {v = v} few room z =
-    record {
-      few = few;
-      room = omega (arith, z .kept .len);
-      fit = λ i h. rw (← z .same, row-is n v i h) at (z .fit i h);
-    }

@@ -40,15 +40,16 @@ module _ (n i : ℕ) (w : List ℕ) where
   unfolding withRow
   back r = let k : i * (n + 4) + (n + 4) - i * (n + 4) ≡ n + 4 = omega arith in rw k
 
+-- The number in column j of row i.
+pub row-cell : (n : ℕ) (w : List ℕ) (i j : ℕ) → j < n + 4 → getD (rowAt n w i) j 0 ≡ getD w (i * (n + 4) + j) 0
+unfolding rowAt
+row-cell n w i j h = getD-take (n + 4) (drop (i * (n + 4)) w) j 0 h ∙ getD-drop (i * (n + 4)) w j 0
+
 module _ (n : ℕ) (w : List ℕ) (room : n * (n + 4) ≤ length w) (i : ℕ) (b : i < n) where
   pub length-row : length (rowAt n w i) ≡ n + 4
   unfolding rowAt
   length-row =
       length-take-le (n + 4) (drop (i * (n + 4)) w) (simp length-drop (omega (arith, row-end i n b)))
-
-  row-cell : (j : ℕ) → j < n + 4 → getD (rowAt n w i) j 0 ≡ getD w (i * (n + 4) + j) 0
-  unfolding rowAt
-  row-cell j h = getD-take (n + 4) (drop (i * (n + 4)) w) j 0 h ∙ getD-drop (i * (n + 4)) w j 0
 
   module _ (r : Row) (l : length r ≡ n + 4) where
     at-start : length (take (i * (n + 4)) w) ≡ i * (n + 4)
@@ -94,12 +95,12 @@ row-other n w room i b r l j c d =
     ext-getD 0 (rowAt n v j) (rowAt n w j) (length-row n v room' j c ∙ sym (length-row n w room j c))
     (λ k h.
     let h' : k < n + 4 = omega (arith, length-row n v room' j c) in
-    row-cell n v room' j c k h'
+    row-cell n v j k h'
     ∙ dite (decLt j i) (λ z. before-row n w room i b r l (j * (n + 4) + k) (omega (arith, mul-le-mul-right (n + 4) z)))
     (λ z.
     let z' : i < j = omega arith in
     from-row n w room i b r l (j * (n + 4) + k) (omega (arith, mul-le-mul-right (n + 4) z')))
-    ∙ sym (row-cell n w room j c k h'))
+    ∙ sym (row-cell n w j k h'))
 
 drop-past : (e m : ℕ) (v w : List ℕ) → e ≤ m → drop e v ≡ drop e w → drop m v ≡ drop m w
 drop-past e m v w h q =

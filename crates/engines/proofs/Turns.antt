@@ -3,11 +3,12 @@ use mathlib.Core.Path.{_≡_, refl, sym, _∙_}
 use mathlib.Core.Logic.{⊎-elim, dite}
 use mathlib.Core.Bool.{Bool, true, false}
 use mathlib.Core.List.{List}
-use Prim.Native.Nat.{ℕ, suc, _+_, _≤_, _<_, zero-le}
+use Prim.Native.Nat.{ℕ, suc, _+_, _*_, _≤_, _<_, zero-le}
 use native.Mathlib.Decide.{decLt}
 use native.Mathlib.Numerals.{add-one}
 use native.Mathlib.Omega.{arith}
-use lib.ListN.{getD}
+use lib.ListN.{length, getD}
+use Rattle.meaning.specs.Chain.{mostStates}
 use Rattle.meaning.specs.Number.{choose}
 use Rattle.meaning.specs.Step.{Table, row, outside, removed, after}
 use Rattle.engines.specs.Row.{Fit}
@@ -76,6 +77,15 @@ fit-unfit b n t f u =
     let h = f (u .1 .0) (u .1 .1 .0) in
     ⊎-elim (λ l. omega (arith, h .weights)) (λ l. omega (arith, h .earned)) (u .1 .1 .1)
 
+-- A table that is reached is ready for the walk.
+pub reached-ready : {b : Bool} {n : ℕ} {t : Table} {w v : List ℕ} → n ≤ mostStates → n * (n + 4) ≤ length w → Reached b n t w v → Ready b n v
+reached-ready {n = n} {v = v} few room z =
+    record {
+      few = few;
+      room = omega (arith, z .kept .len);
+      fit = λ i h. rw (← z .same, row-is n v i h) at (z .fit i h);
+    }
+
 -- After p positions.
 pub record Eliminating (b : Bool) (n : ℕ) (go : ℕ → Bool) (o : List ℕ) (t : ℕ → Table) (w : List ℕ) (p : ℕ) (v : List ℕ) : Type 0 where
   pub upto : p ≤ n
@@ -102,12 +112,7 @@ module _ {b : Bool} {n : ℕ} {go : ℕ → Bool} {o : List ℕ} {w : List ℕ} 
 
   module _ {p : ℕ} {v : List ℕ} (z : Eliminating b n go o (tables b n go o w) w p v) where
     pub eliminating-ready : Ready b n w → Ready b n v
-    eliminating-ready h =
-        record {
-          few = h .few;
-          room = rw (z .reached .kept .len) (h .room);
-          fit = λ i l. rw (← row-is n v i l) (rw (z .reached .same) (z .reached .fit i l));
-        }
+    eliminating-ready h = reached-ready (h .few) (h .room) (z .reached)
 
     -- The turn at position p, which speaks of the table in v.
     module _ (l : p < n) {u : List ℕ} {r : Turn}

@@ -1,5 +1,4 @@
 use mathlib.Core.Path.{_∙_}
-use mathlib.Core.List.{[]}
 use borrow.Author.Needs.{needs}
 use Rattle.chainfile.proofs.answer.Statement.{statement}
 use Rattle.chainfile.proofs.answer.Tie as tie

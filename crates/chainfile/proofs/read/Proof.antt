@@ -1,5 +1,4 @@
 use mathlib.Core.Path.{refl}
-use mathlib.Core.List.{[]}
 use borrow.Author.Needs.{needs}
 use Rattle.meaning.specs.Block.{Input}
 use Rattle.meaning.specs.File.{Tables, Short, Accepted, ReadOutcome}

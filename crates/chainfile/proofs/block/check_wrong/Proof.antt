@@ -1,5 +1,4 @@
 use mathlib.Core.Logic.{⊎-elim, inl, inr}
-use mathlib.Core.List.{[]}
 use borrow.Author.Needs.{needs}
 use Rattle.chainfile.proofs.Law.{differs, agrees}
 use Rattle.chainfile.proofs.block.check_wrong.Statement.{statement}

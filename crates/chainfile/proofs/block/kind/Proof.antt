@@ -1,5 +1,4 @@
 use mathlib.Core.Path.{sym}
-use mathlib.Core.List.{[]}
 use native.Mathlib.Omega.{arith}
 use borrow.Author.Needs.{needs}
 use Rattle.chainfile.specs.Input.{input}

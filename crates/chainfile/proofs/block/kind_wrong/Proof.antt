@@ -1,7 +1,6 @@
 use Prim.Native.Nat.{_*_}
 use mathlib.Core.Path.{_≡_, refl, _∙_, ap}
 use mathlib.Core.Logic.{⊎-elim, inl, inr}
-use mathlib.Core.List.{[]}
 use lib.ListN.{getD}
 use borrow.Author.Needs.{needs}
 use native.Mathlib.Nat.{add-zero}

@@ -1,4 +1,3 @@
-use mathlib.Core.List.{[]}
 use borrow.Author.Needs.{needs}
 use Rattle.meaning.specs.File.{CheckFault, PlaceFault, KindFault, ContentFault, BlockRefused}
 use Rattle.chain.proofs.Law.{holds, fails}

@@ -1,12 +1,10 @@
 use Prim.Native.Nat.{_+_, _*_, _-_, _≤_}
 use mathlib.Core.Path.{_≡_, refl, sym, _∙_, ap}
-use mathlib.Core.List.{[]}
 use native.Mathlib.Omega.{arith}
 use lib.ListN.{getD, length-set}
 use borrow.Author.Needs.{needs}
 use native.Mathlib.Nat.{add-zero}
-use Rattle.meaning.specs.Block.{numberAt}
-use Rattle.meaning.specs.Block.{edgeAt, recordAt}
+use Rattle.meaning.specs.Block.{numberAt, edgeAt, recordAt}
 use Rattle.meaning.specs.File.{edgeNumber}
 use Rattle.chainfile.specs.Input.{input}
 use Rattle.chainfile.proofs.Filling.{Filled, none, more, all, number-from, number-to, number-weight}

@@ -1,6 +1,5 @@
 use Prim.Native.Nat.{_+_, _*_, _-_, _^_, _≤_}
 use mathlib.Core.Path.{_≡_, _∙_, ap}
-use mathlib.Core.List.{[]}
 use native.Mathlib.Omega.{arith}
 use lib.ListN.{getD}
 use borrow.Author.Needs.{needs}

@@ -1,5 +1,4 @@
 use Prim.Native.Nat.{ℕ, _-_, _<_}
-use mathlib.Core.List.{[]}
 use native.Mathlib.Omega.{arith}
 use borrow.Author.Needs.{needs}
 use Rattle.theory.specs.Sum.{last-or-below}

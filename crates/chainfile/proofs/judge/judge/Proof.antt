@@ -1,4 +1,3 @@
-use mathlib.Core.List.{[]}
 use borrow.Author.Needs.{needs}
 use Rattle.meaning.specs.Block.{Input}
 use Rattle.meaning.specs.File.{LengthFault, BlockRight, FileRefused}

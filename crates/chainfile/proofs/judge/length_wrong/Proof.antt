@@ -1,5 +1,4 @@
 use mathlib.Core.Logic.{⊎-elim, inl, inr}
-use mathlib.Core.List.{[]}
 use native.Mathlib.Omega.{arith}
 use borrow.Author.Needs.{needs}
 use Rattle.chainfile.proofs.judge.length_wrong.Statement.{statement}

@@ -1,5 +1,4 @@
 use Prim.Native.Nat.{_+_, _*_, _-_}
-use mathlib.Core.List.{[]}
 use native.Mathlib.Omega.{arith}
 use borrow.Author.Needs.{needs}
 use Rattle.chain.proofs.Law.{Passed, pass, holds, fails}

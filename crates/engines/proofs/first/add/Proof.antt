@@ -1,7 +1,8 @@
+use mathlib.Core.Path.{sym}
 use native.Mathlib.Omega.{arith}
 use borrow.Author.Needs.{needs}
-use Rattle.engines.proofs.Tables.{row-end}
-use Rattle.engines.proofs.Cells.{at-cell, put-cell}
+use Rattle.engines.proofs.Tables.{row-end, row-cell}
+use Rattle.engines.proofs.Cells.{put-cell}
 use Rattle.engines.proofs.first.add.Statement.{statement}
 use Rattle.engines.proofs.first.add.Tie as tie
 
@@ -21,7 +22,7 @@ add-work : tie.Need-add-work
 add-work c =
     let a = c .before .args in
     let h = c .before .pre in
-    omega (arith, h .4, at-cell (a .n) (a .work .now) (a .i) (h .2) (a .j) (h .3))
+    omega (arith, h .4, sym (row-cell (a .n) (a .work .now) (a .i) (a .j) (h .3)))
 
 slice-write-work : tie.Need-slice-write-work
 slice-write-work c = let a = c .before .args in omega (arith, row-end (a .i) (a .n) (omega arith))
@@ -30,7 +31,7 @@ returns : tie.Need-returns
 returns c =
     let a = c .before .args in
     let h = c .before .pre in
-    rw (at-cell (a .n) (a .work .now) (a .i) (h .2) (a .j) (h .3))
+    rw (sym (row-cell (a .n) (a .work .now) (a .i) (a .j) (h .3)))
     (put-cell (a .n) (a .work .now) (a .i) (h .2) (a .j) (h .3) _)
 
 pub add-spec : {M : Type 1} → statement M

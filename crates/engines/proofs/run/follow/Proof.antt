@@ -13,7 +13,8 @@ use Rattle.engines.specs.Order.{Finished}
 use Rattle.engines.specs.declared.walk.Walk.the-variants.{Done}
 use Rattle.engines.specs.Turn.{Reached}
 use Rattle.engines.proofs.Tables.{kept-more}
-use Rattle.engines.proofs.FirstRows.{first-stops, reached-ready}
+use Rattle.engines.proofs.FirstRows.{first-stops}
+use Rattle.engines.proofs.Turns.{reached-ready}
 use Rattle.engines.proofs.Course.{stops-unfit, stops-stuck, ends, reads, walk-kept}
 use Rattle.engines.proofs.run.follow.Statement.{statement}
 use Rattle.engines.proofs.run.follow.Tie as tie

@@ -15,7 +15,7 @@ pub(crate) struct Sums {
     pub(crate) second: u64,
 }
 
-// Of `count` bytes from byte `at` on, modulo `modulus`, both begun at `begin`.
+// Of `count` bytes from byte `at` on, modulo `modulus`, both begun at `begin`. The modulus is small, so that no sum wraps.
 pub(crate) fn fletcher(kept: &[u8], at: usize, count: usize, modulus: u64, begin: u64) -> Sums
     requires { ⌜ (at + count ≤ end) × (0 < modulus) × (modulus < 65536) × (begin < modulus) ⌝ }
     ensures { λ r. ⌜ (r .first ≡ firstSum modulus begin (λ j. byte (input (now (kept .entry)) 0) (at + j)) count) × (r .second ≡ secondSum modulus begin (λ j. byte (input (now (kept .entry)) 0) (at + j)) count) ⌝ }

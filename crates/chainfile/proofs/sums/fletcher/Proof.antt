@@ -1,12 +1,11 @@
 use Prim.Native.Nat.{_+_, _-_}
-use mathlib.Core.List.{[]}
 use native.Mathlib.Omega.{arith}
 use lib.ListN.{getD}
 use borrow.Author.Needs.{needs}
 use native.Mathlib.Nat.{mod-lt}
 use Rattle.chainfile.proofs.Fletcher.{Summed, none, more, all}
-use Rattle.chainfile.proofs.check.fletcher.Statement.{statement}
-use Rattle.chainfile.proofs.check.fletcher.Tie as tie
+use Rattle.chainfile.proofs.sums.fletcher.Statement.{statement}
+use Rattle.chainfile.proofs.sums.fletcher.Tie as tie
 
 abbrev Inv-loop : tie.InvT-loop
 Inv-loop kept at count modulus begin first₀ second₀ i₀ first second i = Summed modulus begin (λ j. getD kept (at + j) 0) count i first second
