@@ -1,9 +1,9 @@
 -- The divisor of a row, and the row divided.
 use mathlib.Core.Path.{_≡_, sym, ap, _∙_}
 use mathlib.Core.Logic.{dite, ⊎-elim}
-use mathlib.Core.List.{List, [], _∷_}
+use mathlib.Core.List.{List}
 use Prim.Native.Nat.{ℕ, zero, suc, _-_, _*_, _/_, _≤_, _<_}
-use native.Mathlib.Nat.{div-le-self, zero-div, div-one, mul-div-le, mod-one}
+use native.Mathlib.Nat.{div-le-self, zero-div, div-one, mul-div-le}
 use native.Mathlib.Numerals.{sub-one}
 use native.Mathlib.Decide.{decLt}
 use native.Mathlib.Omega.{arith}
@@ -12,7 +12,6 @@ use lib.Seq.{drop-cons, ext-getD}
 use borrow.Author.Tests.{eq-eqb, ne-eqb}
 use Rattle.meaning.specs.Number.{sumTo, gcd}
 use Rattle.meaning.specs.Row.{Row, cell, gcdOf, divisor, over, lowest}
-use Rattle.theory.specs.Gcd.{gcd-zero, gcd-step}
 use Rattle.theory.specs.Sum.{same, sum-le, sum-scale}
 use Rattle.theory.specs.Tab.{tab-at, tab-length}
 
@@ -20,15 +19,6 @@ pub gcdOf-more : (l : List ℕ) (j : ℕ) → 0 < j → j ≤ length l → gcdOf
 unfolding gcdOf
 gcdOf-more l zero h g = absurd (omega arith)
 gcdOf-more l (suc j) h g = rw (sub-one, drop-cons l j 0)
-
-gcd-one : (x g : ℕ) → g ≡ 1 → gcd x g ≡ 1
-gcd-one x g e = rw e (gcd-step x 1 ∙ rw (mod-one x) (gcd-zero 1))
-
-pub gcdOf-one : (l : List ℕ) (j : ℕ) → gcdOf (drop j l) ≡ 1 → gcdOf l ≡ 1
-unfolding gcdOf
-gcdOf-one l zero h = h
-gcdOf-one [] (suc j) h = h
-gcdOf-one (x ∷ l) (suc j) h = gcd-one x (gcdOf l) (gcdOf-one l j h)
 
 pub over-length : (d : ℕ) (r : Row) → length (over d r) ≡ length r
 unfolding over

@@ -10,7 +10,7 @@ ghost use Rattle.engines.specs.Row.{Sized, Tested};
 use chain::Chain;
 use chain::fraction::gcd;
 
-// The greatest common divisor of the numbers of a row, 0 where all are 0. Once it is 1, it stays 1.
+// The greatest common divisor of the numbers of a row, 0 where all are 0.
 fn common(row: &[u64]) -> u64
     ensures { λ r. ⌜ r ≡ gcdOf (now (row .entry)) ⌝ }
 {
@@ -19,9 +19,6 @@ fn common(row: &[u64]) -> u64
     while 0 < j {
         j -= 1;
         g = gcd(row[j], g);
-        if g == 1 {
-            return 1;
-        }
     }
     g
 }
