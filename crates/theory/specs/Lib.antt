@@ -26,6 +26,7 @@ pub mod Stage
 pub mod Below
 pub mod Every
 pub mod Formed
+pub mod Figures
 pub mod Lone
 pub mod Answer
 pub mod Fits
