@@ -1,12 +1,17 @@
--- What a looking promises determines its finding, and an answer's numbers determine its case.
+-- What a looking promises determines its finding, an answer's numbers determine its case, and what is promised of a test, a chain or a fraction
+-- determines it.
 use Prim.Native.Nat.{ℕ}
-use mathlib.Core.Path.{_≡_, refl, ap, ap₂}
+use mathlib.Core.Path.{_≡_, refl, sym, ap, ap₂, _∙_}
+use mathlib.Core.Bool.{Bool, true, false}
 use native.Mathlib.Omega.{arith}
 use Rattle.meaning.specs.Refusal.{Lent, Entry}
 use Rattle.meaning.specs.Outcome.{Answer, Bounds as Between}
 use Rattle.theory.specs.Determined.{refused-one}
+use Rattle.chain.specs.Least.{decides}
+use Rattle.chain.specs.Reduce.{Common}
 use Rattle.chain.specs.Says.{says}
 use Rattle.chain.specs.Answer.{toldChance, toldReward, toldBounds, ProperChance, ProperReward, ProperBounds}
+use Rattle.chain.specs.declared.Chain.{Chain}
 use Rattle.chain.specs.declared.fraction.Fraction.{Fraction}
 use Rattle.chain.specs.declared.look.Finding.{Finding}
 use Rattle.chain.specs.declared.look.Finding.the-variants.{Clear, Refused as Refusing}
@@ -23,8 +28,23 @@ unique x l Clear (Refusing k p) w r = absurd (w .none k p (r .applies))
 unique x l (Refusing k p) Clear r w = absurd (w .none k p (r .applies))
 unique x l (Refusing k p) (Refusing k' p') r r' = let e = refused-one r r' in ap₂ (λ (a b : ℕ). Refusing a b) (e .0) (e .1)
 
+-- What a test says is one.
+pub decides-unique : (P : Type 0) (b b' : Bool) → decides P b → decides P b' → b ≡ b'
+decides-unique P true true d d' = refl
+decides-unique P true false d d' = absurd (d' d)
+decides-unique P false true d d' = absurd (d d')
+decides-unique P false false d d' = refl
+
+-- A greatest common divisor is one.
+pub common-unique : (a b g g' : ℕ) → Common a b g → Common a b g' → g ≡ g'
+common-unique a b g g' c c' = c .is ∙ sym (c' .is)
+
+-- A chain is its three numbers.
+pub framed : {c d : Chain} → c .states ≡ d .states → c .start ≡ d .start → c .goals ≡ d .goals → c ≡ d
+framed s t g = λ i. record { states = s i; start = t i; goals = g i }
+
 -- A fraction is its two numbers.
-joined : {f g : Fraction} → f .numerator ≡ g .numerator → f .denominator ≡ g .denominator → f ≡ g
+pub joined : {f g : Fraction} → f .numerator ≡ g .numerator → f .denominator ≡ g .denominator → f ≡ g
 joined n d = ap₂ (λ (n d : ℕ). record { numerator = n; denominator = d }) n d
 
 module _ {a b : Answer} (e : a ≡ b) where

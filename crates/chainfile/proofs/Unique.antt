@@ -7,6 +7,7 @@ use Rattle.meaning.specs.Block.{Input}
 use Rattle.meaning.specs.File.{BlockRefused, FileRefused, Tables, Reading as Answer, ReadOutcome}
 use Rattle.theory.specs.FileOne.{read-one}
 use Rattle.chain.specs.declared.Chain.{Chain as Frame}
+use Rattle.chain.proofs.Unique.{framed}
 use Rattle.chainfile.specs.declared.Reading.{Reading}
 use Rattle.chainfile.specs.declared.Reading.the-variants.{Chain, Refused}
 use Rattle.chainfile.specs.Tells.{told}
@@ -47,9 +48,6 @@ is-proper f t after (Refused n p) (ReadOutcome.short s e d) = omega (arith, numb
 is-proper f t after (Refused n p) (ReadOutcome.refused s n′ p′ w e d) = omega (arith, number e, file-least w)
 is-proper f t after (Refused n p) (ReadOutcome.accepted s w e d) =
     absurd (omega (arith, states e, bounded f (w .blocks 0 (omega arith))))
-
-framed : {c d : Frame} → c .states ≡ d .states → c .start ≡ d .start → c .goals ≡ d .goals → c ≡ d
-framed s t g = λ i. record { states = s i; start = t i; goals = g i }
 
 -- An answer's numbers determine its case.
 told-one : (r r′ : Reading) → proper r → proper r′ → told r ≡ told r′ → r ≡ r′

@@ -14,3 +14,4 @@ pub mod Figures
 pub mod Looked
 pub mod Surveyed
 pub mod Outcomes
+pub mod Unique

@@ -139,7 +139,7 @@ pub bounds-sum : (l : Lent) → WellFormed plain l → {r : Course} {g u e d : �
 bounds-sum l formed q z = read-sum l formed (subst (figured rounding l) q z)
 
 -- Number 0 is no refusal.
-refused-some : {x : Entry} {l : Lent} {number place : ℕ} → Refused x l number place → 0 < number
+pub refused-some : {x : Entry} {l : Lent} {number place : ℕ} → Refused x l number place → 0 < number
 refused-some {x} {l} {number} {place} z =
     ⊎-elim (λ (e : number ≡ 0). absurd (subst (λ k. Applies x l k place) e (z .applies))) (λ h. h) (eq-zero-or-pos number)
 

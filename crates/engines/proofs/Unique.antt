@@ -1,0 +1,84 @@
+-- What an entry promises determines its answer, case and all, and the work table afterwards.
+use Prim.Native.Nat.{ℕ, _<_}
+use mathlib.Core.Path.{_≡_, refl, ap}
+use mathlib.Core.Bool.{Bool}
+use mathlib.Core.List.{List}
+use native.Mathlib.Omega.{arith}
+use Rattle.meaning.specs.Step.{Sets}
+use Rattle.meaning.specs.Refusal.{Lent}
+use Rattle.meaning.specs.Stop.{Stops, before-steps, in-step, at-turn}
+use Rattle.meaning.specs.Outcome.{refused, stopped, answered, Answer, ChanceFigure, ChanceOutcome, Bounds as Numbers, BoundsFigure, BoundsOutcome}
+use Rattle.theory.specs.Entries.{chance-determined, reward-determined, bounds-determined}
+use Rattle.chain.specs.Answer.{toldChance, toldBounds, ProperChance, ProperBounds}
+use Rattle.chain.specs.declared.answer.Chance.{Chance}
+use Rattle.chain.specs.declared.answer.Chance.the-variants as chance
+use Rattle.chain.specs.declared.answer.Reward.{Reward}
+use Rattle.chain.specs.declared.answer.Bounds.{Bounds}
+use Rattle.chain.specs.declared.answer.Bounds.the-variants as bounds
+use Rattle.chain.proofs.Unique.{chance-told, reward-told, bounds-told}
+use Rattle.engines.specs.Told.{Rewarded}
+use Rattle.engines.proofs.Outcomes.{refused-some}
+
+-- What stops an engine is 12 or 13, and so no answer.
+stop-some : {b : Bool} {l : Lent} {k : Sets} {number place : ℕ} → Stops b l k number place → 0 < number
+stop-some (before-steps f) = omega arith
+stop-some (in-step p h w d f) = omega arith
+stop-some (at-turn p h w d) = omega arith
+
+module _ {a b : Answer} (e : a ≡ b) where
+  number : a .number ≡ b .number
+  number = ap (λ (a : Answer). a .number) e
+
+  denominator : a .denominator ≡ b .denominator
+  denominator = ap (λ (a : Answer). a .denominator) e
+
+-- A fraction has a denominator above 0, and a refusal a number above 0.
+chance-proper : (l : Lent) (r : Chance) (w : List ℕ) → ChanceOutcome l (toldChance r) w → ProperChance r
+chance-proper l (chance.Is f) w (refused n p z e s) = absurd (omega (arith, number e, refused-some z))
+chance-proper l (chance.Is f) w (stopped n p v t e s) = absurd (omega (arith, number e, stop-some (t .stops)))
+chance-proper l (chance.Is f) w (answered v t (ChanceFigure.chance p q h e) s) = omega (arith, denominator e, h .lowest .below)
+chance-proper l (chance.Refused k i) w (refused n p z e s) = omega (arith, number e, refused-some z)
+chance-proper l (chance.Refused k i) w (stopped n p v t e s) = omega (arith, number e, stop-some (t .stops))
+chance-proper l (chance.Refused k i) w (answered v t (ChanceFigure.chance p q h e) s) =
+    absurd (omega (arith, denominator e, h .lowest .below))
+
+module _ {a b : Numbers} (e : a ≡ b) where
+  which : a .number ≡ b .number
+  which = ap (λ (a : Numbers). a .number) e
+
+  lower : a .lowerDenominator ≡ b .lowerDenominator
+  lower = ap (λ (a : Numbers). a .lowerDenominator) e
+
+  upper : a .upperDenominator ≡ b .upperDenominator
+  upper = ap (λ (a : Numbers). a .upperDenominator) e
+
+-- The figures of the bounds have denominators above 0.
+figure-proper : (l : Lent) (a : Numbers) → BoundsFigure l a → (0 < a .lowerDenominator) × (0 < a .upperDenominator)
+figure-proper l a (BoundsFigure.won g e) = (omega (arith, lower e), omega (arith, upper e))
+figure-proper l a (BoundsFigure.lost g e) = (omega (arith, lower e), omega (arith, upper e))
+figure-proper l a (BoundsFigure.live k r v p q s t f e) =
+    (omega (arith, lower e, f .0 .lowest .below), omega (arith, upper e, f .1 .lowest .below))
+
+bounds-proper : (l : Lent) (r : Bounds) (w : List ℕ) → BoundsOutcome l (toldBounds r) w → ProperBounds r
+bounds-proper l (bounds.Between f h) w (refused n p z e s) = absurd (omega (arith, which e, refused-some z))
+bounds-proper l (bounds.Between f h) w (stopped n p v t e s) = absurd (omega (arith, which e, stop-some (t .stops)))
+bounds-proper l (bounds.Between f h) w (answered v t g s) = figure-proper l _ g
+bounds-proper l (bounds.Refused k i) w (refused n p z e s) = omega (arith, which e, refused-some z)
+bounds-proper l (bounds.Refused k i) w (stopped n p v t e s) = omega (arith, which e, stop-some (t .stops))
+bounds-proper l (bounds.Refused k i) w (answered v t g s) = absurd (omega (arith, figure-proper l _ g .0))
+
+module _ (l : Lent) (w w′ : List ℕ) where
+  pub chance-unique : (r r′ : Chance) → ChanceOutcome l (toldChance r) w → ChanceOutcome l (toldChance r′) w′ → (r ≡ r′) × (w ≡ w′)
+  chance-unique r r′ o o′ =
+      let e = chance-determined l o o′ in
+      (chance-told r r′ (chance-proper l r w o) (chance-proper l r′ w′ o′) (e .0), e .1)
+
+  pub reward-unique : (r r′ : Reward) → Rewarded l r w → Rewarded l r′ w′ → (r ≡ r′) × (w ≡ w′)
+  reward-unique r r′ o o′ =
+      let e = reward-determined l (o .outcome) (o′ .outcome) in
+      (reward-told r r′ (o .proper) (o′ .proper) (e .0), e .1)
+
+  pub bounds-unique : (r r′ : Bounds) → BoundsOutcome l (toldBounds r) w → BoundsOutcome l (toldBounds r′) w′ → (r ≡ r′) × (w ≡ w′)
+  bounds-unique r r′ o o′ =
+      let e = bounds-determined l o o′ in
+      (bounds-told r r′ (bounds-proper l r w o) (bounds-proper l r′ w′ o′) (e .0), e .1)
