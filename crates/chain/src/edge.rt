@@ -4,8 +4,12 @@ ghost use Prim.Native.Nat.{_+_, _*_, _%_};
 ghost use lib.ListN.{length, getD};
 ghost use Rattle.chain.specs.Least.{decides};
 ghost use Rattle.meaning.specs.Chain.{edgeSize, edgeCount, from, to, weight};
+use crate::Chain;
 
 pub const SIZE: usize = 3;
+
+// The numbers of the longest list of edges.
+pub const MOST: usize = SIZE * Chain::EDGES;
 
 pub fn count(edges: &[u64]) -> usize
     ensures { λ r. ⌜ r ≡ edgeCount (now (edges .entry)) ⌝ }

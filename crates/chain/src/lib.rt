@@ -35,6 +35,9 @@ impl Chain {
     // The columns of a row of the largest chain.
     pub const WIDTH: usize = Chain::STATES + Chain::BESIDE;
 
+    // The numbers of the work table of the largest chain.
+    pub const WORK: usize = Chain::STATES * Chain::WIDTH;
+
     pub fn new(states: usize, start: usize, goals: u64) -> Self
         ensures { λ r. ⌜ (r .states ≡ states) × (r .start ≡ start) × (r .goals ≡ goals) ⌝ }
     {

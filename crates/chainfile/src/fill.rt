@@ -22,7 +22,7 @@ pub(crate) fn short(denominators: usize, edges: usize, order: usize, rewards: us
     if denominators < Chain::STATES {
         return true;
     }
-    if edges < edge::SIZE * Chain::EDGES {
+    if edges < edge::MOST {
         return true;
     }
     if order < Chain::STATES {

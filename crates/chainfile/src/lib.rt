@@ -15,6 +15,8 @@ mod layout;
 mod records;
 mod sums;
 
+pub use layout::LONGEST;
+
 pub enum Reading {
     Chain { chain: Chain, edges: usize },
     Refused { number: u32, place: usize },

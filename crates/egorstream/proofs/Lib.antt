@@ -4,3 +4,7 @@ pub mod Longest
 pub mod Printed
 pub mod Near
 pub mod Room
+pub mod Opened
+pub mod Outcomes
+pub mod Called
+pub mod ChainLines

@@ -1,5 +1,5 @@
 -- How long the texts of the report can be.
-use Prim.Native.Nat.{ℕ, _≤_}
+use Prim.Native.Nat.{ℕ, _^_, _≤_, _<_}
 use native.Mathlib.Omega.{arith}
 use mathlib.Core.Path.{_≡_, refl}
 use mathlib.Core.Bool.{Bool, true, false}
@@ -10,9 +10,9 @@ use Rattle.meaning.specs.Number.{choose}
 use Rattle.meaning.specs.Chain.{mostStates, mostEdges, M}
 use Rattle.meaning.specs.Outcome.{Answer, fraction, Bounds, between}
 use Rattle.meaning.specs.Text.{bytesOf, decimal, decimalIn}
-use Rattle.meaning.specs.Report.{fractionText, refusedText, answerText, boundsText, linesText}
+use Rattle.meaning.specs.Report.{fractionText, refusedText, answerText, boundsText, linesText, faceText, longest, longestFace}
 use Rattle.theory.specs.Small.{Small, BothSmall}
-use Rattle.egorstream.specs.Told.{longest}
+use Rattle.egorstream.specs.Written.{Room}
 use Rattle.egorstream.proofs.Decimal.{digits}
 
 -- A refusal's number has two digits and its place four.
@@ -75,3 +75,16 @@ refusal-short number place n = simp length-append (omega (arith, digits 1 number
 pub longest-met : length (linesText mostStates mostEdges mostStates mostStates (fraction M M) (fraction M M) (between M M M M)) ≡ longest
 unfolding decimal decimalIn
 longest-met = refl
+
+-- The line of a face, whatever 64-bit numbers stand in it.
+pub face-room : (buffer : List ℕ) (face : ℕ) (a : Answer) → longestFace ≤ length buffer
+    → face < 2 ^ 64 → a .number < 2 ^ 32 → a .place < 2 ^ 64 → a .numerator < 2 ^ 64 → a .denominator < 2 ^ 64
+    → Room buffer 0 (faceText face a)
+face-room buffer face a room hf hn hp hu hd =
+    let refused : length (refusedText (a .number) (a .place)) ≤ 42 =
+    simp length-append (omega (arith, digits 9 (a .number) (omega arith), digits 19 (a .place) (omega arith))) in
+    let fraction : length (fractionText (a .numerator) (a .denominator)) ≤ 42 =
+    simp length-append (omega (arith, digits 19 (a .numerator) (omega arith), digits 19 (a .denominator) (omega arith))) in
+    let answer : length (answerText a) ≤ 42 =
+    either (eqb (a .number) 0) _ _ 42 (either (eqb (a .denominator) 0) _ _ 42 (omega arith) fraction) refused in
+    simp length-append (omega (arith, digits 19 face (omega arith)))

@@ -20,6 +20,6 @@ within : bytesOf "chance " ++ answerText (refusal 12 1) ≡ bytesOf "chance refu
 unfolding decimal decimalIn
 within = refl
 
-face : faceText 1 1 6 ≡ bytesOf "face 1 1/6\n"
+face : faceText 1 (fraction 1 6) ≡ bytesOf "face 1 1/6\n"
 unfolding decimal decimalIn
 face = refl

@@ -16,9 +16,8 @@ use Rattle.meaning.specs.Outcome.{
   BoundsFigure,
   BoundsOutcome,
 }
-use Rattle.meaning.specs.Report.{linesText}
+use Rattle.meaning.specs.Report.{linesText, longest}
 use Rattle.theory.specs.Small.{chance-small, reward-small, bounds-small}
-use Rattle.egorstream.specs.Told.{longest}
 use Rattle.egorstream.proofs.Longest.{Near, lines-short}
 use Rattle.egorstream.proofs.Near.{refused-near, stopped-near}
 
@@ -30,7 +29,7 @@ chance-near (Outcome.refused number place r e s) = rw e (refused-near number pla
 chance-near (Outcome.stopped number place f t e s) = rw e (stopped-near f t .2)
 chance-near (Outcome.answered f t (ChanceFigure.chance p q h e) s) = rw e nought
 
-reward-near : {l : Lent} {a : Answer} {w : List ℕ} → RewardOutcome l a w → Near (a .number) (a .place)
+pub reward-near : {l : Lent} {a : Answer} {w : List ℕ} → RewardOutcome l a w → Near (a .number) (a .place)
 reward-near (Outcome.refused number place r e s) = rw e (refused-near number place r .1)
 reward-near (Outcome.stopped number place f t e s) = rw e (stopped-near f (t .1) .2)
 reward-near (Outcome.answered f t (RewardFigure.missed m e) s) = rw e nought

@@ -1,2 +1,4 @@
 pub mod Written
 pub mod Told
+pub mod Found
+pub mod Holds

@@ -1,6 +1,6 @@
 -- The numbers of an answer in the report, and which refusals end it.
-use Prim.Native.Nat.{ℕ, _≤_}
-use mathlib.Core.Bool.{Bool, true, false}
+use Prim.Native.Nat.{ℕ, _^_, _≤_, _<_}
+use mathlib.Core.Path.{_≡_}
 use mathlib.Core.List.{List, _++_}
 use Rattle.meaning.specs.Outcome.{Answer, Bounds}
 use Rattle.meaning.specs.Text.{bytesOf, decimal}
@@ -11,6 +11,14 @@ use Rattle.egorstream.specs.declared.lines.Limits.{Limits}
 
 abbrev pub toldFigure : Figure → Answer
 toldFigure f = record { number = f .number; place = f .place; numerator = f .numerator; denominator = f .denominator }
+
+-- A figure tells an answer, in numbers that have room in their types.
+pub record Tells (f : Figure) (a : Answer) : Type 0 where
+  pub same : toldFigure f ≡ a
+  pub number : f .number < 2 ^ 32
+  pub place : f .place < 2 ^ 64
+  pub numerator : f .numerator < 2 ^ 64
+  pub denominator : f .denominator < 2 ^ 64
 
 abbrev pub toldLimits : Limits → Bounds
 toldLimits f =
@@ -44,11 +52,3 @@ toldLines c chance reward limits =
 pub data Ends (number : ℕ) : Type 0 where
   chain : 1 ≤ number → number ≤ 11 → Ends number
   file : 20 ≤ number → number ≤ 24 → Ends number
-
-abbrev pub decided : Type 0 → Bool → Type 0
-decided P true = P
-decided P false = P → ⊥
-
--- The longest report: counts of 2, 4, 2 and 2 digits, and fractions of 21 bytes.
-abbrev pub longest : ℕ
-longest = 147

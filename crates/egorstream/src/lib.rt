@@ -1,6 +1,11 @@
-// The report of a chain, composed byte by byte into a lent buffer, and the answer bytes of the call from C.
+// The report of a chain file, the line of a face of the dice, and the call from C.
+mod call;
+mod figures;
 mod lines;
 mod reply;
-mod text;
+pub mod report;
+pub mod text;
 
+pub use call::egorstream_chance;
 pub use lines::LONGEST;
+pub use lines::LONGEST_FACE;

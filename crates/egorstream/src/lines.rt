@@ -2,8 +2,9 @@
 ghost use mathlib.Core.List.{_++_};
 ghost use Rattle.meaning.specs.Text.{bytesOf, decimal};
 ghost use Rattle.meaning.specs.Report.{fractionText, refusedText, answerText, boundsText, faceText};
+ghost use Rattle.chain.specs.Least.{decides};
 ghost use Rattle.egorstream.specs.Written.{Room, Written};
-ghost use Rattle.egorstream.specs.Told.{toldFigure, toldLimits, toldLines, lineText, countsText, Ends, decided};
+ghost use Rattle.egorstream.specs.Told.{toldFigure, toldLimits, toldLines, lineText, countsText, Ends};
 use crate::text;
 
 // What the longest report holds: a line has a name, what stands in it, and a byte for its end.
@@ -14,6 +15,9 @@ const COUNT_LINES: usize = (7 + 2 + 1) + (6 + 4 + 1) + (6 + 2 + 1) + (5 + 2 + 1)
 const FIGURE_LINE: usize = 7 + FRACTION + 1;
 
 const BOUNDS_LINE: usize = 7 + FRACTION + 1 + FRACTION + 1;
+
+// A number of 64 bits has 20 digits.
+pub const LONGEST_FACE: usize = 5 + 20 + 1 + (8 + 10 + 4 + 20) + 1;
 
 pub const LONGEST: usize = COUNT_LINES + 2 * FIGURE_LINE + BOUNDS_LINE;
 
@@ -44,7 +48,7 @@ pub(crate) struct Limits {
 
 // The numbers of refusal that end the report with a single line.
 pub(crate) fn ends(number: u32) -> bool
-    ensures { λ r. ⌜ decided (Ends number) r ⌝ }
+    ensures { λ r. ⌜ decides (Ends number) r ⌝ }
 {
     match number {
         1..=11 | 20..=24 => true,
@@ -168,13 +172,13 @@ pub(crate) fn refusal_line(buffer: &mut [u8], at: usize, number: u32, place: usi
 }
 
 // The line of a face of the dice.
-pub(crate) fn face_line(buffer: &mut [u8], at: usize, face: u64, p: u64, q: u64) -> usize
-    requires { ⌜ Room (now buffer) at (faceText face p q) ⌝ }
-    ensures { λ r. ⌜ Written (now (buffer .entry)) at (faceText face p q) (now (buffer .exit)) r ⌝ }
+pub(crate) fn face_line(buffer: &mut [u8], at: usize, face: u64, chance: Figure) -> usize
+    requires { ⌜ Room (now buffer) at (faceText face (toldFigure chance)) ⌝ }
+    ensures { λ r. ⌜ Written (now (buffer .entry)) at (faceText face (toldFigure chance)) (now (buffer .exit)) r ⌝ }
 {
     let first = text::put(buffer, at, b"face ");
     let second = text::number(buffer, first, face);
     let third = text::put(buffer, second, b" ");
-    let end = fraction(buffer, third, p, q);
+    let end = answer(buffer, third, chance);
     text::put(buffer, end, b"\n")
 }

@@ -6,6 +6,9 @@ ghost use Rattle.meaning.specs.Call.{answerLength, fourBytes, answerBytes, writ
 ghost use Rattle.egorstream.specs.Written.{Room, Written};
 use crate::text::byte;
 
+// How long an answer is: four numbers of 4 bytes.
+pub(crate) const LENGTH: usize = 4 * 4;
+
 // x in four bytes, little-endian.
 fn four(answer: &mut [u8], at: usize, x: u64) -> usize
     requires { ⌜ Room (now answer) at (fourBytes x) ⌝ }

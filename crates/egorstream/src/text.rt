@@ -4,6 +4,12 @@ ghost use Prim.Native.Nat.{_<_};
 ghost use Rattle.meaning.specs.Text.{decimal};
 ghost use Rattle.egorstream.specs.Written.{Room, Written};
 
+// What a text in a lent buffer answers: how long it is, or that the buffer is refused.
+pub enum Printed {
+    Length(usize),
+    Refused { number: u32, place: usize },
+}
+
 pub(crate) fn put(buffer: &mut [u8], at: usize, text: &[u8]) -> usize
     requires { ⌜ Room (now buffer) at (now text) ⌝ }
     ensures { λ r. ⌜ Written (now (buffer .entry)) at (now (text .entry)) (now (buffer .exit)) r ⌝ }

@@ -1,8 +1,8 @@
 -- The report: what the program prints for an input, byte for byte.
-use Prim.Native.Nat.{ℕ}
+use Prim.Native.Nat.{ℕ, _≤_, _<_}
 use mathlib.Core.Path.{_≡_}
 use mathlib.Core.List.{List, [], _++_}
-use lib.ListN.{replicate}
+use lib.ListN.{length, replicate}
 use lib.Dec.{eqb}
 use Rattle.meaning.specs.Number.{choose}
 use Rattle.meaning.specs.Chain.{mostStates, Goal, Live}
@@ -16,7 +16,7 @@ use Rattle.meaning.specs.Outcome.{
 }
 use Rattle.meaning.specs.Survey.{Count}
 use Rattle.meaning.specs.Block.{Input, headStates, headEdges}
-use Rattle.meaning.specs.File.{FileRefused, Accepted, chainIn, ordersIn, rewardsIn}
+use Rattle.meaning.specs.File.{FileRefused, Accepted, chainIn, ordersIn, rewardsIn, filled}
 use Rattle.meaning.specs.Text.{bytesOf, decimal}
 
 -- What an entry is lent of an accepted file. The work table is the program's own, and holds zeros.
@@ -81,6 +81,38 @@ pub data Report (f : Input) (t : List ℕ) : Type 0 where
       → t ≡ linesText (headStates f) (headEdges f) goals live chance reward bounds
       → Report f t
 
--- The line of a face of the dice, as `face 1 1/6`.
-abbrev pub faceText : ℕ → ℕ → ℕ → List ℕ
-faceText face p q = bytesOf "face " ++ decimal face ++ bytesOf " " ++ fractionText p q ++ bytesOf "\n"
+-- The line of a face of the dice, as `face 1 1/6`, or `face 1 refused 12 at 1` where the chance is refused.
+abbrev pub faceText : ℕ → Answer → List ℕ
+faceText face chance = bytesOf "face " ++ decimal face ++ bytesOf " " ++ answerText chance ++ bytesOf "\n"
+
+-- What a text in a lent buffer answers: a refusal's number and place, or 0 and how long the text is.
+pub record Printing : Type 0 where
+  pub number : ℕ
+  pub place : ℕ
+  pub length : ℕ
+
+abbrev pub noPrinting : ℕ → ℕ → Printing
+noPrinting number place = record { number = number; place = place; length = 0 }
+
+abbrev pub printing : ℕ → Printing
+printing n = record { number = 0; place = 0; length = n }
+
+-- A buffer with no room for the longest text is refused by 2, and stays. Else the text stands at its front, and bytes past the text stay.
+pub data TextOutcome (most : ℕ) (Text : List ℕ → Type 0) (before : List ℕ) (a : Printing) (after : List ℕ) : Type 0 where
+  short : length before < most → a ≡ noPrinting 2 0 → after ≡ before → TextOutcome most Text before a after
+  printed : most ≤ length before → (t : List ℕ) → Text t → a ≡ printing (length t) → after ≡ filled t before
+      → TextOutcome most Text before a after
+
+-- The longest report: counts of 2, 4, 2 and 2 digits, and fractions of 21 bytes.
+abbrev pub longest : ℕ
+longest = 147
+
+abbrev pub ReportOutcome : Input → List ℕ → Printing → List ℕ → Type 0
+ReportOutcome f = TextOutcome longest (Report f)
+
+-- The longest line of a face: numbers of 64 bits have 20 digits, and a refusal's number has 10.
+abbrev pub longestFace : ℕ
+longestFace = 69
+
+abbrev pub FaceOutcome : ℕ → Answer → List ℕ → Printing → List ℕ → Type 0
+FaceOutcome face chance = TextOutcome longestFace (λ t. t ≡ faceText face chance)

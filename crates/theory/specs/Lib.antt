@@ -48,3 +48,6 @@ pub mod Head
 pub mod Cases
 pub mod Listed
 pub mod FileOne
+pub mod Entails
+pub mod ReportOne
+pub mod CallOne

@@ -20,4 +20,4 @@ returns-5 : tie.Need-returns-5
 returns-5 c = ⊎-elim (λ h. omega arith) (⊎-elim (λ h. omega arith) (⊎-elim (λ h. omega arith) (λ h. omega arith)))
 
 pub short-spec : {M : Type 1} → statement M
-short-spec = tie.close (tie.spec returns (λ c. search needs) returns-2 returns-3 returns-4 returns-5)
+short-spec = tie.close (tie.spec returns returns-2 returns-3 returns-4 returns-5)

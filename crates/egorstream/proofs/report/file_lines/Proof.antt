@@ -1,0 +1,130 @@
+use Prim.Native.Nat.{ℕ, _+_, _*_, _-_, _/_, _%_, _^_, _<_, _≤_}
+use mathlib.Core.Path.{_≡_, refl, sym, _∙_, ap}
+use mathlib.Core.Logic.{⊎-elim, inl, inr}
+use mathlib.Core.List.{List, [], _∷_, _++_}
+use native.Mathlib.Omega.{arith}
+use lib.ListN.{length, getD, set, take, drop, length-set}
+use lib.Seq.{length-take-le}
+use borrow.Author.Needs.{needs}
+use Rattle.meaning.specs.Block.{Input}
+use Rattle.meaning.specs.File.{FileRefused}
+use Rattle.meaning.specs.Report.{Report}
+use Rattle.chainfile.specs.Input.{input}
+use Rattle.chainfile.specs.Tells.{tables}
+use Rattle.egorstream.proofs.Opened.{Opened, room, file-refused, file-opened}
+use Rattle.egorstream.proofs.ChainLines.{stands, file-room}
+use Rattle.egorstream.proofs.report.file_lines.Statement.{statement}
+use Rattle.egorstream.proofs.report.file_lines.Tie as tie
+use Rattle.egorstream.proofs.report.file_lines.Reads as reads
+use Rattle.egorstream.proofs.report.file_lines.Lts as lts
+use Rattle.chainfile.proofs.read.Reads as read-reads
+use Rattle.egorstream.proofs.lines.refusal_line.Reads as refusal-line-reads
+use Rattle.egorstream.proofs.report.chain_lines.Reads as chain-lines-reads
+
+abbrev start : tie.After-read → tie.Start
+start r = r .before .before .before .before .before .before .before
+
+abbrev f : tie.Start → Input
+f s = input (s .args .kept .now) (s .args .more)
+
+opening : (c : tie.After-known-told2) → let r = c .before .before .before .before .before .before .before in
+    Opened (f (start r)) (c .before .chain .given .0 .0) (c .before .chain .given .0 .1 .0) (tables (r .read .last .1 .1 .0) (r .read .last .1 .1 .1 .0) (r .read .last .1 .1 .1 .1 .0) (r .read .last .1 .1 .1 .1 .1 .0))
+opening c = file-opened room (c .before .before .before .before .before .before .before .read .ensures) (c .before .chain .given .1)
+
+refused : (c : tie.After-known-told) → FileRefused (f (start (c .before .before .before .before .before .before .before))) (c .before .number .given .0 .0) (c .before .number .given .0 .1 .0)
+refused c = file-refused room (c .before .before .before .before .before .before .before .read .ensures) (c .before .number .given .1)
+
+slice-aggregate-read : tie.Need-slice-aggregate-read
+slice-aggregate-read c = search needs
+
+slice-aggregate-read-2 : tie.Need-slice-aggregate-read-2
+slice-aggregate-read-2 c = search needs
+
+slice-aggregate-read-3 : tie.Need-slice-aggregate-read-3
+slice-aggregate-read-3 c = search needs
+
+slice-aggregate-read-4 : tie.Need-slice-aggregate-read-4
+slice-aggregate-read-4 c = search needs
+
+read-requires : tie.Need-read-requires
+read-requires c κs = search needs
+
+enum-known-number : tie.Need-enum-known-number
+enum-known-number c = search needs
+
+refusal-line-requires : tie.Need-refusal-line-requires
+refusal-line-requires c κs =
+    let s = start (c .before .before .before .before .before .before .before .before) in
+    file-room (s .args .buffer .now) (s .pre) (refused (c .before))
+
+enum-known-chain : tie.Need-enum-known-chain
+enum-known-chain c = search needs
+
+mul-e : tie.Need-mul-e
+mul-e c = omega (arith, opening c .few-edges)
+
+array-share-prefix-denominators : tie.Need-array-share-prefix-denominators
+array-share-prefix-denominators c = opening c .denominators
+
+slice-aggregate-chain-lines : tie.Need-slice-aggregate-chain-lines
+slice-aggregate-chain-lines c = sym (length-take-le _ _ (opening (c .before) .denominators))
+
+array-share-prefix-edges : tie.Need-array-share-prefix-edges
+array-share-prefix-edges c = opening (c .before) .edges
+
+slice-aggregate-chain-lines-2 : tie.Need-slice-aggregate-chain-lines-2
+slice-aggregate-chain-lines-2 c = sym (length-take-le _ _ (opening (c .before .before) .edges))
+
+array-share-prefix-order : tie.Need-array-share-prefix-order
+array-share-prefix-order c = opening (c .before .before) .order
+
+slice-aggregate-chain-lines-3 : tie.Need-slice-aggregate-chain-lines-3
+slice-aggregate-chain-lines-3 c = sym (length-take-le _ _ (opening (c .before .before .before) .order))
+
+array-share-prefix-rewards : tie.Need-array-share-prefix-rewards
+array-share-prefix-rewards c = opening (c .before .before .before) .rewards
+
+slice-aggregate-chain-lines-4 : tie.Need-slice-aggregate-chain-lines-4
+slice-aggregate-chain-lines-4 c = sym (length-take-le _ _ (opening (c .before .before .before .before) .rewards))
+
+chain-lines-requires : tie.Need-chain-lines-requires
+chain-lines-requires c κs = search needs
+
+same-length : tie.Need-same-length
+same-length c = search needs
+
+returns : tie.Need-returns
+returns c = stands (Report.file-refused _ _ (refused (c .before .before .before .before)) refl) (c .before .before .refusal-line .ensures)
+
+same-length-2 : tie.Need-same-length-2
+same-length-2 c = search needs
+
+returns-2 : tie.Need-returns-2
+returns-2 c = c .before .before .chain-lines .ensures _ (opening (c .before .before .before .before .before .before .before .before) .holds)
+
+pub file-lines-spec : {M : Type 1} → statement M
+file-lines-spec =
+    tie.close
+    (tie.spec
+    slice-aggregate-read
+    slice-aggregate-read-2
+    slice-aggregate-read-3
+    slice-aggregate-read-4
+    read-requires
+    enum-known-number
+    refusal-line-requires
+    enum-known-chain
+    mul-e
+    array-share-prefix-denominators
+    slice-aggregate-chain-lines
+    array-share-prefix-edges
+    slice-aggregate-chain-lines-2
+    array-share-prefix-order
+    slice-aggregate-chain-lines-3
+    array-share-prefix-rewards
+    slice-aggregate-chain-lines-4
+    chain-lines-requires
+    same-length
+    returns
+    same-length-2
+    returns-2)
