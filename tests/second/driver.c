@@ -4,21 +4,41 @@
  * A request: five 4-byte numbers in the machine's order (mode, file length, memory length, where the answer begins in the memory, answer
  * length), then the file, then the memory. The reply: two such numbers (what the entry returned, whether the file is unchanged), then the
  * memory as the entry left it. An empty file is handed over as a null pointer.
+ *
+ * The file and the memory end where a page begins that nobody may touch: who reads or writes past them is stopped.
  */
+#define _DEFAULT_SOURCE
+
 #include "egorstream.h"
 
 #include <stdio.h>
 #include <stdlib.h>
 #include <string.h>
+#include <sys/mman.h>
 
-static void *room(size_t length)
+/* A page, or a multiple of it, on every machine that this runs on. */
+#define PAGE ((size_t)65536)
+
+/* What a room takes with the page behind it. */
+static size_t mapped(size_t length)
 {
-    void *bytes = malloc(length == 0 ? 1 : length);
-    if (bytes == NULL) {
-        fputs("driver: out of memory\n", stderr);
+    return (length / PAGE + 2) * PAGE;
+}
+
+static uint8_t *room(size_t length)
+{
+    size_t all = mapped(length);
+    uint8_t *start = mmap(NULL, all, PROT_READ | PROT_WRITE, MAP_PRIVATE | MAP_ANONYMOUS, -1, 0);
+    if (start == MAP_FAILED || mprotect(start + all - PAGE, PAGE, PROT_NONE) != 0) {
+        fputs("driver: no room\n", stderr);
         exit(1);
     }
-    return bytes;
+    return start + all - PAGE - length;
+}
+
+static void leave(uint8_t *bytes, size_t length)
+{
+    munmap(bytes + length + PAGE - mapped(length), mapped(length));
 }
 
 static void take(void *bytes, size_t length)
@@ -44,9 +64,9 @@ static void answer(const uint32_t request[5])
     fwrite(reply, sizeof reply, 1, stdout);
     fwrite(memory, 1, memory_length, stdout);
     fflush(stdout);
-    free(memory);
-    free(copy);
-    free(file);
+    leave(memory, memory_length);
+    leave(copy, file_length);
+    leave(file, file_length);
 }
 
 int main(void)
