@@ -33,7 +33,8 @@ pub(crate) const RECORD: usize = 8;
 pub(crate) const FULL: usize = (CHECKED - RECORDS) / RECORD;
 
 // The bytes of the longest file: the head, the blocks of the states and those of the edges.
-pub const LONGEST: usize = BLOCK * (1 + (Chain::STATES + FULL - 1) / FULL + (Chain::EDGES + FULL - 1) / FULL);
+pub const LONGEST: usize = BLOCK
+    * (1 + (Chain::STATES + FULL - 1) / FULL + (Chain::EDGES + FULL - 1) / FULL);
 
 // The bytes of a number of one, of two and of four bytes.
 pub(crate) const SINGLE: usize = 1;

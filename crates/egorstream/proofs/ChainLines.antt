@@ -1,21 +1,20 @@
 -- The lines of an accepted file: the single line of a refusal, or seven.
-use Prim.Native.Nat.{ℕ, _*_, _≤_, _<_}
+use Prim.Native.Nat.{ℕ, _*_, _≤_}
 use mathlib.Core.Path.{_≡_, refl, sym, ap, ap₂, subst, _∙_}
 use mathlib.Core.List.{List, _++_}
 use native.Mathlib.Nat.{zero-add}
 use native.Mathlib.Omega.{arith}
 use lib.ListN.{length}
-use Rattle.meaning.specs.Chain.{mostStates, edgeCount, Goal, Live}
 use Rattle.meaning.specs.Refusal.{Lent, plain, paid, bare, Refused, WellFormed}
 use Rattle.meaning.specs.Outcome.{Answer, Bounds, Outcome, ChanceOutcome, RewardFigure, RewardOutcome, BoundsOutcome}
 use Rattle.meaning.specs.Survey.{Count}
-use Rattle.meaning.specs.Block.{Input, headStates, headEdges}
+use Rattle.meaning.specs.Block.{Input, headEdges}
 use Rattle.meaning.specs.File.{edgeNumber, FileRefused, Accepted}
 use Rattle.meaning.specs.Text.{bytesOf}
 use Rattle.meaning.specs.Report.{refusedText, linesText, paidIn, Report, printing, TextOutcome, longest}
 use Rattle.theory.specs.Tab.{tab-length}
 use Rattle.theory.specs.Formed.{few-states, few-edges}
-use Rattle.theory.specs.Entails.{fewer, fewer-formed}
+use Rattle.theory.specs.Entails.{fewer}
 use Rattle.egorstream.specs.Written.{Room, Written}
 use Rattle.egorstream.specs.Told.{Ends, chain, file}
 use Rattle.egorstream.specs.Found.{Found, Counted}
@@ -92,9 +91,9 @@ module _
         omega (
           arith,
           report-short (counts .states) (counts .edges) (counts .goals) (counts .live)
-          (omega (arith, counted .states)) (omega (arith, counted .edges))
-          (omega (arith, count-most (counted .goals))) (omega (arith, count-most (counted .live)))
-          (fc .outcome) (fr .outcome) (fb .outcome),
+              (omega (arith, counted .states)) (omega (arith, counted .edges))
+              (omega (arith, count-most (counted .goals))) (omega (arith, count-most (counted .live)))
+              (fc .outcome) (fr .outcome) (fb .outcome),
         )
 
 pub lines-report : (f : Input) (l : Lent) → l ≡ paidIn f → {counts : Counts} {chance reward : Answer} {bounds : Bounds}

@@ -8,3 +8,4 @@ pub mod Opened
 pub mod Outcomes
 pub mod Called
 pub mod ChainLines
+pub mod Unique

@@ -1,6 +1,6 @@
 -- What the reader's answer tells of a file: it is refused, or its chain and tables are those of the answer.
 use Prim.Native.Nat.{ℕ, _*_, _≤_, _<_}
-use mathlib.Core.Path.{_≡_, sym, ap, ap₂, subst, _∙_}
+use mathlib.Core.Path.{_≡_, sym, ap, subst, _∙_}
 use mathlib.Core.Logic.{⊎-elim}
 use mathlib.Core.List.{List}
 use native.Mathlib.Omega.{arith}
@@ -10,7 +10,7 @@ use Rattle.meaning.specs.Number.{tabFrom}
 use Rattle.meaning.specs.Chain.{mostStates, mostEdges, edgeSize}
 use Rattle.meaning.specs.Refusal.{workSize}
 use Rattle.meaning.specs.Block.{Input, headEdges, denominatorIn, rewardIn, orderIn}
-use Rattle.meaning.specs.File.{FileRefused, Accepted, filled, edgeNumber, Tables, Short, Reading as Numbers, reading, noReading, ReadOutcome}
+use Rattle.meaning.specs.File.{FileRefused, filled, edgeNumber, Tables, Short, Reading as Numbers, reading, ReadOutcome}
 use Rattle.theory.specs.Tab.{tab-length}
 use Rattle.chain.specs.declared.Chain.{Chain as Frame}
 use Rattle.chainfile.specs.Tells.{told, tables}
@@ -35,8 +35,7 @@ module _ {a b : Numbers} (e : a ≡ b) where
 at : (f : ℕ → ℕ) (t after : List ℕ) {m n : ℕ} → m ≡ n → after ≡ filled (tabFrom 0 n f) t → (m ≤ length after) × (take m after ≡ tabFrom 0 n f)
 at f t after {m} {n} h e =
     let l = tabFrom 0 n f in
-    let size = tab-length 0 n f in
-    (
+    let size = tab-length 0 n f in (
       omega (arith, ap length e ∙ length-append l (drop (length l) t)),
       ap (take m) e ∙ take-at l (drop (length l) t) m (size ∙ sym h),
     )

@@ -8,11 +8,11 @@ use Rattle.meaning.specs.Block.{Input}
 use Rattle.meaning.specs.File.{Accepted, filled}
 use Rattle.meaning.specs.Outcome.{Answer, ChanceOutcome, Bounds, BoundsOutcome}
 use Rattle.meaning.specs.Call.{answerBytes, written, Said}
-use Rattle.meaning.specs.Report.{plainIn, paidIn, Printing, printing, noPrinting, Report}
+use Rattle.meaning.specs.Report.{paidIn, Printing, printing, noPrinting}
 use Rattle.chain.specs.declared.Chain.{Chain}
 use Rattle.egorstream.specs.Found.{ours}
-use Rattle.egorstream.specs.declared.text.Printed.{Printed}
-use Rattle.egorstream.specs.declared.text.Printed.the-variants.{Length, Refused}
+use Rattle.egorstream.specs.declared.report.Printed.{Printed}
+use Rattle.egorstream.specs.declared.report.Printed.the-variants.{Length, Refused}
 
 -- The input is accepted, and these are its chain and tables.
 pub record Holds (f : Input) (c : Chain) (denominators edges order rewards : List ℕ) : Type 0 where

@@ -26,23 +26,13 @@ fn exact(c: Chain, denominators: &[u64], edges: &[u64], order: &[u64], answer: &
     if figure.number != 0 {
         return figure.number;
     }
-    reply::reply(
-        answer,
-        figure.numerator,
-        figure.denominator,
-        figure.numerator,
-        figure.denominator,
-    );
+    let p = figure.numerator;
+    let q = figure.denominator;
+    reply::reply(answer, p, q, p, q);
     0
 }
 
-fn between(
-    c: Chain,
-    denominators: &[u64],
-    edges: &[u64],
-    order: &[u64],
-    answer: &mut [u8],
-) -> u32
+fn between(c: Chain, denominators: &[u64], edges: &[u64], order: &[u64], answer: &mut [u8]) -> u32
     requires { ⌜ answerLength ≤ length (now answer) ⌝ }
     ensures { λ r. ⌜ Bounded (ours c (now (denominators .entry)) (now (edges .entry)) (now (order .entry)) []) (now (answer .entry)) r (now (answer .exit)) ⌝ }
 {
@@ -90,7 +80,10 @@ fn opened(file: &[u8], mode: u32, answer: &mut [u8]) -> u32
         &mut rewards,
     ) {
         Reading::Refused { number, place: _ } => number,
-        Reading::Chain { chain, edges: count } => {
+        Reading::Chain {
+            chain,
+            edges: count,
+        } => {
             let n = chain.states;
             let e = edge::SIZE * count;
             asked(

@@ -105,14 +105,7 @@ pub(crate) fn reward(
     ensures { λ r. ⌜ Found (RewardOutcome (ours c (now (denominators .entry)) (now (edges .entry)) (now (order .entry)) (now (rewards .entry)))) (toldFigure r) ⌝ }
 {
     let mut work = [0u64; Chain::WORK];
-    Figure::of_reward(entry::reward(
-        c,
-        denominators,
-        edges,
-        order,
-        rewards,
-        &mut work,
-    ))
+    Figure::of_reward(entry::reward(c, denominators, edges, order, rewards, &mut work))
 }
 
 pub(crate) fn bounds(c: Chain, denominators: &[u64], edges: &[u64], order: &[u64]) -> Limits
@@ -136,7 +129,10 @@ pub(crate) fn counts(c: Chain, denominators: &[u64], edges: &[u64]) -> Counts
             goals: goals as u64,
             live: live as u64,
         },
-        Survey::Refused { number: _, place: _ } => Counts {
+        Survey::Refused {
+            number: _,
+            place: _,
+        } => Counts {
             states,
             edges: count,
             goals: 0,

@@ -4,7 +4,7 @@ mod figures;
 mod lines;
 mod reply;
 pub mod report;
-pub mod text;
+mod text;
 
 pub use call::egorstream_chance;
 pub use lines::LONGEST;

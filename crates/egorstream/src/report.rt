@@ -11,11 +11,16 @@ ghost use Rattle.egorstream.specs.Holds.{Holds, Stands, told};
 use crate::figures;
 use crate::lines;
 use crate::lines::Figure;
-use crate::text::Printed;
 use chain::Chain;
 use chain::answer::Chance;
 use chain::edge;
 use chainfile::Reading;
+
+// What a text in a lent buffer answers: how long it is, or that the buffer is refused.
+pub enum Printed {
+    Length(usize),
+    Refused { number: u32, place: usize },
+}
 
 // The report of an accepted file. What the entry for the reward refuses by 1 to 11 ends it; what the other entries could refuse so, that
 // entry refuses too.
@@ -58,7 +63,10 @@ fn file_lines(kept: &[u8], more: u64, buffer: &mut [u8]) -> usize
         &mut rewards,
     ) {
         Reading::Refused { number, place } => lines::refusal_line(buffer, 0, number, place),
-        Reading::Chain { chain, edges: count } => {
+        Reading::Chain {
+            chain,
+            edges: count,
+        } => {
             let n = chain.states;
             let e = edge::SIZE * count;
             chain_lines(

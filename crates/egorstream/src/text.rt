@@ -4,12 +4,6 @@ ghost use Prim.Native.Nat.{_<_};
 ghost use Rattle.meaning.specs.Text.{decimal};
 ghost use Rattle.egorstream.specs.Written.{Room, Written};
 
-// What a text in a lent buffer answers: how long it is, or that the buffer is refused.
-pub enum Printed {
-    Length(usize),
-    Refused { number: u32, place: usize },
-}
-
 pub(crate) fn put(buffer: &mut [u8], at: usize, text: &[u8]) -> usize
     requires { ⌜ Room (now buffer) at (now text) ⌝ }
     ensures { λ r. ⌜ Written (now (buffer .entry)) at (now (text .entry)) (now (buffer .exit)) r ⌝ }
@@ -26,8 +20,9 @@ pub(crate) fn byte(buffer: &mut [u8], at: usize, x: u64) -> usize
     requires { ⌜ (x < 256) × Room (now buffer) at (x ∷ []) ⌝ }
     ensures { λ r. ⌜ Written (now (buffer .entry)) at (x ∷ []) (now (buffer .exit)) r ⌝ }
 {
+    let next = at + 1;
     buffer[at] = x as u8;
-    at + 1
+    next
 }
 
 // x in decimal: the digits of x / 10, and then the last digit. The digit 0 is the byte 48.

@@ -1,9 +1,6 @@
-use Prim.Native.Nat.{ℕ, _+_, _*_, _-_, _/_, _%_, _^_, _<_, _≤_}
-use mathlib.Core.Path.{_≡_, refl, sym, _∙_, ap}
-use mathlib.Core.Logic.{⊎-elim, inl, inr}
-use mathlib.Core.List.{List, [], _∷_, _++_}
+use mathlib.Core.Path.{refl, sym}
+use mathlib.Core.List.{[]}
 use native.Mathlib.Omega.{arith}
-use lib.ListN.{length, getD, set, take, drop, length-set}
 use lib.Seq.{length-take-le}
 use borrow.Author.Needs.{needs}
 use Rattle.meaning.specs.Call.{wholeFile, CallOutcome}
@@ -12,35 +9,10 @@ use Rattle.egorstream.proofs.Opened.{Opened, room, file-refused, file-o
 use Rattle.egorstream.proofs.Called.{called}
 use Rattle.egorstream.proofs.call.opened.Statement.{statement}
 use Rattle.egorstream.proofs.call.opened.Tie as tie
-use Rattle.egorstream.proofs.call.opened.Reads as reads
-use Rattle.egorstream.proofs.call.opened.Lts as lts
-use Rattle.chainfile.proofs.read.Reads as read-reads
-use Rattle.egorstream.proofs.call.asked.Reads as asked-reads
 
 opening : (c : tie.After-known-told2) → let r = c .before .before .before .before .before .before .before in let a = c .before .before .before .before .before .before .before .before .before .before .before .before .before .before .args in
     Opened (wholeFile (a .file .now)) (c .before .chain .given .0 .0) (c .before .chain .given .0 .1 .0) (tables (r .read .last .1 .1 .0) (r .read .last .1 .1 .1 .0) (r .read .last .1 .1 .1 .1 .0) (r .read .last .1 .1 .1 .1 .1 .0))
 opening c = file-opened room (c .before .before .before .before .before .before .before .read .ensures) (c .before .chain .given .1)
-
-slice-aggregate-read : tie.Need-slice-aggregate-read
-slice-aggregate-read c = search needs
-
-slice-aggregate-read-2 : tie.Need-slice-aggregate-read-2
-slice-aggregate-read-2 c = search needs
-
-slice-aggregate-read-3 : tie.Need-slice-aggregate-read-3
-slice-aggregate-read-3 c = search needs
-
-slice-aggregate-read-4 : tie.Need-slice-aggregate-read-4
-slice-aggregate-read-4 c = search needs
-
-read-requires : tie.Need-read-requires
-read-requires c κs = search needs
-
-enum-known-number : tie.Need-enum-known-number
-enum-known-number c = search needs
-
-enum-known-chain : tie.Need-enum-known-chain
-enum-known-chain c = search needs
 
 mul-e : tie.Need-mul-e
 mul-e c = omega (arith, opening c .few-edges)
@@ -63,17 +35,11 @@ array-share-prefix-order c = opening (c .before .before) .order
 slice-aggregate-asked-3 : tie.Need-slice-aggregate-asked-3
 slice-aggregate-asked-3 c = sym (length-take-le _ _ (opening (c .before .before .before) .order))
 
-asked-requires : tie.Need-asked-requires
-asked-requires c κs = search needs
-
 returns : tie.Need-returns
 returns c =
     let r = c .before .before .before .before .before .before .before in
     let s = r .before .before .before .before .before .before .before in
     CallOutcome.file-refused (s .pre .0) (s .pre .1) _ _ (file-refused room (r .read .ensures) (c .before .number .given .1)) refl refl
-
-same-length : tie.Need-same-length
-same-length c = search needs
 
 returns-2 : tie.Need-returns-2
 returns-2 c =
@@ -86,13 +52,13 @@ pub opened-spec : {M : Type 1} → statement M
 opened-spec =
     tie.close
     (tie.spec
-    slice-aggregate-read
-    slice-aggregate-read-2
-    slice-aggregate-read-3
-    slice-aggregate-read-4
-    read-requires
-    enum-known-number
-    enum-known-chain
+    (λ c. search needs)
+    (λ c. search needs)
+    (λ c. search needs)
+    (λ c. search needs)
+    (λ c κs. search needs)
+    (λ c. search needs)
+    (λ c. search needs)
     mul-e
     array-share-prefix-denominators
     slice-aggregate-asked
@@ -100,7 +66,7 @@ opened-spec =
     slice-aggregate-asked-2
     array-share-prefix-order
     slice-aggregate-asked-3
-    asked-requires
+    (λ c κs. search needs)
     returns
-    same-length
+    (λ c. search needs)
     returns-2)

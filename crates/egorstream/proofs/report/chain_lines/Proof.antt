@@ -1,9 +1,4 @@
-use Prim.Native.Nat.{ℕ, _+_, _*_, _-_, _/_, _%_, _^_, _<_, _≤_}
-use mathlib.Core.Path.{_≡_, refl, sym, _∙_, ap}
-use mathlib.Core.Logic.{⊎-elim, inl, inr}
-use mathlib.Core.List.{List, [], _∷_, _++_}
-use native.Mathlib.Omega.{arith}
-use lib.ListN.{length, getD, set, take, drop, length-set}
+use mathlib.Core.List.{[]}
 use borrow.Author.Needs.{needs}
 use Rattle.meaning.specs.Refusal.{Lent, paid, bare, WellFormed}
 use Rattle.theory.specs.Entails.{fewer-formed}
@@ -12,15 +7,6 @@ use Rattle.egorstream.specs.Found.{ours}
 use Rattle.egorstream.proofs.ChainLines.{ended, lasts, stands, refusal-room, lines-room, refusal-report, lines-report}
 use Rattle.egorstream.proofs.report.chain_lines.Statement.{statement}
 use Rattle.egorstream.proofs.report.chain_lines.Tie as tie
-use Rattle.egorstream.proofs.report.chain_lines.Reads as reads
-use Rattle.egorstream.proofs.report.chain_lines.Lts as lts
-use Rattle.egorstream.proofs.figures.bounds.Reads as bounds-reads
-use Rattle.egorstream.proofs.figures.chance.Reads as chance-reads
-use Rattle.egorstream.proofs.figures.counts.Reads as counts-reads
-use Rattle.egorstream.proofs.figures.reward.Reads as reward-reads
-use Rattle.egorstream.proofs.lines.ends.Reads as ends-reads
-use Rattle.egorstream.proofs.lines.refusal_line.Reads as refusal-line-reads
-use Rattle.egorstream.proofs.lines.seven_lines.Reads as seven-lines-reads
 
 abbrev start : tie.After-reward → tie.Start
 start r = r .before .before .before .before .before .before
@@ -32,20 +18,11 @@ l s = let a = s .args in ours (a .c) (a .denominators .now) (a .edges .now) (a .
 formed : (c : tie.Else1) → WellFormed paid (l (start (c .before .before)))
 formed c = lasts (c .before .before .reward .ensures .outcome) (fails _ (c .before .ends .ensures) (c .if1 .left))
 
-reward-requires : tie.Need-reward-requires
-reward-requires c κs = search needs
-
-ends-requires : tie.Need-ends-requires
-ends-requires c κs = search needs
-
 refusal-line-requires : tie.Need-refusal-line-requires
 refusal-line-requires c κs =
     let r = c .before .before .before in
     let s = start r in
     refusal-room (s .args .buffer .now) (s .pre) (r .reward .ensures)
-
-same-length : tie.Need-same-length
-same-length c = search needs
 
 returns : tie.Need-returns
 returns c =
@@ -58,12 +35,6 @@ returns c =
 counts-requires : tie.Need-counts-requires
 counts-requires c κs = fewer-formed bare (l (start (c .before .before))) (formed c)
 
-chance-requires : tie.Need-chance-requires
-chance-requires c κs = search needs
-
-bounds-requires : tie.Need-bounds-requires
-bounds-requires c κs = search needs
-
 seven-lines-requires : tie.Need-seven-lines-requires
 seven-lines-requires c κs =
     let b = c .before in
@@ -71,9 +42,6 @@ seven-lines-requires c κs =
     let e = k .before in
     let s = start (e .before .before) in
     lines-room (formed e) (k .counts .ensures) (b .before .chance .ensures) (e .before .before .reward .ensures) (b .bounds .ensures) (s .args .buffer .now) (s .pre)
-
-same-length-2 : tie.Need-same-length-2
-same-length-2 c = search needs
 
 returns-2 : tie.Need-returns-2
 returns-2 c =
@@ -90,14 +58,14 @@ pub chain-lines-spec : {M : Type 1} → statement M
 chain-lines-spec =
     tie.close
     (tie.spec
-    reward-requires
-    ends-requires
+    (λ c κs. search needs)
+    (λ c κs. search needs)
     refusal-line-requires
-    same-length
+    (λ c. search needs)
     returns
     counts-requires
-    chance-requires
-    bounds-requires
+    (λ c κs. search needs)
+    (λ c κs. search needs)
     seven-lines-requires
-    same-length-2
+    (λ c. search needs)
     returns-2)

@@ -1,9 +1,6 @@
-use Prim.Native.Nat.{ℕ, _+_, _*_, _-_, _/_, _%_, _^_, _<_, _≤_}
-use mathlib.Core.Path.{_≡_, refl, sym, _∙_, ap}
-use mathlib.Core.Logic.{⊎-elim, inl, inr}
-use mathlib.Core.List.{List, [], _∷_, _++_}
+use mathlib.Core.Path.{refl, ap}
+use mathlib.Core.List.{[]}
 use native.Mathlib.Omega.{arith}
-use lib.ListN.{length, getD, set, take, drop, length-set}
 use borrow.Author.Needs.{needs}
 use Rattle.meaning.specs.Report.{faceText, TextOutcome}
 use Rattle.egorstream.specs.Told.{toldFigure}
@@ -11,25 +8,15 @@ use Rattle.egorstream.proofs.Longest.{face-room}
 use Rattle.egorstream.proofs.ChainLines.{stands, printed}
 use Rattle.egorstream.proofs.report.face.Statement.{statement}
 use Rattle.egorstream.proofs.report.face.Tie as tie
-use Rattle.egorstream.proofs.report.face.Reads as reads
-use Rattle.egorstream.proofs.report.face.Lts as lts
-use Rattle.egorstream.proofs.lines.Figure.of_chance.Reads as of-chance-reads
-use Rattle.egorstream.proofs.lines.face_line.Reads as face-line-reads
 
 returns : tie.Need-returns
 returns c = TextOutcome.short (c .if1 .taken) refl refl
-
-of-chance-requires : tie.Need-of-chance-requires
-of-chance-requires c κs = search needs
 
 face-line-requires : tie.Need-face-line-requires
 face-line-requires c κs =
     let o = c .of-chance in
     let s = c .before .before .before .before in
     face-room (s .args .buffer .now) (s .args .face) (toldFigure (o .result)) (c .before .before .if1 .left) (search needs) (o .ensures .number) (o .ensures .place) (o .ensures .numerator) (o .ensures .denominator)
-
-same-length : tie.Need-same-length
-same-length c = search needs
 
 returns-2 : tie.Need-returns-2
 returns-2 c =
@@ -40,4 +27,4 @@ returns-2 c =
 
 pub face-spec : {M : Type 1} → statement M
 face-spec =
-    tie.close (tie.spec returns of-chance-requires face-line-requires same-length returns-2)
+    tie.close (tie.spec returns (λ c κs. search needs) face-line-requires (λ c. search needs) returns-2)

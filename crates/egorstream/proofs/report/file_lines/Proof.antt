@@ -1,9 +1,6 @@
-use Prim.Native.Nat.{ℕ, _+_, _*_, _-_, _/_, _%_, _^_, _<_, _≤_}
-use mathlib.Core.Path.{_≡_, refl, sym, _∙_, ap}
-use mathlib.Core.Logic.{⊎-elim, inl, inr}
-use mathlib.Core.List.{List, [], _∷_, _++_}
+use mathlib.Core.Path.{refl, sym}
+use mathlib.Core.List.{[]}
 use native.Mathlib.Omega.{arith}
-use lib.ListN.{length, getD, set, take, drop, length-set}
 use lib.Seq.{length-take-le}
 use borrow.Author.Needs.{needs}
 use Rattle.meaning.specs.Block.{Input}
@@ -15,11 +12,6 @@ use Rattle.egorstream.proofs.Opened.{Opened, room, file-refused, file-o
 use Rattle.egorstream.proofs.ChainLines.{stands, file-room}
 use Rattle.egorstream.proofs.report.file_lines.Statement.{statement}
 use Rattle.egorstream.proofs.report.file_lines.Tie as tie
-use Rattle.egorstream.proofs.report.file_lines.Reads as reads
-use Rattle.egorstream.proofs.report.file_lines.Lts as lts
-use Rattle.chainfile.proofs.read.Reads as read-reads
-use Rattle.egorstream.proofs.lines.refusal_line.Reads as refusal-line-reads
-use Rattle.egorstream.proofs.report.chain_lines.Reads as chain-lines-reads
 
 abbrev start : tie.After-read → tie.Start
 start r = r .before .before .before .before .before .before .before
@@ -34,31 +26,10 @@ opening c = file-opened room (c .before .before .before .before .before .before 
 refused : (c : tie.After-known-told) → FileRefused (f (start (c .before .before .before .before .before .before .before))) (c .before .number .given .0 .0) (c .before .number .given .0 .1 .0)
 refused c = file-refused room (c .before .before .before .before .before .before .before .read .ensures) (c .before .number .given .1)
 
-slice-aggregate-read : tie.Need-slice-aggregate-read
-slice-aggregate-read c = search needs
-
-slice-aggregate-read-2 : tie.Need-slice-aggregate-read-2
-slice-aggregate-read-2 c = search needs
-
-slice-aggregate-read-3 : tie.Need-slice-aggregate-read-3
-slice-aggregate-read-3 c = search needs
-
-slice-aggregate-read-4 : tie.Need-slice-aggregate-read-4
-slice-aggregate-read-4 c = search needs
-
-read-requires : tie.Need-read-requires
-read-requires c κs = search needs
-
-enum-known-number : tie.Need-enum-known-number
-enum-known-number c = search needs
-
 refusal-line-requires : tie.Need-refusal-line-requires
 refusal-line-requires c κs =
     let s = start (c .before .before .before .before .before .before .before .before) in
     file-room (s .args .buffer .now) (s .pre) (refused (c .before))
-
-enum-known-chain : tie.Need-enum-known-chain
-enum-known-chain c = search needs
 
 mul-e : tie.Need-mul-e
 mul-e c = omega (arith, opening c .few-edges)
@@ -87,17 +58,8 @@ array-share-prefix-rewards c = opening (c .before .before .before) .rewards
 slice-aggregate-chain-lines-4 : tie.Need-slice-aggregate-chain-lines-4
 slice-aggregate-chain-lines-4 c = sym (length-take-le _ _ (opening (c .before .before .before .before) .rewards))
 
-chain-lines-requires : tie.Need-chain-lines-requires
-chain-lines-requires c κs = search needs
-
-same-length : tie.Need-same-length
-same-length c = search needs
-
 returns : tie.Need-returns
 returns c = stands (Report.file-refused _ _ (refused (c .before .before .before .before)) refl) (c .before .before .refusal-line .ensures)
-
-same-length-2 : tie.Need-same-length-2
-same-length-2 c = search needs
 
 returns-2 : tie.Need-returns-2
 returns-2 c = c .before .before .chain-lines .ensures _ (opening (c .before .before .before .before .before .before .before .before) .holds)
@@ -106,14 +68,14 @@ pub file-lines-spec : {M : Type 1} → statement M
 file-lines-spec =
     tie.close
     (tie.spec
-    slice-aggregate-read
-    slice-aggregate-read-2
-    slice-aggregate-read-3
-    slice-aggregate-read-4
-    read-requires
-    enum-known-number
+    (λ c. search needs)
+    (λ c. search needs)
+    (λ c. search needs)
+    (λ c. search needs)
+    (λ c κs. search needs)
+    (λ c. search needs)
     refusal-line-requires
-    enum-known-chain
+    (λ c. search needs)
     mul-e
     array-share-prefix-denominators
     slice-aggregate-chain-lines
@@ -123,8 +85,8 @@ file-lines-spec =
     slice-aggregate-chain-lines-3
     array-share-prefix-rewards
     slice-aggregate-chain-lines-4
-    chain-lines-requires
-    same-length
+    (λ c κs. search needs)
+    (λ c. search needs)
     returns
-    same-length-2
+    (λ c. search needs)
     returns-2)

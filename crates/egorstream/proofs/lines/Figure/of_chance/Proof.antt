@@ -1,30 +1,10 @@
-use Prim.Native.Nat.{ℕ, _+_, _*_, _-_, _/_, _%_, _^_, _<_, _≤_}
-use mathlib.Core.Path.{_≡_, refl, sym, _∙_, ap}
-use mathlib.Core.Logic.{⊎-elim, inl, inr}
-use mathlib.Core.List.{List, [], _∷_, _++_}
-use native.Mathlib.Omega.{arith}
-use lib.ListN.{length, getD, set, take, drop, length-set}
+use mathlib.Core.Path.{sym, ap}
+use mathlib.Core.List.{[]}
 use borrow.Author.Needs.{needs}
 use Rattle.egorstream.proofs.Outcomes.{retold}
-use Rattle.chain.specs.Answer.{toldChance, toldReward, toldBounds}
+use Rattle.chain.specs.Answer.{toldChance}
 use Rattle.egorstream.proofs.lines.Figure.of_chance.Statement.{statement}
 use Rattle.egorstream.proofs.lines.Figure.of_chance.Tie as tie
-use Rattle.egorstream.proofs.lines.Figure.of_chance.Reads as reads
-use Rattle.egorstream.proofs.lines.Figure.of_chance.Lts as lts
-use Rattle.egorstream.proofs.lines.Figure.fraction.Reads as fraction-reads
-use Rattle.egorstream.proofs.lines.Figure.refusal.Reads as refusal-reads
-
-enum-known-chance : tie.Need-enum-known-chance
-enum-known-chance c = search needs
-
-fraction-requires : tie.Need-fraction-requires
-fraction-requires c κs = search needs
-
-enum-known-chance-2 : tie.Need-enum-known-chance-2
-enum-known-chance-2 c = search needs
-
-refusal-requires : tie.Need-refusal-requires
-refusal-requires c κs = search needs
 
 returns : tie.Need-returns
 returns c = retold (c .fraction .ensures) (ap toldChance (sym (c .before .before .chance .given .1)))
@@ -36,9 +16,9 @@ pub of-chance-spec : {M : Type 1} → statement M
 of-chance-spec =
     tie.close
     (tie.spec
-    enum-known-chance
-    fraction-requires
-    enum-known-chance-2
-    refusal-requires
+    (λ c. search needs)
+    (λ c κs. search needs)
+    (λ c. search needs)
+    (λ c κs. search needs)
     returns
     returns-2)

@@ -1,0 +1,105 @@
+// The dice chain of Knuth and Yao: prints the chance of each face.
+use chain::Chain;
+use egorstream::report::Printed;
+use egorstream::report::face;
+use engines::entry::chance;
+use libc::STDOUT_FILENO;
+
+// States 0 to 6 toss a coin, and states 7 to 12 are the faces.
+const STATES: usize = 13;
+
+const FACES: u64 = 6;
+
+const FIRST: u64 = 7;
+
+// The twenty edges: from, to, weight.
+const EDGES: [u64; 60] = [
+    0,
+    1,
+    1,
+    0,
+    2,
+    1,
+    1,
+    3,
+    1,
+    1,
+    4,
+    1,
+    2,
+    5,
+    1,
+    2,
+    6,
+    1,
+    3,
+    1,
+    1,
+    3,
+    7,
+    1,
+    4,
+    8,
+    1,
+    4,
+    9,
+    1,
+    5,
+    10,
+    1,
+    5,
+    11,
+    1,
+    6,
+    2,
+    1,
+    6,
+    12,
+    1,
+    7,
+    7,
+    1,
+    8,
+    8,
+    1,
+    9,
+    9,
+    1,
+    10,
+    10,
+    1,
+    11,
+    11,
+    1,
+    12,
+    12,
+    1,
+];
+
+const DENOMINATORS: [u64; STATES] = [2, 2, 2, 2, 2, 2, 2, 1, 1, 1, 1, 1, 1];
+
+const ORDER: [u64; STATES] = [0, 1, 2, 3, 4, 5, 6, 7, 8, 9, 10, 11, 12];
+
+// Prints the line of the face whose state is the only goal.
+fn print(number: u64, goals: u64) {
+    let mut work = [0u64; Chain::WORK];
+    let found = chance(
+        Chain::new(STATES, 0, goals),
+        &DENOMINATORS,
+        &EDGES,
+        &ORDER,
+        &mut work,
+    );
+    let mut buffer = [0u8; egorstream::LONGEST_FACE];
+    if let Printed::Length(n) = face(number, found, &mut buffer) {
+        io::write_all(STDOUT_FILENO, &buffer[..n]);
+    }
+}
+
+fn main() {
+    let mut number = 1;
+    while number <= FACES {
+        print(number, 1 << (FIRST + number - 1));
+        number += 1;
+    }
+}
