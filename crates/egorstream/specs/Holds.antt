@@ -1,7 +1,7 @@
 -- The chain and tables of an input, and what is answered of it.
 use Prim.Native.Nat.{ℕ, _<_}
 use mathlib.Core.Path.{_≡_}
-use mathlib.Core.List.{List, []}
+use mathlib.Core.List.{List}
 use lib.ListN.{length}
 use Rattle.meaning.specs.Refusal.{Lent}
 use Rattle.meaning.specs.Block.{Input}

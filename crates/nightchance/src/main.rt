@@ -5,7 +5,8 @@ use egorstream::report::report;
 use libc::STDIN_FILENO;
 use libc::STDOUT_FILENO;
 
-// What one read takes at most, and how many reads there are at most: a proved loop has to end, and nothing says that the input does.
+// What one read takes at most, and how many reads there are at most, some 2^63 bytes in all: a proved loop has to end, and nothing says that
+// the input does.
 const PART: usize = 65536;
 
 const READS: u64 = 140737488355328;
@@ -34,6 +35,7 @@ fn rest() -> u64 {
     more
 }
 
+// An input that ends, or whose read fails, before the longest file is full has nothing after it.
 fn main() {
     let mut kept = [0u8; chainfile::LONGEST];
     let length = io::read_full(STDIN_FILENO, &mut kept);

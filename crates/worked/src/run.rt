@@ -77,7 +77,7 @@ fn line(
 }
 
 // The lines of a case, the entries being lent so many numbers of the work table.
-pub fn lines(name: &[u8], lent: usize, c: Chain, d: &[u64], e: &[u64], o: &[u64], r: &[u64])
+pub(crate) fn lines(name: &[u8], lent: usize, c: Chain, d: &[u64], e: &[u64], o: &[u64], r: &[u64])
     requires { ⌜ lent ≤ 4354 ⌝ }
 {
     line(name, Entry::Chance, lent, c, d, e, o, r);

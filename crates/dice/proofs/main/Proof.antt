@@ -1,5 +1,4 @@
 use Prim.Native.Nat.{_-_, _≤_}
-use mathlib.Core.List.{[]}
 use borrow.Author.Needs.{needs}
 use Rattle.dice.proofs.main.Statement.{statement}
 use Rattle.dice.proofs.main.Tie as tie

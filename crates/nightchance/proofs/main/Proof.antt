@@ -1,5 +1,4 @@
 use mathlib.Core.Path.{sym}
-use mathlib.Core.List.{[]}
 use lib.Seq.{length-take-le}
 use borrow.Author.Needs.{needs}
 use Rattle.egorstream.proofs.Unique.{within}

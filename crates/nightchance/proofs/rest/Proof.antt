@@ -1,5 +1,4 @@
 use Prim.Native.Nat.{_+_, _*_, _^_, _≤_}
-use mathlib.Core.List.{[]}
 use borrow.Author.Needs.{needs}
 use Rattle.nightchance.proofs.rest.Statement.{statement}
 use Rattle.nightchance.proofs.rest.Tie as tie

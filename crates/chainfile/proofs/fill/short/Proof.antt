@@ -1,6 +1,5 @@
 use mathlib.Core.Logic.{⊎-elim, inl, inr}
 use native.Mathlib.Omega.{arith}
-use borrow.Author.Needs.{needs}
 use Rattle.chainfile.proofs.fill.short.Statement.{statement}
 use Rattle.chainfile.proofs.fill.short.Tie as tie
 

@@ -1,4 +1,3 @@
-use mathlib.Core.List.{[]}
 use native.Mathlib.Omega.{arith}
 use borrow.Author.Needs.{needs}
 use Rattle.egorstream.proofs.Called.{exactly-asked, bounded-asked}

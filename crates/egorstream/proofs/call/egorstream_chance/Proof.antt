@@ -1,5 +1,4 @@
 use mathlib.Core.Path.{refl}
-use mathlib.Core.List.{[]}
 use native.Mathlib.Omega.{arith}
 use borrow.Author.Needs.{needs}
 use Rattle.meaning.specs.Call.{CallOutcome}
@@ -7,10 +6,10 @@ use Rattle.egorstream.proofs.call.egorstream_chance.Statement.{statemen
 use Rattle.egorstream.proofs.call.egorstream_chance.Tie as tie
 
 returns : tie.Need-returns
-returns c = CallOutcome.mode-wrong (c .if1 .taken) refl refl
+returns c = CallOutcome.mode-wrong (omega arith) refl refl
 
 returns-2 : tie.Need-returns-2
-returns-2 c = CallOutcome.answer-short (omega arith) (c .if2 .taken) refl refl
+returns-2 c = CallOutcome.answer-short (omega arith) (omega arith) refl refl
 
 pub egorstream-chance-spec : {M : Type 1} → statement M
 egorstream-chance-spec =

@@ -1,8 +1,9 @@
 use mathlib.Core.Path.{refl, sym}
-use mathlib.Core.List.{[]}
 use native.Mathlib.Omega.{arith}
 use lib.Seq.{length-take-le}
 use borrow.Author.Needs.{needs}
+use Rattle.meaning.specs.Block.{Input}
+use Rattle.meaning.specs.File.{FileRefused, Tables}
 use Rattle.meaning.specs.Call.{wholeFile, CallOutcome}
 use Rattle.chainfile.specs.Tells.{tables}
 use Rattle.egorstream.proofs.Opened.{Opened, room, file-refused, file-opened}
@@ -10,9 +11,27 @@ use Rattle.egorstream.proofs.Called.{called}
 use Rattle.egorstream.proofs.call.opened.Statement.{statement}
 use Rattle.egorstream.proofs.call.opened.Tie as tie
 
-opening : (c : tie.After-known-told2) → let r = c .before .before .before .before .before .before .before in let a = c .before .before .before .before .before .before .before .before .before .before .before .before .before .before .args in
-    Opened (wholeFile (a .file .now)) (c .before .chain .given .0 .0) (c .before .chain .given .0 .1 .0) (tables (r .read .last .1 .1 .0) (r .read .last .1 .1 .1 .0) (r .read .last .1 .1 .1 .1 .0) (r .read .last .1 .1 .1 .1 .1 .0))
-opening c = file-opened room (c .before .before .before .before .before .before .before .read .ensures) (c .before .chain .given .1)
+abbrev start : tie.After-read → tie.Start
+start r = r .before .before .before .before .before .before .before
+
+abbrev f : tie.Start → Input
+f s = wholeFile (s .args .file .now)
+
+abbrev after : tie.After-read → Tables
+after r = let t = r .read .last .1 .1 in tables (t .0) (t .1 .0) (t .1 .1 .0) (t .1 .1 .1 .0)
+
+-- Where the file was read, before each of the two cases.
+abbrev accepted-at : tie.After-known-told2 → tie.After-read
+accepted-at c = c .before .before .before .before .before .before .before
+
+abbrev refused-at : tie.After-known-told → tie.After-read
+refused-at c = c .before .before .before .before .before .before .before
+
+opening : (c : tie.After-known-told2) → Opened (f (start (accepted-at c))) (c .before .chain .given .0 .0) (c .before .chain .given .0 .1 .0) (after (accepted-at c))
+opening c = file-opened room (accepted-at c .read .ensures) (c .before .chain .given .1)
+
+refused : (c : tie.After-known-told) → FileRefused (f (start (refused-at c))) (c .before .number .given .0 .0) (c .before .number .given .0 .1 .0)
+refused c = file-refused room (refused-at c .read .ensures) (c .before .number .given .1)
 
 mul-e : tie.Need-mul-e
 mul-e c = omega (arith, opening c .few-edges)
@@ -37,14 +56,13 @@ slice-aggregate-asked-3 c = sym (length-take-le _ _ (opening (c .before .before 
 
 returns : tie.Need-returns
 returns c =
-    let r = c .before .before .before .before .before .before .before in
-    let s = r .before .before .before .before .before .before .before in
-    CallOutcome.file-refused (s .pre .0) (s .pre .1) _ _ (file-refused room (r .read .ensures) (c .before .number .given .1)) refl refl
+    let s = start (refused-at c) in
+    CallOutcome.file-refused (s .pre .0) (s .pre .1) _ _ (refused c) refl refl
 
 returns-2 : tie.Need-returns-2
 returns-2 c =
     let k = c .before .before .before .before .before .before .before in
-    let s = k .before .before .before .before .before .before .before .before .before .before .before .before .before .before in
+    let s = start (accepted-at k) in
     let o = opening k .holds in
     called (s .pre .0) (s .pre .1) (o .accepted) (c .before .before .asked .ensures _ _ o)
 

@@ -1,4 +1,3 @@
-use mathlib.Core.List.{[]}
 use borrow.Author.Needs.{needs}
 use Rattle.egorstream.proofs.Outcomes.{found}
 use Rattle.egorstream.proofs.figures.bounds.Statement.{statement}

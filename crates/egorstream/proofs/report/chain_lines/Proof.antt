@@ -1,4 +1,3 @@
-use mathlib.Core.List.{[]}
 use borrow.Author.Needs.{needs}
 use Rattle.meaning.specs.Refusal.{Lent, paid, bare, WellFormed}
 use Rattle.theory.specs.Entails.{fewer-formed}

@@ -1,5 +1,4 @@
 use mathlib.Core.Path.{refl, ap}
-use mathlib.Core.List.{[]}
 use native.Mathlib.Omega.{arith}
 use borrow.Author.Needs.{needs}
 use Rattle.meaning.specs.Report.{faceText, TextOutcome}
@@ -10,13 +9,14 @@ use Rattle.egorstream.proofs.report.face.Statement.{statement}
 use Rattle.egorstream.proofs.report.face.Tie as tie
 
 returns : tie.Need-returns
-returns c = TextOutcome.short (c .if1 .taken) refl refl
+returns c = TextOutcome.short (omega arith) refl refl
 
 face-line-requires : tie.Need-face-line-requires
 face-line-requires c κs =
     let o = c .of-chance in
     let s = c .before .before .before .before in
-    face-room (s .args .buffer .now) (s .args .face) (toldFigure (o .result)) (c .before .before .if1 .left) (search needs) (o .ensures .number) (o .ensures .place) (o .ensures .numerator) (o .ensures .denominator)
+    face-room (s .args .buffer .now) (s .args .face) (toldFigure (o .result)) (c .before .before .if1 .left) (search needs)
+    (o .ensures .number) (o .ensures .place) (o .ensures .numerator) (o .ensures .denominator)
 
 returns-2 : tie.Need-returns-2
 returns-2 c =

@@ -1,10 +1,9 @@
 use mathlib.Core.Path.{refl, sym}
-use mathlib.Core.List.{[]}
 use native.Mathlib.Omega.{arith}
 use lib.Seq.{length-take-le}
 use borrow.Author.Needs.{needs}
 use Rattle.meaning.specs.Block.{Input}
-use Rattle.meaning.specs.File.{FileRefused}
+use Rattle.meaning.specs.File.{FileRefused, Tables}
 use Rattle.meaning.specs.Report.{Report}
 use Rattle.chainfile.specs.Input.{input}
 use Rattle.chainfile.specs.Tells.{tables}
@@ -19,16 +18,25 @@ start r = r .before .before .before .before .before .before .before
 abbrev f : tie.Start → Input
 f s = input (s .args .kept .now) (s .args .more)
 
-opening : (c : tie.After-known-told2) → let r = c .before .before .before .before .before .before .before in
-    Opened (f (start r)) (c .before .chain .given .0 .0) (c .before .chain .given .0 .1 .0) (tables (r .read .last .1 .1 .0) (r .read .last .1 .1 .1 .0) (r .read .last .1 .1 .1 .1 .0) (r .read .last .1 .1 .1 .1 .1 .0))
-opening c = file-opened room (c .before .before .before .before .before .before .before .read .ensures) (c .before .chain .given .1)
+abbrev after : tie.After-read → Tables
+after r = let t = r .read .last .1 .1 in tables (t .0) (t .1 .0) (t .1 .1 .0) (t .1 .1 .1 .0)
 
-refused : (c : tie.After-known-told) → FileRefused (f (start (c .before .before .before .before .before .before .before))) (c .before .number .given .0 .0) (c .before .number .given .0 .1 .0)
-refused c = file-refused room (c .before .before .before .before .before .before .before .read .ensures) (c .before .number .given .1)
+-- Where the file was read, before each of the two cases.
+abbrev accepted-at : tie.After-known-told2 → tie.After-read
+accepted-at c = c .before .before .before .before .before .before .before
+
+abbrev refused-at : tie.After-known-told → tie.After-read
+refused-at c = c .before .before .before .before .before .before .before
+
+opening : (c : tie.After-known-told2) → Opened (f (start (accepted-at c))) (c .before .chain .given .0 .0) (c .before .chain .given .0 .1 .0) (after (accepted-at c))
+opening c = file-opened room (accepted-at c .read .ensures) (c .before .chain .given .1)
+
+refused : (c : tie.After-known-told) → FileRefused (f (start (refused-at c))) (c .before .number .given .0 .0) (c .before .number .given .0 .1 .0)
+refused c = file-refused room (refused-at c .read .ensures) (c .before .number .given .1)
 
 refusal-line-requires : tie.Need-refusal-line-requires
 refusal-line-requires c κs =
-    let s = start (c .before .before .before .before .before .before .before .before) in
+    let s = start (refused-at (c .before)) in
     file-room (s .args .buffer .now) (s .pre) (refused (c .before))
 
 mul-e : tie.Need-mul-e

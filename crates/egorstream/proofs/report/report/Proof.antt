@@ -1,5 +1,4 @@
 use mathlib.Core.Path.{refl}
-use mathlib.Core.List.{[]}
 use native.Mathlib.Omega.{arith}
 use borrow.Author.Needs.{needs}
 use Rattle.meaning.specs.Report.{TextOutcome}
@@ -8,7 +7,7 @@ use Rattle.egorstream.proofs.report.report.Statement.{statement}
 use Rattle.egorstream.proofs.report.report.Tie as tie
 
 returns : tie.Need-returns
-returns c = TextOutcome.short (c .if1 .taken) refl refl
+returns c = TextOutcome.short (omega arith) refl refl
 
 returns-2 : tie.Need-returns-2
 returns-2 c = printed (omega (arith, c .before .before .before .before .if1 .left)) (c .before .before .file-lines .ensures)

@@ -1,5 +1,4 @@
-use Prim.Native.Nat.{_≤_, _-_}
-use native.Mathlib.Omega.{arith}
+use Prim.Native.Nat.{_-_}
 use borrow.Author.Needs.{needs}
 use Rattle.worked.proofs.run.holds.Statement.{statement}
 use Rattle.worked.proofs.run.holds.Tie as tie

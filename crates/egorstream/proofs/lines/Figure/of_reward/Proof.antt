@@ -1,5 +1,4 @@
 use mathlib.Core.Path.{sym, _∙_, ap}
-use mathlib.Core.List.{[]}
 use borrow.Author.Needs.{needs}
 use Rattle.egorstream.proofs.Outcomes.{retold}
 use Rattle.chain.specs.Answer.{toldReward}

@@ -1,5 +1,4 @@
 use mathlib.Core.Path.{sym, ap}
-use mathlib.Core.List.{[]}
 use borrow.Author.Needs.{needs}
 use Rattle.chain.specs.Answer.{toldBounds}
 use Rattle.egorstream.proofs.lines.Limits.of_bounds.Statement.{statement}
