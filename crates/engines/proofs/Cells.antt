@@ -78,9 +78,6 @@ module _ (n : ℕ) (w v : List ℕ) (room : n * (n + 4) ≤ length w) (e : v ≡
       ∙ List·getD-append (replicate size 0) (drop size w) 0 (i * (n + 4) + j) (rw z l)
       ∙ getD-replicate size (i * (n + 4) + j) 0 0 l
 
-  pub zeros-row : (i : ℕ) → i < n → rowAt n v i ≡ noRow n
-  zeros-row i b = zero-row n v (omega (arith, zeros-kept .len)) i b (λ j h. zeros-at i j b h)
-
 only-none : (b : Bool) → only b 0 ≡ 0
 only-none true = refl
 only-none false = refl

@@ -6,7 +6,7 @@ use mathlib.Core.Bool.{Bool, true, false}
 use native.Mathlib.Omega.{arith}
 use lib.ListN.{length, getD, List·getD-eq-default}
 use Rattle.meaning.specs.Chain.{mostStates, mostEdges, M, mostReward, Chain, denominator, edgeSize, edgeCount, from, to, weight, along}
-use Rattle.meaning.specs.Refusal.{Lent, Entry, workSize, Misshaped, Same, OrderFault, RewardFault, whole, lentFault, WellFormed}
+use Rattle.meaning.specs.Refusal.{Lent, Entry, workSize, Misshaped, OrderFault, RewardFault, whole, lentFault, WellFormed}
 use Rattle.meaning.specs.Stop.{rewardOf}
 use Rattle.theory.specs.Sum.{below}
 use Rattle.theory.specs.Every.{holds-every}
@@ -64,9 +64,6 @@ module _ (x : Entry) (l : Lent) (formed : WellFormed x l) where
   goals-in = inside _ _ (λ h. formed .none 4 0 (refl, inr h))
 
   module _ (i : ℕ) (h : i < c .states) where
-    pub denominator-positive : 0 < denominator c i
-    denominator-positive = positive _ (λ e. formed .none 5 i (h, inl e))
-
     pub denominator-small : denominator c i ≤ M
     denominator-small = atMost _ _ (λ k. formed .none 5 i (h, inr k))
 
@@ -85,9 +82,6 @@ module _ (x : Entry) (l : Lent) (formed : WellFormed x l) where
 
     pub weight-small : weight (c .edges) e ≤ M
     weight-small = atMost _ _ (λ k. formed .none 7 e (h, inr k))
-
-    pub pair-new : (d : ℕ) → d < e → Same (c .edges) d e → ⊥
-    pair-new d k s = formed .none 8 e (h, (d, (k, s)))
 
   pub formed-fine : Fine c
   formed-fine = record { targets = to-in; weights = weight-positive; sums = row-sum }

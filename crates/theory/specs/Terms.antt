@@ -10,7 +10,6 @@ use native.Mathlib.Nat.{
   mul-div-cancel',
   mul-dvd-mul-left,
   eq-zero-of-zero-dvd,
-  dvd-antisymm,
   eq-one-of-dvd-one,
   dvd-of-mul-dvd-mul-left,
   mul-one,
@@ -47,10 +46,6 @@ pub gcd-most : (r : Row) (k : ℕ) → ((j : ℕ) → j < length r → k ∣ cel
 unfolding gcdOf
 gcd-most [] k h = dvd-zero k
 gcd-most (x ∷ r) k h = gcd-greatest x (gcdOf r) .most k (h 0 (omega arith)) (gcd-most r k (λ j l. h (suc j) (omega arith)))
-
--- What divides every cell and is divided by all that do is the row's.
-pub gcd-is : (r : Row) (g : ℕ) → ((j : ℕ) → j < length r → g ∣ cell r j) → ((k : ℕ) → ((j : ℕ) → j < length r → k ∣ cell r j) → k ∣ g) → g ≡ gcdOf r
-gcd-is r g d m = dvd-antisymm (gcd-most r g d) (m (gcdOf r) (λ j _. gcd-divides r j))
 
 pub divisor-whole : (r : Row) → 0 < divisor r
 unfolding divisor
