@@ -1,7 +1,7 @@
 -- The row sums of all states, gathered edge by edge.
 use Prim.Native.Nat.{ℕ, _+_, _*_, _≤_, _<_}
 use mathlib.Core.Path.{_≡_, sym, ap, _∙_}
-use mathlib.Core.Logic.{⊎-elim, inl, inr}
+use mathlib.Core.Logic.{⊎-elim, inr}
 use mathlib.Core.List.{List}
 use native.Mathlib.Nat.{mul-one}
 use native.Mathlib.Numerals.{add-one}
@@ -11,7 +11,7 @@ use lib.Seq.{getD-set-same, getD-set-other}
 use borrow.Author.Tests.{eq-eqb, ne-eqb}
 use Rattle.meaning.specs.Number.{sumTo}
 use Rattle.meaning.specs.Chain.{mostStates, M, edgeCount, from, weight, carried, rowSum, flow}
-use Rattle.meaning.specs.Refusal.{EndFault, WeightFault}
+use Rattle.meaning.specs.Refusal.{WeightFault}
 use Rattle.theory.specs.Sum.{same, sum-next}
 
 -- What edge e adds to the row sum of i.
@@ -48,11 +48,8 @@ module _ (edges : List ℕ) where
   unfolding carried
   stays i e h = rw (ne-eqb (from edges e) i h)
 
-  module _ (ends : (k : ℕ) → EndFault mostStates edges k → ⊥) (weights : (k : ℕ) → WeightFault edges k → ⊥) (e : ℕ) (h : e < edgeCount edges)
+  module _ (weights : (k : ℕ) → WeightFault edges k → ⊥) (e : ℕ) (h : e < edgeCount edges)
     where
-      pub from-in : from edges e < mostStates
-      from-in = let out : mostStates ≤ from edges e → ⊥ = λ l. ends e (h, inl l) in omega arith
-
       pub weight-small : weight edges e ≤ M
       weight-small = let out : M < weight edges e → ⊥ = λ l. weights e (h, inr l) in omega arith
 

@@ -1,5 +1,8 @@
+ghost use Prim.Native.Nat.{ℕ};
 ghost use Rattle.chain.specs.Least.{least, decides};
-ghost use Rattle.meaning.specs.Refusal.{Same, PairFault};
+ghost use Rattle.meaning.specs.Chain.{mostStates};
+ghost use Rattle.meaning.specs.Refusal.{Same, EndFault, PairFault};
+use crate::Chain;
 use crate::edge;
 use crate::scan::Place;
 
@@ -16,7 +19,7 @@ fn same_ends(edges: &[u64], d: usize, e: usize) -> bool
 }
 
 // The first edge whose pair stood earlier. The scan is left at the first repeat, and then an edge is left over.
-pub(crate) fn repeated(edges: &[u64]) -> Place
+fn first_repeat(edges: &[u64]) -> Place
     ensures { λ r. ⌜ least (PairFault (now (edges .entry))) r ⌝ }
 {
     let count = edge::count(edges);
@@ -35,4 +38,36 @@ pub(crate) fn repeated(edges: &[u64]) -> Place
         return Place::At(e);
     }
     Place::Nowhere
+}
+
+// Whether each edge leads to a state that was not yet seen from its source. Then no pair stood earlier.
+fn distinct(edges: &[u64]) -> bool
+    requires { ⌜ ((e : ℕ) → EndFault mostStates (now edges) e → ⊥) ⌝ }
+    ensures { λ r. ⌜ decides ((e : ℕ) → PairFault (now (edges .entry)) e → ⊥) r ⌝ }
+{
+    let count = edge::count(edges);
+    let mut seen = [0u64; Chain::STATES];
+    let mut e = 0;
+    while e < count {
+        let i = edge::from(edges, e) as usize;
+        let j = edge::to(edges, e);
+        let targets = seen[i];
+        if (targets >> j) % 2 == 1 {
+            return false;
+        }
+        seen[i] = targets | (1 << j);
+        e += 1;
+    }
+    true
+}
+
+// Where the first edge is whose pair stood earlier. One pass tells that there is none; only else is each edge compared with all before it.
+pub(crate) fn repeated(edges: &[u64]) -> Place
+    requires { ⌜ ((e : ℕ) → EndFault mostStates (now edges) e → ⊥) ⌝ }
+    ensures { λ r. ⌜ least (PairFault (now (edges .entry))) r ⌝ }
+{
+    if distinct(edges) {
+        return Place::Nowhere;
+    }
+    first_repeat(edges)
 }

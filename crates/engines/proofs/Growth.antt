@@ -10,10 +10,10 @@ use lib.Dec.{eqb}
 use borrow.Author.Count.{below-more}
 use borrow.Author.Tests.{eqb-true, eqb-false}
 use Rattle.chain.specs.Least.{decides}
+use Rattle.chain.proofs.Ends.{from-below, to-below}
 use Rattle.meaning.specs.Number.{bit}
-use Rattle.meaning.specs.Chain.{mostStates, edgeCount, from, to}
+use Rattle.meaning.specs.Chain.{mostStates, edgeCount}
 use Rattle.meaning.specs.Refusal.{EndFault}
-use Rattle.theory.specs.Sum.{below}
 use Rattle.theory.specs.Bits.{in-either, in-one}
 use Rattle.engines.specs.Grow.{tail, head, Open, Way, Grown, sown, joined, Idle, AllIdle, Larger}
 
@@ -33,10 +33,8 @@ alike false to from d = λ q. d (from q)
 -- Both ends of an edge are below 64.
 pub end-below : (back : Bool) (edges : List ℕ) (e : ℕ) → e < edgeCount edges → ((e : ℕ) → EndFault mostStates edges e → ⊥)
     → tail back edges e < mostStates
-end-below true edges e h f =
-    ⊎-elim (λ (l : to edges e < mostStates). l) (λ l. absurd (f e (h, inr l))) (below (to edges e) mostStates)
-end-below false edges e h f =
-    ⊎-elim (λ (l : from edges e < mostStates). l) (λ l. absurd (f e (h, inl l))) (below (from edges e) mostStates)
+end-below true edges e h f = to-below edges f e h
+end-below false edges e h f = from-below edges f e h
 
 -- What grows from what has grown has grown.
 pub regrown : {w : Way} {seed set i : ℕ} → ((i : ℕ) → bit set i ≡ 1 → Grown w seed i) → Grown w set i → Grown w seed i

@@ -7,6 +7,7 @@ use Rattle.chain.proofs.look.own.Tie as tie
 use Rattle.meaning.specs.Refusal.{Entry}
 use Rattle.chain.specs.Says.{lent, Upto}
 use Rattle.chain.proofs.Law.{holds, fails, found, none}
+use Rattle.chain.proofs.Ends.{wide}
 use Rattle.chain.proofs.Refuse.{refuse, next, at-0, off, tell}
 
 -- A test or a scan that finds nothing clears one number more, and one that finds something is the refusal.
@@ -94,6 +95,14 @@ returns-7 c x o w t u =
     let at = c .before .before .before .before in
     tell 10 (c .refused7 .ensures) (refuse (up-9 (at .before) x o w t u) (found _ (at .unequal .ensures) (c .before .before .i2 .given .1)))
 
+repeated-requires : tie.Need-repeated-requires
+repeated-requires c κs =
+    let ends = c .before .before .before in
+    let goals = ends .before .before .before .before .before .before in
+    let start = goals .before .before .before .before .before .before in
+    wide _ (start .args .edges .now) (start .pre .few-states)
+    (none _ (ends .before .before .ends .ensures) (ends .enum-told2 .given .1))
+
 unequal-requires : tie.Need-unequal-requires
 unequal-requires c κs =
     let weights = c .before .before .before in
@@ -133,7 +142,7 @@ own-spec =
     (λ c κs. search needs)
     returns-5
     (λ c. search needs)
-    (λ c κs. search needs)
+    repeated-requires
     (λ c. search needs)
     (λ c κs. search needs)
     returns-6

@@ -1,8 +1,8 @@
 use Prim.Native.Nat.{_-_, _<_}
 use native.Mathlib.Omega.{arith}
 use Rattle.meaning.specs.Chain.{M, mostStates, edgeCount, from, weight}
-use Rattle.chain.proofs.Gather.{Gathered, none, more, from-in, weight-small}
-use Rattle.chain.proofs.Gather.{all}
+use Rattle.chain.proofs.Gather.{Gathered, none, more, all, weight-small}
+use Rattle.chain.proofs.Ends.{from-below}
 use borrow.Author.Needs.{needs}
 use Rattle.chain.proofs.sums.row_sums.Statement.{statement}
 use Rattle.chain.proofs.sums.row_sums.Tie as tie
@@ -21,7 +21,7 @@ small : (c : tie.After-weight Inv-loop μ-loop) → c .before .from .result < mo
 small c =
     let at = c .before .before .before in
     let start = at .before .before .before in
-    omega (arith, c .before .from .ensures, from-in (start .args .edges .now) (start .pre .1 .0) (start .pre .1 .1) (at .loop .e) (omega arith))
+    omega (arith, c .before .from .ensures, from-below (start .args .edges .now) (start .pre .1 .0) (at .loop .e) (omega arith))
 
 mul-sums : tie.Need-mul-sums Inv-loop μ-loop
 mul-sums c = omega (arith, small c)
@@ -33,7 +33,7 @@ add-sums : tie.Need-add-sums Inv-loop μ-loop
 add-sums c =
     let at = c .before .before .before in
     let start = at .before .before .before in
-    omega (arith, c .weight .ensures, weight-small (start .args .edges .now) (start .pre .1 .0) (start .pre .1 .1) (at .loop .e) (omega arith), at .loop .inv .most _ (small c), at .loop .inv .past, start .pre .0)
+    omega (arith, c .weight .ensures, weight-small (start .args .edges .now) (start .pre .1 .1) (at .loop .e) (omega arith), at .loop .inv .most _ (small c), at .loop .inv .past, start .pre .0)
 
 array-write-sums : tie.Need-array-write-sums Inv-loop μ-loop
 array-write-sums c = small c
@@ -42,7 +42,7 @@ loop-again : tie.Need-loop-again Inv-loop μ-loop
 loop-again c =
     let at = c .before .before .before in
     let start = at .before .before .before in
-    more _ (start .pre .1 .0) (start .pre .1 .1) (at .loop .e) (search needs) _ (at .loop .inv) _ _ (c .before .from .ensures) (c .weight .ensures)
+    more _ (start .pre .1 .1) (at .loop .e) (search needs) _ (at .loop .inv) _ _ (c .before .from .ensures) (c .weight .ensures)
 
 returns : tie.Need-returns Inv-loop μ-loop
 returns c = all _ (c .before .loop .inv) (search needs)

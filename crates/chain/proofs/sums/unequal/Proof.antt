@@ -1,9 +1,9 @@
 use Prim.Native.Nat.{_-_}
 use mathlib.Core.Path.{sym, _∙_}
-use mathlib.Core.Logic.{⊎-elim, inl, inr}
 use native.Mathlib.Omega.{arith}
 use Rattle.meaning.specs.Refusal.{SumFault}
 use Rattle.chain.proofs.Law.{Passed, stop, pass, done}
+use Rattle.chain.proofs.Ends.{wide}
 use borrow.Author.Needs.{needs}
 use Rattle.chain.proofs.sums.unequal.Statement.{statement}
 use Rattle.chain.proofs.sums.unequal.Tie as tie
@@ -17,7 +17,7 @@ abbrev μ-loop : tie.MeasureT-loop
 row-sums-requires : tie.Need-row-sums-requires Inv-loop μ-loop
 row-sums-requires c κs =
     let pre = c .before .before .pre in
-    (pre .0 .few-edges, (λ e f. pre .1 .0 e (f .0, ⊎-elim (λ h. inl (omega (arith, pre .0 .few-states))) (λ h. inr (omega (arith, pre .0 .few-states))) (f .1)), pre .1 .1))
+    (pre .0 .few-edges, (wide _ (c .before .before .args .edges .now) (pre .0 .few-states) (pre .1 .0), pre .1 .1))
 
 returns : tie.Need-returns Inv-loop μ-loop
 returns c =
