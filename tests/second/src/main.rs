@@ -4,8 +4,9 @@
 //! library on all of them and its program `nightchance` on a part, and compares every answer with
 //! its own. Its last line is `second: N passed, 0 failed`, where N counts comparisons.
 //!
-//! `cargo run --release` compares; `cargo test` tries this implementation alone on the chains that
-//! document 01 works by hand. The product is sought below the repository's `target`.
+//! `cargo run --release` compares, with the word `sample` on a small part of it; `cargo test` tries
+//! this implementation alone on the chains that document 01 works by hand. The product is sought
+//! below the repository's `target`.
 
 mod block;
 mod chain;
@@ -31,16 +32,25 @@ mod tally;
 mod work;
 mod worked;
 
+use std::env;
 use std::process::ExitCode;
 
 fn main() -> ExitCode {
+    let once_in = match env::args().nth(1).as_deref() {
+        None => work::ALL,
+        Some("sample") => work::SAMPLE,
+        Some(_) => {
+            eprintln!("usage: second [sample]");
+            return ExitCode::FAILURE;
+        }
+    };
     for program in [product::driver(), product::program()] {
         if !program.is_file() {
             eprintln!("The program {} is missing.", program.display());
             return ExitCode::FAILURE;
         }
     }
-    if work::run().print() {
+    if work::run(once_in).print() {
         ExitCode::SUCCESS
     } else {
         ExitCode::FAILURE

@@ -104,5 +104,9 @@ pub fn report(file: &[u8]) -> io::Result<Vec<u8>> {
     let mut child = start(&program());
     // A program that stops reading early shows in its report; that the pipe broke is no more news.
     let _ = child.stdin.take().expect("it is piped").write_all(file);
-    Ok(child.wait_with_output()?.stdout)
+    let output = child.wait_with_output()?;
+    if !output.status.success() {
+        return Err(io::Error::other(format!("it ended with {}", output.status)));
+    }
+    Ok(output.stdout)
 }

@@ -18,7 +18,7 @@ use std::thread;
 const SEED: u64 = 0x6e69_6768_7463_6861;
 
 /// How many units each part has.
-const CHAINS: u64 = 2_000 * FAMILIES.len() as u64;
+const CHAINS: u64 = 2_250 * FAMILIES.len() as u64;
 const ORDERED: u64 = 400;
 const DAMAGED: u64 = 2_200 * DAMAGES.len() as u64;
 const UNITS: u64 = CHAINS + ORDERED + DAMAGED;
@@ -29,14 +29,19 @@ const ORDERS: usize = 8;
 /// that chains of every family reach the program.
 const REPORT_ONCE_IN: u64 = 23;
 
-/// Does all the work, on as many threads as the machine has cores.
-pub fn run() -> Tally {
+/// How many of the units are done: all, or one in so many, which shares no factor with the others.
+pub const ALL: u64 = 1;
+pub const SAMPLE: u64 = 199;
+
+/// Does one unit in so many, on as many threads as the machine has cores.
+pub fn run(once_in: u64) -> Tally {
     let mut tally = Tally::default();
     known_answers(&mut tally);
     let next = AtomicU64::new(0);
     let threads = thread::available_parallelism().map_or(1, usize::from);
     thread::scope(|scope| {
-        let workers: Vec<_> = (0..threads).map(|_| scope.spawn(|| worker(&next))).collect();
+        let workers: Vec<_> =
+            (0..threads).map(|_| scope.spawn(|| worker(&next, once_in))).collect();
         for worker in workers {
             tally.join(worker.join().expect("a thread of this program failed"));
         }
@@ -44,10 +49,10 @@ pub fn run() -> Tally {
     tally
 }
 
-fn worker(next: &AtomicU64) -> Tally {
+fn worker(next: &AtomicU64, once_in: u64) -> Tally {
     let mut tally = Tally::default();
     loop {
-        let place = next.fetch_add(1, Ordering::Relaxed);
+        let place = next.fetch_add(once_in, Ordering::Relaxed);
         if place >= UNITS {
             return tally;
         }
