@@ -1,7 +1,8 @@
-# make report prints the report of a chain file; make test runs the gate; make fmt lays every file of Rattle out; make bench times.
+# make report prints the report of a chain file; make test runs the gate; make memory runs a sample of it under valgrind; make bench times;
+# make fmt lays every file of Rattle out.
 CHAIN ?= examples/address.chain
 
-.PHONY: report test fmt bench
+.PHONY: report test memory fmt bench
 
 report: target/bin/nightchance
 	@tests/x86-64 run target/bin/nightchance <$(CHAIN)
@@ -13,6 +14,10 @@ target/bin/nightchance: $(shell find crates -name '*.rt' -o -name '*.antt') crat
 
 test:
 	bash .ci/run
+
+# On x86-64, after make test.
+memory:
+	tests/memory
 
 fmt:
 	rt fmt
