@@ -5,12 +5,12 @@ CHAIN ?= examples/address.chain
 .PHONY: report test memory fmt bench
 
 report: target/bin/nightchance
-	@tests/x86-64 run target/bin/nightchance <$(CHAIN)
+	@tests/x86-64 run target/bin/nightchance <"$(CHAIN)"
 
 # Only a proved program is built, so the first build takes as long as its proofs.
 target/bin/nightchance: $(shell find crates -name '*.rt' -o -name '*.antt') crates.txt
 	rt check nightchance
-	@touch $@
+	@test -x $@ && touch $@
 
 test:
 	bash .ci/run
@@ -23,4 +23,5 @@ fmt:
 	rt fmt
 
 bench:
+	rt staticlib egorstream
 	bench/run

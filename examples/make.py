@@ -88,10 +88,10 @@ def backup():
 
     0 fetched       the day's data lie ready: 990 a copy is begun, 8 they are fetched again, 2 lost
     1 half written  970 the copy is finished, 20 writing goes on, 9 back to fetched, 1 lost
-    2 copied        the goal
-    3 lost          nothing brings the data back
+    2 copied        all is well
+    3 lost          the goal: nothing brings the data back
 
-    Chance 19206/19265. The reward is infinite, because a lost night is never copied.
+    Chance 59/19265: that of a night that ends with no copy. The reward is infinite, because a night that ends well never comes to the goal.
     """
     rows = [
         {1: 990, 0: 8, 3: 2},
@@ -99,7 +99,7 @@ def backup():
         {2: 1},
         {3: 1},
     ]
-    return chain_file(rows, goals={2}, rewards={0: 4, 1: 7})
+    return chain_file(rows, goals={3}, rewards={0: 4, 1: 7})
 
 
 if __name__ == "__main__":

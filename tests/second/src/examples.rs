@@ -22,7 +22,7 @@ pub const EXAMPLES: [Example; 4] = [
     (
         "backup.chain",
         include_bytes!("../../../examples/backup.chain"),
-        &["live 2", "chance 19206/19265", "reward infinite"],
+        &["live 2", "chance 59/19265", "reward infinite"],
     ),
 ];
 
