@@ -11,6 +11,7 @@ ghost use Rattle.engines.specs.Run.{Begun};
 ghost use Rattle.engines.specs.Figured.{begins, figured};
 use crate::run::Course;
 use crate::run::run;
+use crate::sets::holds;
 use crate::work::clear_work;
 use chain::Chain;
 
@@ -25,10 +26,10 @@ fn standing(start: usize, goals: u64, good: u64) -> Begin
     requires { ⌜ start < mostStates ⌝ }
     ensures { λ r. ⌜ begins start goals good r ⌝ }
 {
-    if (goals >> start) % 2 == 1 {
+    if holds(goals, start) {
         return Begin::Won;
     }
-    if (good >> start) % 2 == 1 {
+    if holds(good, start) {
         return Begin::Live;
     }
     Begin::Lost

@@ -11,6 +11,7 @@ ghost use Rattle.engines.specs.Row.{Tested};
 ghost use Rattle.engines.specs.Table.{rowAt, Put, Renewed};
 ghost use Rattle.engines.specs.First.{setsOf, columnOf, share, Added, Held, Addable, Gatherable, finished, Gathered, finishedAt, Finishable, Asked, Made};
 use crate::row::settle;
+use crate::sets::holds;
 use crate::work::clear_work;
 ghost use Rattle.engines.specs.Sets.{chainOf};
 use chain::Chain;
@@ -21,10 +22,10 @@ fn column(t: usize, n: usize, good: u64, live: u64) -> usize
     requires { ⌜ (t < n) × (n ≤ mostStates) ⌝ }
     ensures { λ r. ⌜ (r ≡ columnOf n (setsOf good live) t) × (r < n + 4) ⌝ }
 {
-    if (live >> t) % 2 == 1 {
+    if holds(live, t) {
         return t;
     }
-    if (good >> t) % 2 == 1 {
+    if holds(good, t) {
         return n;
     }
     n + 1
@@ -45,7 +46,7 @@ fn carry(work: &mut [u64], n: usize, good: u64, live: u64, edges: &[u64], e: usi
     ensures { λ _. ⌜ Added n (λ i j. share n (setsOf good live) (now (edges .entry)) i j e) (now (work .entry)) (now (work .exit)) ⌝ }
 {
     let i = edge::from(edges, e) as usize;
-    if (live >> i) % 2 == 0 {
+    if !holds(live, i) {
         return;
     }
     let j = column(edge::to(edges, e) as usize, n, good, live);
@@ -96,7 +97,7 @@ fn finish_row(work: &mut [u64], i: usize, n: usize, live: u64, earns: u64, round
     let m = n + 4;
     let a = i * m;
     let e = a + m;
-    finish(&mut work[a..e], n, (live >> i) % 2 == 1, earns, rounding)
+    finish(&mut work[a..e], n, holds(live, i), earns, rounding)
 }
 
 // Finishes each row, up to the first that does not fit. Answers whether all fit.

@@ -2,6 +2,7 @@
 ghost use mathlib.Core.Path.{_≡_};
 ghost use mathlib.Core.List.{List};
 ghost use Prim.Native.Nat.{ℕ, _^_, _<_};
+ghost use lib.Dec.{eqb};
 ghost use Rattle.meaning.specs.Number.{bit};
 ghost use Rattle.meaning.specs.Chain.{mostStates, edgeCount, ToGoal, FromStart};
 ghost use Rattle.meaning.specs.Refusal.{EndFault};
@@ -11,16 +12,16 @@ ghost use Rattle.engines.specs.Sets.{chainOf, Exactly, Alive, Astray, Kn
 use chain::Chain;
 use chain::edge;
 
-// State i is in the set.
-fn holds(set: u64, i: u64) -> bool
+// Whether state i is in the set.
+pub(crate) fn holds(set: u64, i: usize) -> bool
     requires { ⌜ i < mostStates ⌝ }
-    ensures { λ r. ⌜ decides (bit set i ≡ 1) r ⌝ }
+    ensures { λ r. ⌜ r ≡ eqb (bit set i) 1 ⌝ }
 {
     (set >> i) % 2 == 1
 }
 
 // The set of one state.
-fn alone(i: u64) -> u64
+fn alone(i: usize) -> u64
     requires { ⌜ i < mostStates ⌝ }
     ensures { λ r. ⌜ r ≡ 2 ^ i ⌝ }
 {
@@ -28,7 +29,7 @@ fn alone(i: u64) -> u64
 }
 
 // Edges that leave state i lead on: it is in the set, and not in the barrier.
-fn is_open(barrier: u64, set: u64, i: u64) -> bool
+fn is_open(barrier: u64, set: u64, i: usize) -> bool
     requires { ⌜ i < mostStates ⌝ }
     ensures { λ r. ⌜ decides (Open barrier set i) r ⌝ }
 {
@@ -39,13 +40,13 @@ fn is_open(barrier: u64, set: u64, i: u64) -> bool
 }
 
 // The state from which edge e leads on. The head of an edge is its tail the other way.
-fn tail(back: bool, edges: &[u64], e: usize) -> u64
+fn tail(back: bool, edges: &[u64], e: usize) -> usize
     ensures { λ r. ⌜ r ≡ tail back (now (edges .entry)) e ⌝ }
 {
     if back {
-        return edge::to(edges, e);
+        return edge::to(edges, e) as usize;
     }
-    edge::from(edges, e)
+    edge::from(edges, e) as usize
 }
 
 // The set with the head of edge e, where its tail is open.
@@ -105,7 +106,7 @@ fn reached(c: Chain, edges: &[u64]) -> u64
     requires { ⌜ ((e : ℕ) → EndFault mostStates (now edges) e → ⊥) ⌝ }
     ensures { λ r. ⌜ ((d : List ℕ) → Exactly (FromStart (chainOf c d (now (edges .entry)))) r) ⌝ }
 {
-    let start = alone(c.start as u64);
+    let start = alone(c.start);
     grow(false, c.goals, start, edges)
 }
 

@@ -9,6 +9,7 @@ ghost use Rattle.meaning.specs.Step.{row, goes, outside, removed};
 ghost use Rattle.engines.specs.Table.{tableOf, Ready};
 ghost use Rattle.engines.specs.Turn.{Turned};
 ghost use Rattle.engines.specs.Order.{walked};
+use crate::sets::holds;
 use crate::step::Turn;
 use crate::step::remove;
 
@@ -27,7 +28,7 @@ fn goes(s: usize, start: usize, live: u64) -> bool
     if s == start {
         return false;
     }
-    (live >> s) % 2 == 1
+    holds(live, s)
 }
 
 // The turn of the state s.

@@ -20,15 +20,17 @@ part-finish-end c = omega (arith, row-end (c .before .args .i) (c .before .args 
 
 finish-requires : tie.Need-finish-requires
 finish-requires c κs =
-    let a = c .before .before .args in
-    let h = c .before .before .pre in
+    let s = c .before .before .before in
+    let a = s .args in
+    let h = s .pre in
     let e = lent (a .n) (a .i) (a .work .now) in
-    (rw e (length-row (a .n) (a .work .now) (h .0) (a .i) (h .2)), h .1, rw e (h .3))
+    (rw e (length-row (a .n) (a .work .now) (h .0) (a .i) (h .2)), h .1, rw (e, c .holds .ensures) (h .3))
 
 returns : tie.Need-returns
 returns c =
-    let p = c .before .before .finish .ensures in
-    let s = c .before .before .before .before .before in
+    let b = c .before .before .before in
+    let s = b .before .before .before in
+    let p = rw (b .holds .ensures) at (c .before .before .finish .ensures) in
     let a = s .args in
     let h = s .pre in
     let w = a .work .now in
@@ -47,7 +49,7 @@ finish-row-spec =
     (λ c. search needs)
     (λ c. search needs)
     part-finish-end
-    (λ c. search needs)
+    (λ c κs. search needs)
     finish-requires
     (λ c. search needs)
     returns)
