@@ -7,7 +7,7 @@ use lib.Dec.{eqb}
 use lib.ListN.{length, getD, set}
 use Rattle.meaning.specs.Number.{only, choose, bit}
 use Rattle.meaning.specs.Chain.{mostStates, M, mostReward, Chain, denominator, edgeCount, from, to, weight, carried, rowSum}
-use Rattle.meaning.specs.Row.{Row, cell, total, goalColumn, trapColumn, rewardColumn, settled, rounding}
+use Rattle.meaning.specs.Row.{Row, cell, width, total, goalColumn, trapColumn, rewardColumn, settled, rounding}
 use Rattle.meaning.specs.Step.{Table, Sets, Right}
 use Rattle.meaning.specs.Refusal.{workSize}
 use Rattle.theory.specs.Fine.{Fine}
@@ -32,25 +32,25 @@ share n k edges i j e = only (eqb (bit (k .live) i) 1) (carried edges i (λ t. o
 -- In v each number of the table is that of w and what `more` says of its row and column.
 pub record Added (n : ℕ) (more : ℕ → ℕ → ℕ) (w v : List ℕ) : Type 0 where
   pub kept : Kept n w v
-  pub cells : (i j : ℕ) → i < n → j < n + 4 → cell (rowAt n v i) j ≡ cell (rowAt n w i) j + more i j
+  pub cells : (i j : ℕ) → i < n → j < width n → cell (rowAt n v i) j ≡ cell (rowAt n w i) j + more i j
 
 -- In v the table is what `held` says of each row and column.
 pub record Held (n : ℕ) (held : ℕ → ℕ → ℕ) (w v : List ℕ) : Type 0 where
   pub kept : Kept n w v
-  pub cells : (i j : ℕ) → i < n → j < n + 4 → cell (rowAt n v i) j ≡ held i j
+  pub cells : (i j : ℕ) → i < n → j < width n → cell (rowAt n v i) j ≡ held i j
 
 -- Edge e can be added to the table in w.
 pub record Addable (n : ℕ) (edges : List ℕ) (e : ℕ) (w : List ℕ) : Type 0 where
   pub few : n ≤ mostStates
-  pub room : n * (n + 4) ≤ length w
+  pub room : workSize n ≤ length w
   pub source : from edges e < n
   pub target : to edges e < n
-  pub small : (j : ℕ) → j < n + 4 → cell (rowAt n w (from edges e)) j + weight edges e ≤ M
+  pub small : (j : ℕ) → j < width n → cell (rowAt n w (from edges e)) j + weight edges e ≤ M
 
 -- The edges can be gathered in the table in w.
 pub record Gatherable (n : ℕ) (edges w : List ℕ) : Type 0 where
   pub few : n ≤ mostStates
-  pub room : n * (n + 4) ≤ length w
+  pub room : workSize n ≤ length w
   pub sources : (e : ℕ) → e < edgeCount edges → from edges e < n
   pub targets : (e : ℕ) → e < edgeCount edges → to edges e < n
   pub sums : (i : ℕ) → i < n → rowSum edges i ≤ M
@@ -77,7 +77,7 @@ finishedAt b n live denominators rewards w i =
 -- Each row of the table in w can be finished.
 pub record Finishable (b : Bool) (n live : ℕ) (denominators rewards w : List ℕ) : Type 0 where
   pub few : n ≤ mostStates
-  pub room : n * (n + 4) ≤ length w
+  pub room : workSize n ≤ length w
   pub size : length denominators ≡ n
   pub small : (i : ℕ) → i < n → getD denominators i 0 ≤ M
   pub paid : (i : ℕ) → i < n → getD rewards i 0 ≤ mostReward

@@ -1,10 +1,10 @@
 -- What the engines ask of the rows that they work on.
-use Prim.Native.Nat.{ℕ, _+_, _^_, _≤_, _<_}
+use Prim.Native.Nat.{ℕ, _^_, _≤_, _<_}
 use mathlib.Core.Path.{_≡_}
 use mathlib.Core.Bool.{Bool, true, false}
 use lib.ListN.{length}
 use Rattle.meaning.specs.Chain.{M}
-use Rattle.meaning.specs.Row.{Row, cell, total, reward, exact, rounding}
+use Rattle.meaning.specs.Row.{Row, cell, width, total, reward, exact, rounding}
 use Rattle.meaning.specs.Stop.{Large}
 
 -- Each of the first m numbers of the row is at most M.
@@ -13,7 +13,7 @@ Small m r = (j : ℕ) → j < m → cell r j ≤ M
 
 -- A new row, before it is settled: its total can be summed in 64 bits.
 pub record Sized (n : ℕ) (r : Row) : Type 0 where
-  pub columns : length r ≡ n + 4
+  pub columns : length r ≡ width n
   pub bound : total n r < 2 ^ 63
 
 -- A kept row fits, and the bounds engine keeps no Reward.

@@ -2,31 +2,33 @@
 use mathlib.Core.Path.{_≡_}
 use mathlib.Core.Bool.{Bool, true, false}
 use mathlib.Core.List.{List}
-use Prim.Native.Nat.{ℕ, _+_, _*_, _≤_, _<_}
+use Prim.Native.Nat.{ℕ, _*_, _≤_, _<_}
 use lib.ListN.{length, take, drop}
 use Rattle.meaning.specs.Number.{tabFrom}
-use Rattle.meaning.specs.Row.{Row, exact}
+use Rattle.meaning.specs.Chain.{mostStates}
+use Rattle.meaning.specs.Row.{Row, width, exact}
+use Rattle.meaning.specs.Refusal.{workSize}
 use Rattle.meaning.specs.Step.{Table}
 use Rattle.meaning.specs.Stop.{Large}
 use Rattle.engines.specs.Row.{Fit}
 
 -- Row i of the table in w.
 unfoldable pub rowAt : ℕ → List ℕ → ℕ → Row
-rowAt n w i = take (n + 4) (drop (i * (n + 4)) w)
+rowAt n w i = take (width n) (drop (i * width n) w)
 
 abbrev pub tableOf : ℕ → List ℕ → Table
 tableOf n w = tabFrom 0 n (rowAt n w)
 
 -- The work table holds n rows, and each of them fits.
 pub record Ready (b : Bool) (n : ℕ) (w : List ℕ) : Type 0 where
-  pub few : n ≤ 64
-  pub room : n * (n + 4) ≤ length w
+  pub few : n ≤ mostStates
+  pub room : workSize n ≤ length w
   pub fit : (i : ℕ) → i < n → Fit b n (rowAt n w i)
 
 -- v is as long as w, and the same past the table.
 pub record Kept (n : ℕ) (w v : List ℕ) : Type 0 where
   pub len : length v ≡ length w
-  pub past : drop (n * (n + 4)) v ≡ drop (n * (n + 4)) w
+  pub past : drop (workSize n) v ≡ drop (workSize n) w
 
 -- v is w with r in the place of row i.
 pub record Put (n : ℕ) (w : List ℕ) (i : ℕ) (r : Row) (v : List ℕ) : Type 0 where

@@ -1,9 +1,10 @@
 // What the figures of a well-formed input are read off: the elimination is begun only where the start is live.
 ghost use mathlib.Core.Path.{_≡_};
 ghost use mathlib.Core.List.{_++_};
-ghost use Prim.Native.Nat.{_+_, _*_, _≤_, _<_};
+ghost use Prim.Native.Nat.{_≤_, _<_};
 ghost use lib.ListN.{length, drop, replicate};
 ghost use Rattle.meaning.specs.Chain.{mostStates};
+ghost use Rattle.meaning.specs.Refusal.{workSize};
 ghost use Rattle.meaning.specs.Outcome.{cleared};
 ghost use Rattle.chain.specs.Says.{lent};
 ghost use Rattle.engines.specs.First.{setsOf};
@@ -37,8 +38,8 @@ fn standing(start: usize, goals: u64, good: u64) -> Begin
 
 // The figures of a start for which no row is made: the work table is made zero all the same.
 fn settled(work: &mut [u64], n: usize, goal: u64) -> Course
-    requires { ⌜ (n ≤ mostStates) × (n * (n + 4) ≤ length (now work)) ⌝ }
-    ensures { λ r. ⌜ (r ≡ Course.Ends goal 0 0 1) × (now (work .exit) ≡ replicate (n * (n + 4)) 0 ++ drop (n * (n + 4)) (now (work .entry))) ⌝ }
+    requires { ⌜ (n ≤ mostStates) × (workSize n ≤ length (now work)) ⌝ }
+    ensures { λ r. ⌜ (r ≡ Course.Ends goal 0 0 1) × (now (work .exit) ≡ replicate (workSize n) 0 ++ drop (workSize n) (now (work .entry))) ⌝ }
 {
     clear_work(work, n);
     Course::Ends {

@@ -1,15 +1,18 @@
 // The first rows, made from the chain: the weights are gathered in one pass over the edges, then each live row is finished.
 ghost use mathlib.Core.Path.{_≡_};
-ghost use Prim.Native.Nat.{_+_, _*_, _<_, _≤_};
+ghost use Prim.Native.Nat.{_+_, _<_, _≤_};
 ghost use lib.Dec.{eqb};
 ghost use lib.ListN.{length, getD, set};
 ghost use Rattle.meaning.specs.Number.{sumTo, bit};
 ghost use Rattle.meaning.specs.Chain.{mostStates, M, edgeCount};
-ghost use Rattle.meaning.specs.Row.{cell};
+ghost use Rattle.meaning.specs.Row.{cell, width};
+ghost use Rattle.meaning.specs.Refusal.{workSize};
 ghost use Rattle.meaning.specs.Step.{first};
 ghost use Rattle.engines.specs.Row.{Tested};
 ghost use Rattle.engines.specs.Table.{rowAt, Put, Renewed};
 ghost use Rattle.engines.specs.First.{setsOf, columnOf, share, Added, Held, Addable, Gatherable, finished, Gathered, finishedAt, Finishable, Asked, Made};
+use crate::row::REWARD;
+use crate::row::TRAP;
 use crate::row::settle;
 use crate::sets::holds;
 use crate::work::clear_work;
@@ -20,7 +23,7 @@ use chain::edge;
 // The column of a target in the row of a live state. A target that is not live and has a path to a goal is a goal.
 fn column(t: usize, n: usize, good: u64, live: u64) -> usize
     requires { ⌜ (t < n) × (n ≤ mostStates) ⌝ }
-    ensures { λ r. ⌜ (r ≡ columnOf n (setsOf good live) t) × (r < n + 4) ⌝ }
+    ensures { λ r. ⌜ (r ≡ columnOf n (setsOf good live) t) × (r < width n) ⌝ }
 {
     if holds(live, t) {
         return t;
@@ -28,15 +31,15 @@ fn column(t: usize, n: usize, good: u64, live: u64) -> usize
     if holds(good, t) {
         return n;
     }
-    n + 1
+    n + TRAP
 }
 
 // Adds x to the number in column j of row i.
 fn add(work: &mut [u64], n: usize, i: usize, j: usize, x: u64)
-    requires { ⌜ (n ≤ mostStates) × (n * (n + 4) ≤ length (now work)) × (i < n) × (j < n + 4) × (cell (rowAt n (now work) i) j + x ≤ M) ⌝ }
+    requires { ⌜ (n ≤ mostStates) × (workSize n ≤ length (now work)) × (i < n) × (j < width n) × (cell (rowAt n (now work) i) j + x ≤ M) ⌝ }
     ensures { λ _. ⌜ Put n (now (work .entry)) i (set (rowAt n (now (work .entry)) i) j (cell (rowAt n (now (work .entry)) i) j + x)) (now (work .exit)) ⌝ }
 {
-    let p = i * (n + 4) + j;
+    let p = i * (n + Chain::BESIDE) + j;
     work[p] += x;
 }
 
@@ -79,11 +82,11 @@ fn reward_of(rewards: &[u64], i: usize) -> u64
 
 // Puts what a live state earns into its row, and settles that. Answers whether it fits.
 fn finish(row: &mut [u64], n: usize, alive: bool, earns: u64, rounding: bool) -> bool
-    requires { ⌜ (length (now row) ≡ n + 4) × (n ≤ mostStates) × Gathered rounding n alive earns (now row) ⌝ }
+    requires { ⌜ (length (now row) ≡ width n) × (n ≤ mostStates) × Gathered rounding n alive earns (now row) ⌝ }
     ensures { λ r. ⌜ (now (row .exit) ≡ finished rounding n alive earns (now (row .entry))) × Tested rounding n (now (row .exit)) r ⌝ }
 {
     if alive {
-        row[n + 3] = earns;
+        row[n + REWARD] = earns;
         return settle(row, n, rounding);
     }
     true
@@ -91,10 +94,10 @@ fn finish(row: &mut [u64], n: usize, alive: bool, earns: u64, rounding: bool) ->
 
 // Finishes row i of the table. The rest of the work table is as it was.
 fn finish_row(work: &mut [u64], i: usize, n: usize, live: u64, earns: u64, rounding: bool) -> bool
-    requires { ⌜ (n * (n + 4) ≤ length (now work)) × (n ≤ mostStates) × (i < n) × Gathered rounding n (eqb (bit live i) 1) earns (rowAt n (now work) i) ⌝ }
+    requires { ⌜ (workSize n ≤ length (now work)) × (n ≤ mostStates) × (i < n) × Gathered rounding n (eqb (bit live i) 1) earns (rowAt n (now work) i) ⌝ }
     ensures { λ r. ⌜ Put n (now (work .entry)) i (finished rounding n (eqb (bit live i) 1) earns (rowAt n (now (work .entry)) i)) (now (work .exit)) × Tested rounding n (finished rounding n (eqb (bit live i) 1) earns (rowAt n (now (work .entry)) i)) r ⌝ }
 {
-    let m = n + 4;
+    let m = n + Chain::BESIDE;
     let a = i * m;
     let e = a + m;
     finish(&mut work[a..e], n, holds(live, i), earns, rounding)

@@ -1,4 +1,4 @@
-// One row: its lowest terms, its total, and how it is rounded. A row has n + 4 columns: the n states, Goal, Trap, Unknown and Reward.
+// One row: its lowest terms, its total, and how it is rounded.
 ghost use mathlib.Core.Path.{_≡_};
 ghost use mathlib.Core.Bool.{true, false};
 ghost use Prim.Native.Nat.{_^_, _<_, _≤_};
@@ -9,6 +9,13 @@ ghost use Rattle.meaning.specs.Row.{cell, total, reward, gcdOf, over, lowest, u
 ghost use Rattle.engines.specs.Row.{Sized, Tested};
 use chain::Chain;
 use chain::fraction::gcd;
+
+// A row has the n states, Goal, Trap, Unknown and Reward: Goal is in column n, the others so far behind it. All before Reward make up the total.
+pub(crate) const TRAP: usize = 1;
+
+pub(crate) const UNKNOWN: usize = 2;
+
+pub(crate) const REWARD: usize = 3;
 
 // The greatest common divisor of the numbers of a row, 0 where all are 0.
 fn common(row: &[u64]) -> u64
@@ -97,11 +104,11 @@ pub(crate) fn round(row: &mut [u64], n: usize)
     requires { ⌜ Sized n (now row) ⌝ }
     ensures { λ _. ⌜ (now (row .exit) ≡ rounded n (now (row .entry))) × (total n (now (row .exit)) ≤ M) ⌝ }
 {
-    let t = sum(row, n + 3);
+    let t = sum(row, n + REWARD);
     let k = shift(t);
     lower(row, k);
-    let q = sum(row, n + 2);
-    row[n + 2] = up(t, k) - q;
+    let q = sum(row, n + UNKNOWN);
+    row[n + UNKNOWN] = up(t, k) - q;
 }
 
 // Rounds a row whose total does not fit.
@@ -109,7 +116,7 @@ fn bound(row: &mut [u64], n: usize)
     requires { ⌜ Sized n (now row) ⌝ }
     ensures { λ _. ⌜ (now (row .exit) ≡ bounded true n (now (row .entry))) × (total n (now (row .exit)) ≤ M) ⌝ }
 {
-    if sum(row, n + 3) <= Chain::LIMIT {
+    if sum(row, n + REWARD) <= Chain::LIMIT {
         return;
     }
     round(row, n);
@@ -120,10 +127,10 @@ fn fits(row: &[u64], n: usize) -> bool
     requires { ⌜ Sized n (now row) ⌝ }
     ensures { λ r. ⌜ Tested false n (now (row .entry)) r ⌝ }
 {
-    if Chain::LIMIT < sum(row, n + 3) {
+    if Chain::LIMIT < sum(row, n + REWARD) {
         return false;
     }
-    if Chain::LIMIT < row[n + 3] {
+    if Chain::LIMIT < row[n + REWARD] {
         return false;
     }
     true

@@ -1,7 +1,8 @@
 // The elimination, from the first rows to the start's row.
 ghost use mathlib.Core.Path.{_≡_};
-ghost use Prim.Native.Nat.{_+_, _<_};
+ghost use Prim.Native.Nat.{_<_};
 ghost use lib.ListN.{length};
+ghost use Rattle.meaning.specs.Row.{width};
 ghost use Rattle.meaning.specs.Outcome.{cleared};
 ghost use Rattle.chain.specs.Says.{lent};
 ghost use Rattle.engines.specs.Row.{Fit};
@@ -9,6 +10,8 @@ ghost use Rattle.engines.specs.Table.{rowAt, Kept, Ready};
 ghost use Rattle.engines.specs.First.{setsOf};
 ghost use Rattle.engines.specs.Run.{endOf, Begun, runs};
 use crate::first::first_rows;
+use crate::row::REWARD;
+use crate::row::UNKNOWN;
 use crate::step::beside;
 use crate::walk::Walk;
 use crate::walk::eliminate;
@@ -31,13 +34,13 @@ pub(crate) enum Course {
 
 // The start's row at the end.
 fn last(row: &[u64], n: usize, start: usize, rounding: bool) -> Course
-    requires { ⌜ (length (now row) ≡ n + 4) × (start < n) × Fit rounding n (now row) ⌝ }
+    requires { ⌜ (length (now row) ≡ width n) × (start < n) × Fit rounding n (now row) ⌝ }
     ensures { λ r. ⌜ r ≡ endOf n start (now (row .entry)) ⌝ }
 {
     Course::Ends {
         goal: row[n],
-        unknown: row[n + 2],
-        reward: row[n + 3],
+        unknown: row[n + UNKNOWN],
+        reward: row[n + REWARD],
         outside: beside(row, n, start, rounding),
     }
 }
@@ -47,7 +50,7 @@ fn last_of(work: &[u64], n: usize, start: usize, rounding: bool) -> Course
     requires { ⌜ Ready rounding n (now work) × (start < n) ⌝ }
     ensures { λ r. ⌜ r ≡ endOf n start (rowAt n (now (work .entry)) start) ⌝ }
 {
-    let m = n + 4;
+    let m = n + Chain::BESIDE;
     let a = start * m;
     let e = a + m;
     last(&work[a..e], n, start, rounding)

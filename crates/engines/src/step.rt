@@ -6,10 +6,12 @@ ghost use lib.Dec.{eqb};
 ghost use Rattle.meaning.specs.Chain.{mostStates, M};
 ghost use Rattle.meaning.specs.Number.{choose};
 ghost use Rattle.meaning.specs.Row.{width, settled};
+ghost use Rattle.meaning.specs.Refusal.{workSize};
 ghost use Rattle.meaning.specs.Step.{row, noRow, combined, renewed, outside, removed};
 ghost use Rattle.engines.specs.Row.{Small, Fit, Tested};
 ghost use Rattle.engines.specs.Table.{rowAt, tableOf, Put, Renewed, Ready};
 ghost use Rattle.engines.specs.Turn.{Turned};
+use crate::row::REWARD;
 use crate::row::settle;
 use crate::row::sum;
 use chain::Chain;
@@ -51,7 +53,7 @@ fn change(
     pivot: &[u64; Chain::WIDTH],
     rounding: bool,
 ) -> bool
-    requires { ⌜ (length (now row) ≡ n + 4) × (n ≤ mostStates) × (s < n) × (d ≤ M) × Fit rounding n (now row) × Fit rounding n (now pivot) ⌝ }
+    requires { ⌜ (length (now row) ≡ width n) × (n ≤ mostStates) × (s < n) × (d ≤ M) × Fit rounding n (now row) × Fit rounding n (now pivot) ⌝ }
     ensures { λ r. ⌜ (now (row .exit) ≡ settled rounding n (combined s d (now (pivot .entry)) (now (row .entry)))) × Tested rounding n (now (row .exit)) r ⌝ }
 {
     combine(row, pivot, s, d);
@@ -60,7 +62,7 @@ fn change(
 
 // Makes a row that of a state that is not kept.
 fn clear(row: &mut [u64], n: usize)
-    requires { ⌜ length (now row) ≡ n + 4 ⌝ }
+    requires { ⌜ length (now row) ≡ width n ⌝ }
     ensures { λ _. ⌜ now (row .exit) ≡ noRow n ⌝ }
 {
     let mut j = 0;
@@ -80,7 +82,7 @@ fn renew(
     pivot: &[u64; Chain::WIDTH],
     rounding: bool,
 ) -> bool
-    requires { ⌜ (length (now row) ≡ n + 4) × (n ≤ mostStates) × (s < n) × (d ≤ M) × Fit rounding n (now row) × Fit rounding n (now pivot) ⌝ }
+    requires { ⌜ (length (now row) ≡ width n) × (n ≤ mostStates) × (s < n) × (d ≤ M) × Fit rounding n (now row) × Fit rounding n (now pivot) ⌝ }
     ensures { λ r. ⌜ (now (row .exit) ≡ renewed rounding n s d (now (pivot .entry)) own (now (row .entry))) × Tested rounding n (now (row .exit)) r ⌝ }
 {
     if own {
@@ -103,10 +105,10 @@ fn renew_row(
     pivot: &[u64; Chain::WIDTH],
     rounding: bool,
 ) -> bool
-    requires { ⌜ (n * (n + 4) ≤ length (now work)) × (n ≤ mostStates) × (i < n) × (s < n) × (d ≤ M) × Fit rounding n (rowAt n (now work) i) × Fit rounding n (now pivot) ⌝ }
+    requires { ⌜ (workSize n ≤ length (now work)) × (n ≤ mostStates) × (i < n) × (s < n) × (d ≤ M) × Fit rounding n (rowAt n (now work) i) × Fit rounding n (now pivot) ⌝ }
     ensures { λ r. ⌜ Put n (now (work .entry)) i (renewed rounding n s d (now (pivot .entry)) (eqb i s) (rowAt n (now (work .entry)) i)) (now (work .exit)) × Tested rounding n (renewed rounding n s d (now (pivot .entry)) (eqb i s) (rowAt n (now (work .entry)) i)) r ⌝ }
 {
-    let m = n + 4;
+    let m = n + Chain::BESIDE;
     let a = i * m;
     let e = a + m;
     renew(&mut work[a..e], i == s, n, s, d, pivot, rounding)
@@ -128,10 +130,10 @@ fn load(row: &[u64]) -> [u64; Chain::WIDTH]
 
 // D of state s, whose row this is.
 pub(crate) fn beside(row: &[u64], n: usize, s: usize, rounding: bool) -> u64
-    requires { ⌜ (length (now row) ≡ n + 4) × (s < n) × Fit rounding n (now row) ⌝ }
+    requires { ⌜ (length (now row) ≡ width n) × (s < n) × Fit rounding n (now row) ⌝ }
     ensures { λ r. ⌜ (r ≡ outside n s (now (row .entry))) × (r ≤ M) ⌝ }
 {
-    sum(row, n + 3) - row[s]
+    sum(row, n + REWARD) - row[s]
 }
 
 // Renews each row, up to the first that does not fit. Answers whether all fit.
@@ -161,7 +163,7 @@ pub(crate) fn remove(work: &mut [u64], n: usize, s: usize, rounding: bool) -> Tu
     requires { ⌜ Ready rounding n (now work) × (s < n) ⌝ }
     ensures { λ r. ⌜ Turned rounding n (outside n s (row (tableOf n (now (work .entry))) s) ≡ 0) (removed rounding n s (tableOf n (now (work .entry)))) (now (work .entry)) (now (work .exit)) r ⌝ }
 {
-    let m = n + 4;
+    let m = n + Chain::BESIDE;
     let a = s * m;
     let e = a + m;
     let d = beside(&work[a..e], n, s, rounding);
