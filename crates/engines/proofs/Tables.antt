@@ -30,15 +30,15 @@ mid-drop a m w r l h =
     let k : a + m - a ≡ m = omega arith in
     rw k at (drop-put a (a + m) w r (omega arith) h (omega arith))
 
--- A row as it is lent, and the table as it comes back.
-module _ (n i : ℕ) (w : List ℕ) where
-  pub lent : take (i * (n + 4) + (n + 4) - i * (n + 4)) (drop (i * (n + 4)) w) ≡ rowAt n w i
+-- Row i, which begins at a, as it is lent, and the table as it comes back.
+module _ (n i a : ℕ) (p : a ≡ i * (n + 4)) (w : List ℕ) where
+  pub lent : take (a + n + 4 - a) (drop a w) ≡ rowAt n w i
   unfolding rowAt
-  lent = let k : i * (n + 4) + (n + 4) - i * (n + 4) ≡ n + 4 = omega arith in rw k
+  lent = let k : a + n + 4 - a ≡ n + 4 = omega arith in rw (k, p)
 
-  back : (r : Row) → putMid (i * (n + 4)) (i * (n + 4) + (n + 4) - i * (n + 4)) w r ≡ withRow n w i r
+  back : (r : Row) → putMid a (a + n + 4 - a) w r ≡ withRow n w i r
   unfolding withRow
-  back r = let k : i * (n + 4) + (n + 4) - i * (n + 4) ≡ n + 4 = omega arith in rw k
+  back r = let k : a + n + 4 - a ≡ n + 4 = omega arith in rw (k, p)
 
 -- The number in column j of row i.
 pub row-cell : (n : ℕ) (w : List ℕ) (i j : ℕ) → j < n + 4 → getD (rowAt n w i) j 0 ≡ getD w (i * (n + 4) + j) 0
@@ -119,6 +119,6 @@ put-with n w room i b r l =
     }
 
 -- A row that was lent as `lent` says, changed, and is back.
-pub put-back : (n : ℕ) (w : List ℕ) (room : n * (n + 4) ≤ length w) (i : ℕ) (b : i < n) (q r : Row)
-    → length q ≡ n + 4 → q ≡ r → Put n w i r (putMid (i * (n + 4)) (i * (n + 4) + (n + 4) - i * (n + 4)) w q)
-put-back n w room i b q r l e = rw (back n i w q, ← e) (put-with n w room i b q l)
+pub put-back : (n : ℕ) (w : List ℕ) (room : n * (n + 4) ≤ length w) (i : ℕ) (b : i < n) (a : ℕ) → a ≡ i * (n + 4) → (q r : Row)
+    → length q ≡ n + 4 → q ≡ r → Put n w i r (putMid a (a + n + 4 - a) w q)
+put-back n w room i b a p q r l e = rw (back n i a p w q, ← e) (put-with n w room i b q l)

@@ -10,13 +10,14 @@ ghost use Rattle.meaning.specs.Refusal.{workSize};
 ghost use Rattle.meaning.specs.Step.{first};
 ghost use Rattle.engines.specs.Row.{Tested};
 ghost use Rattle.engines.specs.Table.{rowAt, Put, Renewed};
+ghost use Rattle.engines.specs.Sets.{chainOf};
 ghost use Rattle.engines.specs.First.{setsOf, columnOf, share, Added, Held, Addable, Gatherable, finished, Gathered, finishedAt, Finishable, Asked, Made};
 use crate::row::REWARD;
 use crate::row::TRAP;
 use crate::row::settle;
 use crate::sets::holds;
 use crate::work::clear_work;
-ghost use Rattle.engines.specs.Sets.{chainOf};
+use crate::work::row_start;
 use chain::Chain;
 use chain::edge;
 
@@ -39,7 +40,7 @@ fn add(work: &mut [u64], n: usize, i: usize, j: usize, x: u64)
     requires { ⌜ (n ≤ mostStates) × (workSize n ≤ length (now work)) × (i < n) × (j < width n) × (cell (rowAt n (now work) i) j + x ≤ M) ⌝ }
     ensures { λ _. ⌜ Put n (now (work .entry)) i (set (rowAt n (now (work .entry)) i) j (cell (rowAt n (now (work .entry)) i) j + x)) (now (work .exit)) ⌝ }
 {
-    let p = i * (n + Chain::BESIDE) + j;
+    let p = row_start(n, i) + j;
     work[p] += x;
 }
 
@@ -97,9 +98,8 @@ fn finish_row(work: &mut [u64], i: usize, n: usize, live: u64, earns: u64, round
     requires { ⌜ (workSize n ≤ length (now work)) × (n ≤ mostStates) × (i < n) × Gathered rounding n (eqb (bit live i) 1) earns (rowAt n (now work) i) ⌝ }
     ensures { λ r. ⌜ Put n (now (work .entry)) i (finished rounding n (eqb (bit live i) 1) earns (rowAt n (now (work .entry)) i)) (now (work .exit)) × Tested rounding n (finished rounding n (eqb (bit live i) 1) earns (rowAt n (now (work .entry)) i)) r ⌝ }
 {
-    let m = n + Chain::BESIDE;
-    let a = i * m;
-    let e = a + m;
+    let a = row_start(n, i);
+    let e = a + n + Chain::BESIDE;
     finish(&mut work[a..e], n, holds(live, i), earns, rounding)
 }
 

@@ -16,6 +16,7 @@ use crate::step::beside;
 use crate::walk::Walk;
 use crate::walk::eliminate;
 use crate::work::clear_work;
+use crate::work::row_start;
 use chain::Chain;
 
 // What the elimination comes to: what the start's row holds at the end, with its D; or what stops it.
@@ -50,9 +51,8 @@ fn last_of(work: &[u64], n: usize, start: usize, rounding: bool) -> Course
     requires { ⌜ Ready rounding n (now work) × (start < n) ⌝ }
     ensures { λ r. ⌜ r ≡ endOf n start (rowAt n (now (work .entry)) start) ⌝ }
 {
-    let m = n + Chain::BESIDE;
-    let a = start * m;
-    let e = a + m;
+    let a = row_start(n, start);
+    let e = a + n + Chain::BESIDE;
     last(&work[a..e], n, start, rounding)
 }
 

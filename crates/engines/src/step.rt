@@ -14,6 +14,7 @@ ghost use Rattle.engines.specs.Turn.{Turned};
 use crate::row::REWARD;
 use crate::row::settle;
 use crate::row::sum;
+use crate::work::row_start;
 use chain::Chain;
 
 // How a step, or a turn, ends: done; with a row that does not fit; or with D zero, before the step.
@@ -108,9 +109,8 @@ fn renew_row(
     requires { ⌜ (workSize n ≤ length (now work)) × (n ≤ mostStates) × (i < n) × (s < n) × (d ≤ M) × Fit rounding n (rowAt n (now work) i) × Fit rounding n (now pivot) ⌝ }
     ensures { λ r. ⌜ Put n (now (work .entry)) i (renewed rounding n s d (now (pivot .entry)) (eqb i s) (rowAt n (now (work .entry)) i)) (now (work .exit)) × Tested rounding n (renewed rounding n s d (now (pivot .entry)) (eqb i s) (rowAt n (now (work .entry)) i)) r ⌝ }
 {
-    let m = n + Chain::BESIDE;
-    let a = i * m;
-    let e = a + m;
+    let a = row_start(n, i);
+    let e = a + n + Chain::BESIDE;
     renew(&mut work[a..e], i == s, n, s, d, pivot, rounding)
 }
 
@@ -163,9 +163,8 @@ pub(crate) fn remove(work: &mut [u64], n: usize, s: usize, rounding: bool) -> Tu
     requires { ⌜ Ready rounding n (now work) × (s < n) ⌝ }
     ensures { λ r. ⌜ Turned rounding n (outside n s (row (tableOf n (now (work .entry))) s) ≡ 0) (removed rounding n s (tableOf n (now (work .entry)))) (now (work .entry)) (now (work .exit)) r ⌝ }
 {
-    let m = n + Chain::BESIDE;
-    let a = s * m;
-    let e = a + m;
+    let a = row_start(n, s);
+    let e = a + n + Chain::BESIDE;
     let d = beside(&work[a..e], n, s, rounding);
     if d == 0 {
         return Turn::NoWay;

@@ -1,11 +1,20 @@
 // The lent work table as a whole.
 ghost use mathlib.Core.Path.{_≡_};
 ghost use mathlib.Core.List.{_++_};
-ghost use Prim.Native.Nat.{_≤_};
+ghost use Prim.Native.Nat.{_+_, _*_, _≤_, _<_};
 ghost use lib.ListN.{length, drop, replicate};
 ghost use Rattle.meaning.specs.Chain.{mostStates};
+ghost use Rattle.meaning.specs.Row.{width};
 ghost use Rattle.meaning.specs.Refusal.{workSize};
 use chain::Chain;
+
+// Where row i of the table begins. It ends within the table.
+pub(crate) fn row_start(n: usize, i: usize) -> usize
+    requires { ⌜ (i < n) × (n ≤ mostStates) ⌝ }
+    ensures { λ r. ⌜ (r ≡ i * width n) × (r + width n ≤ workSize n) ⌝ }
+{
+    i * (n + Chain::BESIDE)
+}
 
 // Makes the table of n rows zero. The numbers past it stay.
 pub(crate) fn clear_work(work: &mut [u64], n: usize)
