@@ -1,13 +1,13 @@
 -- A loop that goes over a list from the front and puts f j in the place of number j.
 use mathlib.Core.Path.{_≡_, refl, sym, ap, _∙_}
-use mathlib.Core.List.{List, _++_}
+use mathlib.Core.List.{List, _∷_}
 use mathlib.Core.Logic.{⊎-elim, dite}
-use Prim.Native.Nat.{ℕ, zero, suc, _+_, _-_, _≤_, _<_, zero-le}
+use Prim.Native.Nat.{ℕ, zero, suc, _+_, _≤_, _<_, zero-le}
 use native.Mathlib.Nat.{eq-or-lt-of-le}
 use native.Mathlib.Decide.{decLt}
 use native.Mathlib.Omega.{arith}
-use lib.ListN.{length, getD, set, drop, length-set, replicate, length-replicate, length-append, length-drop, List·getD-append, List·getD-eq-default}
-use lib.Seq.{getD-set-same, getD-set-other, ext-getD, getD-append-add, getD-drop}
+use lib.ListN.{length, getD, set, length-set, replicate, List·getD-eq-default}
+use lib.Seq.{getD-set-same, getD-set-other}
 use Rattle.meaning.specs.Number.{tabFrom}
 use Rattle.theory.specs.Tab.{tab-of}
 
@@ -42,7 +42,7 @@ module _ {f : ℕ → ℕ} {l : List ℕ} where
     pub walk-all : length l ≤ k → row ≡ tabFrom 0 (length l) f
     walk-all h = tab-of 0 (length l) f row (w .len) (λ j b. w .new j (omega arith))
 
-getD-zeros : (m k : ℕ) → getD {A = ℕ} (replicate m 0) k 0 ≡ 0
+pub getD-zeros : (m k : ℕ) → getD {A = ℕ} (replicate m 0) k 0 ≡ 0
 getD-zeros zero k = refl
 getD-zeros (suc m) zero = refl
 getD-zeros (suc m) (suc k) = getD-zeros m k
@@ -53,17 +53,8 @@ walk-copy m r {k} {p} w e j =
     dite (decLt j k) (λ h. w .new j h)
     (λ h. let g : k ≤ j = omega arith in w .old j g ∙ getD-zeros m j ∙ sym (List·getD-eq-default r 0 (omega arith)))
 
--- A list whose first m numbers are made zero.
-pub walk-zeros : (m : ℕ) (l : List ℕ) {k : ℕ} {v : List ℕ} → Walked (λ _. 0) l k v → m ≤ length l → k ≡ m → v ≡ replicate m 0 ++ drop m l
-walk-zeros m l {k} {v} w h e =
-    let z = length-replicate {A = ℕ} m 0 in
-    ext-getD 0 v (replicate m 0 ++ drop m l)
-    (w .len ∙ sym (length-append (replicate m 0) (drop m l) ∙ omega (arith, z, length-drop m l)))
-    (λ j b.
-    dite (decLt j m)
-    (λ c. w .new j (omega arith) ∙ sym (List·getD-append (replicate m 0) (drop m l) 0 j (omega arith) ∙ getD-zeros m j))
-    (λ c.
-    let q : length (replicate {A = ℕ} m 0) + (j - m) ≡ j = omega arith in
-    let s : m + (j - m) ≡ j = omega arith in
-    w .old j (omega arith)
-    ∙ sym (ap (λ x. getD (replicate m 0 ++ drop m l) x 0) (sym q) ∙ getD-append-add (replicate m 0) (drop m l) (j - m) 0 ∙ getD-drop m l (j - m) 0 ∙ ap (λ x. getD l x 0) s)))
+-- A list that is made zero.
+pub zeros : (i m : ℕ) → tabFrom {A = ℕ} i m (λ _. 0) ≡ replicate m 0
+unfolding tabFrom
+zeros i zero = refl
+zeros i (suc m) = ap (λ r. 0 ∷ r) (zeros (suc i) m)

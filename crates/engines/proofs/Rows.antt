@@ -7,7 +7,7 @@ use native.Mathlib.Nat.{mul-le-mul, zero-div, le-div-iff-mul-le}
 use native.Mathlib.Decide.{decLt}
 use native.Mathlib.Omega.{arith}
 use lib.Dec.{eqb}
-use lib.ListN.{length, set, List·getD-eq-default}
+use lib.ListN.{length, set, replicate}
 use lib.Seq.{getD-set-same, getD-set-other}
 use borrow.Author.Tests.{le-ltb, lt-ltb, eq-eqb, ne-eqb}
 use Rattle.meaning.specs.Number.{sumTo, choose}
@@ -33,6 +33,7 @@ use Rattle.theory.specs.Sum.{sum-ext, sum-le, sum-zero, sum-next, sum-up, sum-m
 use Rattle.theory.specs.Tab.{tab-at, tab-length}
 use Rattle.theory.specs.Shift.{pow-whole, shift-fits}
 use Rattle.engines.specs.Row.{Small, Sized, Fit, Tested}
+use Rattle.engines.proofs.Loop.{zeros, getD-zeros}
 use Rattle.engines.proofs.Lowest.{over-at, over-sum, over-parts}
 
 topped-total : (n t : ℕ) (r : Row) → length r ≡ n + 4 → sumTo (cell r) (n + 2) ≤ t → total n (topped n t r) ≡ t
@@ -144,11 +145,14 @@ module _ (b : Bool) (n s d : ℕ) (p r : Row) (l : length r ≡ n + 4) (hs : s <
         ap (λ x. cell r s * x) (hp .unpaid e),
       )
 
+-- A row that is made zero is that of a state that is not kept.
+pub zeros-noRow : (n : ℕ) (r : Row) → length r ≡ n + 4 → replicate (length r) 0 ≡ noRow n
+unfolding noRow
+zeros-noRow n r l = rw l (sym (zeros 0 (n + 4)))
+
 noRow-at : (n j : ℕ) → cell (noRow n) j ≡ 0
 unfolding noRow
-noRow-at n j =
-    dite (decLt j (n + 4)) (λ h. tab-at (n + 4) (λ _. 0) 0 j h)
-    (λ h. List·getD-eq-default (noRow n) 0 (rw (tab-length {A = ℕ} 0 (n + 4) (λ _. 0)) (omega arith)))
+noRow-at n j = rw (zeros 0 (n + 4)) (getD-zeros (n + 4) j)
 
 pub noRow-fit : (b : Bool) (n : ℕ) → Fit b n (noRow n)
 noRow-fit b n =

@@ -7,13 +7,14 @@ ghost use Rattle.meaning.specs.Chain.{mostStates, M};
 ghost use Rattle.meaning.specs.Number.{choose};
 ghost use Rattle.meaning.specs.Row.{width, settled};
 ghost use Rattle.meaning.specs.Refusal.{workSize};
-ghost use Rattle.meaning.specs.Step.{row, noRow, combined, renewed, outside, removed};
+ghost use Rattle.meaning.specs.Step.{row, combined, renewed, outside, removed};
 ghost use Rattle.engines.specs.Row.{Small, Fit, Tested};
 ghost use Rattle.engines.specs.Table.{rowAt, tableOf, Put, Renewed, Ready};
 ghost use Rattle.engines.specs.Turn.{Turned};
 use crate::row::REWARD;
 use crate::row::settle;
 use crate::row::sum;
+use crate::work::clear;
 use crate::work::row_start;
 use chain::Chain;
 
@@ -61,18 +62,6 @@ fn change(
     settle(row, n, rounding)
 }
 
-// Makes a row that of a state that is not kept.
-fn clear(row: &mut [u64], n: usize)
-    requires { ⌜ length (now row) ≡ width n ⌝ }
-    ensures { λ _. ⌜ now (row .exit) ≡ noRow n ⌝ }
-{
-    let mut j = 0;
-    while j < row.len() {
-        row[j] = 0;
-        j += 1;
-    }
-}
-
 // A row once s is removed: the row of s itself where `own` holds. A row with no weight to s is only read at s.
 fn renew(
     row: &mut [u64],
@@ -87,7 +76,7 @@ fn renew(
     ensures { λ r. ⌜ (now (row .exit) ≡ renewed rounding n s d (now (pivot .entry)) own (now (row .entry))) × Tested rounding n (now (row .exit)) r ⌝ }
 {
     if own {
-        clear(row, n);
+        clear(row);
         return true;
     }
     if row[s] == 0 {

@@ -1,4 +1,4 @@
-// The lent work table as a whole.
+// The lent work table: where its rows begin, and how it is made zero.
 ghost use mathlib.Core.Path.{_≡_};
 ghost use mathlib.Core.List.{_++_};
 ghost use Prim.Native.Nat.{_+_, _*_, _≤_, _<_};
@@ -16,15 +16,22 @@ pub(crate) fn row_start(n: usize, i: usize) -> usize
     i * (n + Chain::BESIDE)
 }
 
+// Makes a part of the table zero.
+pub(crate) fn clear(part: &mut [u64])
+    ensures { λ _. ⌜ now (part .exit) ≡ replicate (length (now (part .entry))) 0 ⌝ }
+{
+    let mut j = 0;
+    while j < part.len() {
+        part[j] = 0;
+        j += 1;
+    }
+}
+
 // Makes the table of n rows zero. The numbers past it stay.
 pub(crate) fn clear_work(work: &mut [u64], n: usize)
     requires { ⌜ (n ≤ mostStates) × (workSize n ≤ length (now work)) ⌝ }
     ensures { λ _. ⌜ now (work .exit) ≡ replicate (workSize n) 0 ++ drop (workSize n) (now (work .entry)) ⌝ }
 {
     let m = n * (n + Chain::BESIDE);
-    let mut j = 0;
-    while j < m {
-        work[j] = 0;
-        j += 1;
-    }
+    clear(&mut work[..m]);
 }

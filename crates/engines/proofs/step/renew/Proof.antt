@@ -1,13 +1,14 @@
 use mathlib.Core.Path.{sym, _∙_}
 use borrow.Author.Needs.{needs}
-use Rattle.engines.proofs.Rows.{renewed-own, renewed-none, renewed-some, tested-fit, noRow-fit}
+use Rattle.engines.proofs.Rows.{renewed-own, renewed-none, renewed-some, tested-fit, noRow-fit, zeros-noRow}
 use Rattle.engines.proofs.step.renew.Statement.{statement}
 use Rattle.engines.proofs.step.renew.Tie as tie
 
 returns : tie.Need-returns
 returns c =
-    let a = c .before .before .before .before .before .before .args in
-    let e = c .before .before .clear .ensures in (
+    let s = c .before .before .before .before .before .before in
+    let a = s .args in
+    let e = c .before .before .clear .ensures ∙ zeros-noRow (a .n) (a .row .now) (s .pre .0) in (
       e ∙ sym (renewed-own (a .rounding) (a .n) (a .s) (a .d) (a .pivot .now) (a .row .now) (a .own) (c .before .before .before .before .if1 .taken)),
       rw e (tested-fit (noRow-fit (a .rounding) (a .n))),
     )

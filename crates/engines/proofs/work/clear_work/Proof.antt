@@ -1,45 +1,40 @@
-use Prim.Native.Nat.{_+_, _*_, _-_, _≤_}
-use mathlib.Core.Path.{refl}
-use native.Mathlib.Omega.{arith}
-use borrow.Author.Needs.{needs}
+use Prim.Native.Nat.{ℕ, _≤_}
+use mathlib.Core.Path.{_≡_, sym}
+use mathlib.Core.List.{List}
 use native.Mathlib.Nat.{mul-le-mul}
-use Rattle.engines.proofs.Loop.{Walked, walk-none, walk-more, walk-zeros}
+use native.Mathlib.Omega.{arith}
+use lib.ListN.{length, take}
+use lib.Seq.{length-take-le}
+use borrow.Author.Needs.{needs}
+use Rattle.meaning.specs.Refusal.{workSize}
 use Rattle.engines.proofs.work.clear_work.Statement.{statement}
 use Rattle.engines.proofs.work.clear_work.Tie as tie
 
-abbrev Inv-loop : tie.InvT-loop
-Inv-loop work₀ n m j₀ work j = (j ≤ m) × Walked (λ _. 0) work₀ j work
+mul-m : tie.Need-mul-m
+mul-m c = let h = c .before .pre in omega (arith, mul-le-mul (h .0) (h .0))
 
-abbrev μ-loop : tie.MeasureT-loop
-μ-loop work₀ n m j₀ work j = m - j
+-- The part that is lent is as long as the table.
+size : (n : ℕ) (w : List ℕ) → workSize n ≤ length w → length (take (workSize n) w) ≡ workSize n
+size n w = length-take-le (workSize n) w
 
-mul-m : tie.Need-mul-m Inv-loop μ-loop
-mul-m c = let h = c .pre in omega (arith, mul-le-mul (h .0) (h .0))
+slice-aggregate-clear : tie.Need-slice-aggregate-clear
+slice-aggregate-clear c =
+    let s = c .before .before in
+    sym (size (s .args .n) (s .args .work .now) (s .pre .1))
 
-loop-holds : tie.Need-loop-holds Inv-loop μ-loop
-loop-holds c = (search needs, walk-none)
-
-loop-again : tie.Need-loop-again Inv-loop μ-loop
-loop-again c = (search needs, walk-more (c .before .loop .inv .1) (omega arith) refl)
-
-returns : tie.Need-returns Inv-loop μ-loop
+returns : tie.Need-returns
 returns c =
-    let a = c .before .before .args in
-    walk-zeros (a .n * (a .n + 4)) _ (c .before .loop .inv .1) (omega arith) (omega arith)
+    let s = c .before .before .before .before .before in
+    rw (c .before .before .clear .ensures, size (s .args .n) (s .args .work .now) (s .pre .1))
 
 pub clear-work-spec : {M : Type 1} → statement M
 clear-work-spec =
     tie.close
     (tie.spec
-    Inv-loop
-    μ-loop
     (λ c. search needs)
     mul-m
-    loop-holds
     (λ c. search needs)
-    (λ c. search needs)
-    (λ c. search needs)
-    (λ c. search needs)
-    loop-again
+    slice-aggregate-clear
+    (λ c κs. search needs)
     (λ c. search needs)
     returns)
