@@ -1,12 +1,13 @@
 -- The first rows: what is gathered along the edges, what is made of it, and what is asked of the chain.
 use mathlib.Core.Path.{_≡_}
 use mathlib.Core.Bool.{Bool, true, false}
-use mathlib.Core.List.{List}
-use Prim.Native.Nat.{ℕ, _+_, _*_, _^_, _≤_, _<_}
+use mathlib.Core.List.{List, []}
+use Prim.Native.Nat.{ℕ, _+_, _^_, _≤_, _<_}
 use lib.Dec.{eqb}
 use lib.ListN.{length, getD, set}
 use Rattle.meaning.specs.Number.{only, choose, bit}
 use Rattle.meaning.specs.Chain.{mostStates, M, mostReward, Chain, denominator, edgeCount, from, to, weight, carried, rowSum}
+use Rattle.meaning.specs.Figure.{earned}
 use Rattle.meaning.specs.Row.{Row, cell, width, total, goalColumn, trapColumn, rewardColumn, settled, rounding}
 use Rattle.meaning.specs.Step.{Table, Sets, Right}
 use Rattle.meaning.specs.Refusal.{workSize}
@@ -65,9 +66,13 @@ pub record Gathered (b : Bool) (n : ℕ) (alive : Bool) (earns : ℕ) (r : Row) 
   pub fit : alive ≡ false → Fit b n r
   pub unpaid : b ≡ rounding → earns ≡ 0
 
+-- A chain with these denominators: of a chain nothing else counts for what a state earns.
+abbrev earning : List ℕ → Chain
+earning denominators = record { states = length denominators; start = 0; goals = 0; denominators = denominators; edges = [] }
+
 -- What one turn in state i earns, times its denominator.
 abbrev pub earnedAt : List ℕ → List ℕ → ℕ → ℕ
-earnedAt denominators rewards i = getD rewards i 0 * getD denominators i 0
+earnedAt denominators rewards i = earned (earning denominators) (λ s. getD rewards s 0) i
 
 -- Row i of the table in w, finished.
 abbrev pub finishedAt : Bool → ℕ → ℕ → List ℕ → List ℕ → List ℕ → ℕ → Row
