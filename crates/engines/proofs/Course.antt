@@ -6,12 +6,11 @@ use mathlib.Core.List.{List, _++_}
 use lib.ListN.{drop, replicate}
 use Rattle.meaning.specs.Step.{Table, row, Sets, goes, first, after}
 use Rattle.meaning.specs.Refusal.{Lent, workSize}
-use Rattle.meaning.specs.Stop.{rewardOf, tableAt, Stops}
+use Rattle.meaning.specs.Stop.{rewardOf, tableAt, Passed, Stops}
 use Rattle.meaning.specs.Outcome.{cleared}
 use Rattle.engines.specs.Table.{rowAt, tableOf, Kept}
 use Rattle.engines.specs.Turn.{Reached}
-use Rattle.engines.specs.Order.{Finished, walked}
-use Rattle.engines.specs.Stops.{stops}
+use Rattle.engines.specs.Order.{Clear, Finished, walked}
 use Rattle.engines.specs.Run.{endOf, runs}
 use Rattle.engines.specs.declared.run.Course.{Course}
 use Rattle.engines.specs.declared.walk.Walk.{Walk}
@@ -34,11 +33,18 @@ module _ (b : Bool) (l : Lent) (k : Sets) where
 
   -- The walk through the order, which begins with the first table, in v.
   module _ (v u : List ℕ) (same : tableOf n v ≡ firstTable) (r : Walk) (z : walked b n go (l .order) v u r) where
+    passed : (p : ℕ) → Clear b n go (l .order) (after b n go (l .order) (tableOf n v)) p → Passed b l k p
+    passed p c = record { fits = rw same at (c .fits); turns = rw same at (c .turns) }
+
     pub stops-unfit : (p : ℕ) → r ≡ NoFit p → Stops b l k 12 p
-    stops-unfit p e = stops b l k v u same (NoFit p) (subst (walked b n go (l .order) v u) e z)
+    stops-unfit p e =
+        let o = subst (walked b n go (l .order) v u) e z in
+        Stops.in-step p (o .inside) (passed p (o .clear)) (rw same at (o .free)) (rw same at (o .unfit))
 
     pub stops-stuck : (p : ℕ) → r ≡ NoWay p → Stops b l k 13 p
-    stops-stuck p e = stops b l k v u same (NoWay p) (subst (walked b n go (l .order) v u) e z)
+    stops-stuck p e =
+        let o = subst (walked b n go (l .order) v u) e z in
+        Stops.at-turn p (o .inside) (passed p (o .clear)) (rw same at (o .stuck))
 
     pub ends : r ≡ Done → Finished b n go (l .order) (after b n go (l .order) (tableOf n v)) v u
     ends e = subst (walked b n go (l .order) v u) e z
@@ -49,7 +55,7 @@ module _ (b : Bool) (l : Lent) (k : Sets) where
         let f = ends e in
         let at : rowAt n u (l .chain .start) ≡ row (tableAt b l k n) (l .chain .start) =
         reached-row (f .reached) (l .chain .start) h ∙ ap (λ (t : Table). row (after b n go (l .order) t n) (l .chain .start)) same in
-        subst (runs b l k) (sym (q ∙ ap (endOf n (l .chain .start)) at)) (record { passed = stops b l k v u same Done f; read = refl })
+        subst (runs b l k) (sym (q ∙ ap (endOf n (l .chain .start)) at)) (record { passed = passed n (f .clear); read = refl })
 
 -- Whatever ends the walk, the numbers past the table stay.
 pub walk-kept : (b : Bool) (n : ℕ) (go : ℕ → Bool) (o v u : List ℕ) (r : Walk) → walked b n go o v u r → Kept n v u

@@ -2,7 +2,6 @@ pub mod Row
 pub mod Table
 pub mod Turn
 pub mod Order
-pub mod Stops
 pub mod Grow
 pub mod Sets
 pub mod Told
