@@ -22,7 +22,7 @@ module _ (b : Bool) (l : Lent) (k : Sets) (right : Right (l .chain) k) (r : Begi
   lost-figured e q = subst (figured b l) (sym q) (lost (λ g. subst stands e h (right .good (l .chain .start) .1 g)) refl)
 
   pub live-figured : r ≡ begin.Live → (c : Course) → runs b l k c → figured b l c
-  live-figured e (Ends goal unknown rewards outer) z =
+  live-figured e (Ends goal unknown rewards outside) z =
       let s = subst stands e h in
       live k right (record { unwon = s .0; reached = FromStart.begin; leads = right .good (l .chain .start) .0 (s .1) }) z
   live-figured e (Stops number place) z =

@@ -20,12 +20,12 @@ begins start goals good begin.Lost = bit good start ≡ 1 → ⊥
 begins start goals good begin.Live = (bit goals start ≡ 1 → ⊥) × (bit good start ≡ 1)
 
 -- The start is a goal, has no path to one, or is live and its row stands at the end.
-pub data Read (b : Bool) (l : Lent) (goal unknown rewards outer : ℕ) : Type 0 where
-  won : Goal (l .chain) (l .chain .start) → Ends goal unknown rewards outer ≡ Ends 1 0 0 1 → Read b l goal unknown rewards outer
-  lost : (ToGoal (l .chain) (l .chain .start) → ⊥) → Ends goal unknown rewards outer ≡ Ends 0 0 0 1 → Read b l goal unknown rewards outer
-  live : (k : Sets) → Right (l .chain) k → Live (l .chain) (l .chain .start) → Ended b l k goal unknown rewards outer
-      → Read b l goal unknown rewards outer
+pub data Read (b : Bool) (l : Lent) (goal unknown rewards outside : ℕ) : Type 0 where
+  won : Goal (l .chain) (l .chain .start) → Ends goal unknown rewards outside ≡ Ends 1 0 0 1 → Read b l goal unknown rewards outside
+  lost : (ToGoal (l .chain) (l .chain .start) → ⊥) → Ends goal unknown rewards outside ≡ Ends 0 0 0 1 → Read b l goal unknown rewards outside
+  live : (k : Sets) → Right (l .chain) k → Live (l .chain) (l .chain .start) → Ended b l k goal unknown rewards outside
+      → Read b l goal unknown rewards outside
 
 abbrev pub figured : Bool → Lent → Course → Type 0
-figured b l (Ends goal unknown rewards outer) = Read b l goal unknown rewards outer
+figured b l (Ends goal unknown rewards outside) = Read b l goal unknown rewards outside
 figured b l (Stops number place) = Stopped b l number place

@@ -23,11 +23,11 @@ pub record Begun (b : Bool) (l : Lent) (k : Sets) : Type 0 where
   pub start : l .chain .start < l .chain .states
 
 -- It runs through, and these are read off the start's row at the end.
-pub record Ended (b : Bool) (l : Lent) (k : Sets) (goal unknown rewards outer : ℕ) : Type 0 where
+pub record Ended (b : Bool) (l : Lent) (k : Sets) (goal unknown rewards outside : ℕ) : Type 0 where
   pub passed : Passed b l k (l .chain .states)
-  pub read : Ends goal unknown rewards outer ≡ endOf (l .chain .states) (l .chain .start) (row (tableAt b l k (l .chain .states)) (l .chain .start))
+  pub read : Ends goal unknown rewards outside ≡ endOf (l .chain .states) (l .chain .start) (row (tableAt b l k (l .chain .states)) (l .chain .start))
 
 -- It runs through, or stops.
 abbrev pub runs : Bool → Lent → Sets → Course → Type 0
-runs b l k (Ends goal unknown rewards outer) = Ended b l k goal unknown rewards outer
+runs b l k (Ends goal unknown rewards outside) = Ended b l k goal unknown rewards outside
 runs b l k (Stopping number place) = Stops b l k number place

@@ -37,7 +37,7 @@ fn standing(start: usize, goals: u64, good: u64) -> Begin
 }
 
 // The figures of a start for which no row is made: the work table is made zero all the same.
-fn settled(work: &mut [u64], n: usize, goal: u64) -> Course
+fn no_rows(work: &mut [u64], n: usize, goal: u64) -> Course
     requires { ⌜ (n ≤ mostStates) × (workSize n ≤ length (now work)) ⌝ }
     ensures { λ r. ⌜ (r ≡ Course.Ends goal 0 0 1) × (now (work .exit) ≡ replicate (workSize n) 0 ++ drop (workSize n) (now (work .entry))) ⌝ }
 {
@@ -66,8 +66,8 @@ pub(crate) fn figures(
     ensures { λ r. ⌜ (now (work .exit) ≡ cleared (lent c (now (denominators .entry)) (now (edges .entry)) (now (order .entry)) (now (rewards .entry)) (now (work .entry)))) × figured rounding (lent c (now (denominators .entry)) (now (edges .entry)) (now (order .entry)) (now (rewards .entry)) (now (work .entry))) r ⌝ }
 {
     match standing(c.start, c.goals, good) {
-        Begin::Won => settled(work, c.states, 1),
-        Begin::Lost => settled(work, c.states, 0),
+        Begin::Won => no_rows(work, c.states, 1),
+        Begin::Lost => no_rows(work, c.states, 0),
         Begin::Live => run(
             c,
             good,

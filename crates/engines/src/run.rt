@@ -12,7 +12,7 @@ ghost use Rattle.engines.specs.Run.{endOf, Begun, runs};
 use crate::first::first_rows;
 use crate::row::REWARD;
 use crate::row::UNKNOWN;
-use crate::step::beside;
+use crate::step::outside;
 use crate::walk::Walk;
 use crate::walk::eliminate;
 use crate::work::clear_work;
@@ -42,7 +42,7 @@ fn last(row: &[u64], n: usize, start: usize, rounding: bool) -> Course
         goal: row[n],
         unknown: row[n + UNKNOWN],
         reward: row[n + REWARD],
-        outside: beside(row, n, start, rounding),
+        outside: outside(row, n, start, rounding),
     }
 }
 

@@ -118,7 +118,7 @@ fn load(row: &[u64]) -> [u64; Chain::WIDTH]
 }
 
 // D of state s, whose row this is.
-pub(crate) fn beside(row: &[u64], n: usize, s: usize, rounding: bool) -> u64
+pub(crate) fn outside(row: &[u64], n: usize, s: usize, rounding: bool) -> u64
     requires { ⌜ (length (now row) ≡ width n) × (s < n) × Fit rounding n (now row) ⌝ }
     ensures { λ r. ⌜ (r ≡ outside n s (now (row .entry))) × (r ≤ M) ⌝ }
 {
@@ -154,7 +154,7 @@ pub(crate) fn remove(work: &mut [u64], n: usize, s: usize, rounding: bool) -> Tu
 {
     let a = row_start(n, s);
     let e = a + n + Chain::BESIDE;
-    let d = beside(&work[a..e], n, s, rounding);
+    let d = outside(&work[a..e], n, s, rounding);
     if d == 0 {
         return Turn::NoWay;
     }

@@ -18,14 +18,14 @@ returns : tie.Need-returns
 returns c =
     let at = c .before .before .before .before .before .before in
     let s = at .before .before .before .before .before .before in
-    let z = c .before .before .settled .ensures in
+    let z = c .before .before .no-rows .ensures in
     (z .1, won-figured (s .args .rounding) (l s) (k s) (s .pre .asked .right) (at .standing .result) (at .standing .ensures) (c .before .before .before .before .enum-told .given .1) (z .0))
 
 returns-2 : tie.Need-returns-2
 returns-2 c =
     let at = c .before .before .before .before .before .before in
     let s = at .before .before .before .before .before .before in
-    let z = c .before .before .settled2 .ensures in
+    let z = c .before .before .no-rows2 .ensures in
     (z .1, lost-figured (s .args .rounding) (l s) (k s) (s .pre .asked .right) (at .standing .result) (at .standing .ensures) (c .before .before .before .before .enum-told2 .given .1) (z .0))
 
 returns-3 : tie.Need-returns-3

@@ -8,8 +8,8 @@ use Rattle.engines.proofs.Turns.{turned-done, turned-unfit, turned-stuc
 use Rattle.engines.proofs.step.remove.Statement.{statement}
 use Rattle.engines.proofs.step.remove.Tie as tie
 
-beside-requires : tie.Need-beside-requires
-beside-requires c κs =
+outside-requires : tie.Need-outside-requires
+outside-requires c κs =
     let b = c .before .before in
     let t = b .before .before in
     let a = t .args in
@@ -26,7 +26,7 @@ returns c =
     let h = t .pre in
     let w = a .work .now in
     let e = lent (a .n) (a .s) _ (b .row-start .ensures .0) w in
-    turned-stuck (outside-is (a .n) (a .s) w (h .1) (rw e at (c .before .beside .ensures .0)) ∙ c .if1 .taken) (kept-same (a .n) w)
+    turned-stuck (outside-is (a .n) (a .s) w (h .1) (rw e at (c .before .outside .ensures .0)) ∙ c .if1 .taken) (kept-same (a .n) w)
 
 load-requires : tie.Need-load-requires
 load-requires c κs =
@@ -48,7 +48,7 @@ renew-all-requires c κs =
     let e = lent (a .n) (a .s) _ (b .row-start .ensures .0) w in (
       h .0,
       h .1,
-      c .before .before .before .before .before .before .beside .ensures .1,
+      c .before .before .before .before .before .before .outside .ensures .1,
       fit-same (a .n) _ (rowAt (a .n) w (a .s)) (λ j. rw e at (c .before .before .load .ensures j)) (h .0 .fit (a .s) (h .1)),
     )
 
@@ -60,7 +60,7 @@ returns-2 c =
     let h = t .pre in
     let w = a .work .now in
     let e = lent (a .n) (a .s) _ (b .row-start .ensures .0) w in
-    let d = rw e at (c .before .before .before .before .before .before .before .before .before .before .beside .ensures .0) in
+    let d = rw e at (c .before .before .before .before .before .before .before .before .before .before .outside .ensures .0) in
     turned-done
     (λ z. c .before .before .before .before .before .before .before .before .before .if1 .left (sym (outside-is (a .n) (a .s) w (h .1) d) ∙ z))
     (removed-all (a .rounding) (a .n) (a .s) w (h .1) _ d _ (λ j. rw e at (c .before .before .before .before .before .before .load .ensures j)) (c .before .before .before .renew-all .ensures) (c .if2 .taken))
@@ -73,7 +73,7 @@ returns-3 c =
     let h = t .pre in
     let w = a .work .now in
     let e = lent (a .n) (a .s) _ (b .row-start .ensures .0) w in
-    let d = rw e at (c .before .before .before .before .before .before .before .before .before .before .beside .ensures .0) in
+    let d = rw e at (c .before .before .before .before .before .before .before .before .before .before .outside .ensures .0) in
     let g = c .before .before .before .renew-all .ensures in
     turned-unfit
     (λ z. c .before .before .before .before .before .before .before .before .before .if1 .left (sym (outside-is (a .n) (a .s) w (h .1) d) ∙ z))
@@ -91,7 +91,7 @@ remove-spec =
     (λ c. search needs)
     (λ c. search needs)
     (λ c. search needs)
-    beside-requires
+    outside-requires
     (λ c. search needs)
     returns
     (λ c. search needs)
