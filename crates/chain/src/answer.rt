@@ -1,4 +1,4 @@
-// What the entries answer; the numbers of each case are given by the definitions told.
+// What the entries answer; toldChance, toldReward and toldBounds give document 01's numbers for each case.
 use crate::fraction::Fraction;
 
 pub enum Chance {

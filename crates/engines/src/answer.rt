@@ -1,4 +1,4 @@
-// What the entries of this crate answer; the numbers of each case are given by the definition told.
+// What the survey answers; toldSurvey gives document 01's numbers for each case.
 pub enum Survey {
     Counts { goals: u32, live: u32 },
     Refused { number: u32, place: usize },
