@@ -16,10 +16,6 @@ use Rattle.engines.specs.Row.{Fit}
 use Rattle.engines.specs.Table.{rowAt, Kept}
 use Rattle.engines.specs.Turn.{Unfit, Reached}
 
--- Both sets.
-abbrev pub setsOf : ℕ → ℕ → Sets
-setsOf good live = record { good = good; live = live }
-
 -- The column of a target in the row of a live state: its own where it is live, else Goal where it has a path to a goal, since then it is one,
 -- else Trap.
 unfoldable pub columnOf : ℕ → Sets → ℕ → ℕ

@@ -6,11 +6,11 @@ use mathlib.Core.List.{List, []}
 use Rattle.meaning.specs.Number.{bit}
 use Rattle.meaning.specs.Chain.{Chain}
 use Rattle.meaning.specs.Figure.{Missed}
-use Rattle.meaning.specs.Step.{Right}
+use Rattle.meaning.specs.Step.{Sets, Right}
 use Rattle.chain.specs.declared.Chain.{Chain as Given}
 use Rattle.chain.specs.Least.{decides}
 use Rattle.chain.specs.Says.{lent}
-use Rattle.engines.specs.declared.sets.Sets.{Sets}
+use Rattle.engines.specs.declared.sets.Sets.{Sets as Found}
 
 -- The chain of an input with these denominators and edges.
 abbrev pub chainOf : Given → List ℕ → List ℕ → Chain
@@ -30,7 +30,11 @@ pub record Alive (good reached goals i : ℕ) : Type 0 where
 abbrev pub Astray : ℕ → ℕ → Type 0
 Astray good reached = (i : ℕ) × (bit reached i ≡ 1) × (bit good i ≡ 1 → ⊥)
 
+-- The two sets that the elimination goes by.
+abbrev pub setsOf : Found → Sets
+setsOf s = record { good = s .good; live = s .live }
+
 -- The sets are the chain's own, and it is known whether its expected reward is infinite.
-pub record Known (c : Chain) (s : Sets) : Type 0 where
-  pub right : Right c (record { good = s .good; live = s .live })
+pub record Known (c : Chain) (s : Found) : Type 0 where
+  pub right : Right c (setsOf s)
   pub missed : decides (Missed c) (s .missed)

@@ -32,17 +32,7 @@ pub fn chance(
     }
     let sets = sets::of(c, edges);
     let none = [0u64; 0];
-    match figures(
-        c,
-        sets.good,
-        sets.live,
-        denominators,
-        edges,
-        order,
-        &none,
-        work,
-        false,
-    ) {
+    match figures(c, sets, denominators, edges, order, &none, work, false) {
         Course::Ends {
             goal,
             unknown: _,
@@ -79,17 +69,7 @@ pub fn reward(
         clear_work(work, c.states);
         return Reward::Infinite;
     }
-    match figures(
-        c,
-        sets.good,
-        sets.live,
-        denominators,
-        edges,
-        order,
-        rewards,
-        work,
-        false,
-    ) {
+    match figures(c, sets, denominators, edges, order, rewards, work, false) {
         Course::Ends {
             goal: _,
             unknown: _,
@@ -115,17 +95,7 @@ pub fn bounds(
     }
     let sets = sets::of(c, edges);
     let none = [0u64; 0];
-    match figures(
-        c,
-        sets.good,
-        sets.live,
-        denominators,
-        edges,
-        order,
-        &none,
-        work,
-        true,
-    ) {
+    match figures(c, sets, denominators, edges, order, &none, work, true) {
         Course::Ends {
             goal,
             unknown,

@@ -7,11 +7,12 @@ ghost use Rattle.meaning.specs.Chain.{mostStates};
 ghost use Rattle.meaning.specs.Refusal.{workSize};
 ghost use Rattle.meaning.specs.Outcome.{cleared};
 ghost use Rattle.chain.specs.Says.{lent};
-ghost use Rattle.engines.specs.First.{setsOf};
+ghost use Rattle.engines.specs.Sets.{setsOf};
 ghost use Rattle.engines.specs.Run.{Begun};
 ghost use Rattle.engines.specs.Figured.{begins, figured};
 use crate::run::Course;
 use crate::run::run;
+use crate::sets::Sets;
 use crate::sets::holds;
 use crate::work::clear_work;
 use chain::Chain;
@@ -53,8 +54,7 @@ fn no_rows(work: &mut [u64], n: usize, goal: u64) -> Course
 // What the figures of a well-formed input are read off, for an engine.
 pub(crate) fn figures(
     c: Chain,
-    good: u64,
-    live: u64,
+    sets: Sets,
     denominators: &[u64],
     edges: &[u64],
     order: &[u64],
@@ -62,22 +62,12 @@ pub(crate) fn figures(
     work: &mut [u64],
     rounding: bool,
 ) -> Course
-    requires { ⌜ Begun rounding (lent c (now denominators) (now edges) (now order) (now rewards) (now work)) (setsOf good live) ⌝ }
+    requires { ⌜ Begun rounding (lent c (now denominators) (now edges) (now order) (now rewards) (now work)) (setsOf sets) ⌝ }
     ensures { λ r. ⌜ (now (work .exit) ≡ cleared (lent c (now (denominators .entry)) (now (edges .entry)) (now (order .entry)) (now (rewards .entry)) (now (work .entry)))) × figured rounding (lent c (now (denominators .entry)) (now (edges .entry)) (now (order .entry)) (now (rewards .entry)) (now (work .entry))) r ⌝ }
 {
-    match standing(c.start, c.goals, good) {
+    match standing(c.start, c.goals, sets.good) {
         Begin::Won => no_rows(work, c.states, 1),
         Begin::Lost => no_rows(work, c.states, 0),
-        Begin::Live => run(
-            c,
-            good,
-            live,
-            denominators,
-            edges,
-            order,
-            rewards,
-            work,
-            rounding,
-        ),
+        Begin::Live => run(c, sets, denominators, edges, order, rewards, work, rounding),
     }
 }

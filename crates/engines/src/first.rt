@@ -10,11 +10,12 @@ ghost use Rattle.meaning.specs.Refusal.{workSize};
 ghost use Rattle.meaning.specs.Step.{first};
 ghost use Rattle.engines.specs.Row.{Tested};
 ghost use Rattle.engines.specs.Table.{rowAt, Put, Renewed};
-ghost use Rattle.engines.specs.Sets.{chainOf};
-ghost use Rattle.engines.specs.First.{setsOf, columnOf, share, Added, Held, Addable, Gatherable, finished, Gathered, finishedAt, Finishable, Asked, Made};
+ghost use Rattle.engines.specs.Sets.{chainOf, setsOf};
+ghost use Rattle.engines.specs.First.{columnOf, share, Added, Held, Addable, Gatherable, finished, Gathered, finishedAt, Finishable, Asked, Made};
 use crate::row::REWARD;
 use crate::row::TRAP;
 use crate::row::settle;
+use crate::sets::Sets;
 use crate::sets::holds;
 use crate::work::clear_work;
 use crate::work::row_start;
@@ -22,14 +23,14 @@ use chain::Chain;
 use chain::edge;
 
 // The column of a target in the row of a live state. A target that is not live and has a path to a goal is a goal.
-fn column(t: usize, n: usize, good: u64, live: u64) -> usize
+fn column(t: usize, n: usize, sets: Sets) -> usize
     requires { ⌜ (t < n) × (n ≤ mostStates) ⌝ }
-    ensures { λ r. ⌜ (r ≡ columnOf n (setsOf good live) t) × (r < width n) ⌝ }
+    ensures { λ r. ⌜ (r ≡ columnOf n (setsOf sets) t) × (r < width n) ⌝ }
 {
-    if holds(live, t) {
+    if holds(sets.live, t) {
         return t;
     }
-    if holds(good, t) {
+    if holds(sets.good, t) {
         return n;
     }
     n + TRAP
@@ -45,28 +46,28 @@ fn add(work: &mut [u64], n: usize, i: usize, j: usize, x: u64)
 }
 
 // Adds the weight of edge e to the row of its source, where that is live.
-fn carry(work: &mut [u64], n: usize, good: u64, live: u64, edges: &[u64], e: usize)
+fn carry(work: &mut [u64], n: usize, sets: Sets, edges: &[u64], e: usize)
     requires { ⌜ Addable n (now edges) e (now work) ⌝ }
-    ensures { λ _. ⌜ Added n (λ i j. share n (setsOf good live) (now (edges .entry)) i j e) (now (work .entry)) (now (work .exit)) ⌝ }
+    ensures { λ _. ⌜ Added n (λ i j. share n (setsOf sets) (now (edges .entry)) i j e) (now (work .entry)) (now (work .exit)) ⌝ }
 {
     let i = edge::from(edges, e) as usize;
-    if !holds(live, i) {
+    if !holds(sets.live, i) {
         return;
     }
-    let j = column(edge::to(edges, e) as usize, n, good, live);
+    let j = column(edge::to(edges, e) as usize, n, sets);
     add(work, n, i, j, edge::weight(edges, e));
 }
 
 // Gathers the weights of all edges, in one pass.
-fn gather(work: &mut [u64], n: usize, good: u64, live: u64, edges: &[u64])
+fn gather(work: &mut [u64], n: usize, sets: Sets, edges: &[u64])
     requires { ⌜ Gatherable n (now edges) (now work) ⌝ }
-    ensures { λ _. ⌜ Held n (λ i j. sumTo (share n (setsOf good live) (now (edges .entry)) i j) (edgeCount (now (edges .entry)))) (now (work .entry)) (now (work .exit)) ⌝ }
+    ensures { λ _. ⌜ Held n (λ i j. sumTo (share n (setsOf sets) (now (edges .entry)) i j) (edgeCount (now (edges .entry)))) (now (work .entry)) (now (work .exit)) ⌝ }
 {
     clear_work(work, n);
     let count = edge::count(edges);
     let mut e = 0;
     while e < count {
-        carry(work, n, good, live, edges, e);
+        carry(work, n, sets, edges, e);
         e += 1;
     }
 }
@@ -126,21 +127,20 @@ fn finish_all(
     true
 }
 
-// Makes the first rows of the chain c, whose states with a path to a goal and live states are given. Answers whether all fit.
+// Makes the first rows of the chain c, whose sets are given. Answers whether all fit.
 pub(crate) fn first_rows(
     work: &mut [u64],
     c: Chain,
-    good: u64,
-    live: u64,
+    sets: Sets,
     denominators: &[u64],
     edges: &[u64],
     rewards: &[u64],
     rounding: bool,
 ) -> bool
-    requires { ⌜ Asked rounding (chainOf c (now denominators) (now edges)) (setsOf good live) (now rewards) (now work) ⌝ }
-    ensures { λ r. ⌜ Made rounding (c .states) (first rounding (chainOf c (now (denominators .entry)) (now (edges .entry))) (setsOf good live) (λ i. getD (now (rewards .entry)) i 0) (λ _. 0)) (now (work .entry)) (now (work .exit)) r ⌝ }
+    requires { ⌜ Asked rounding (chainOf c (now denominators) (now edges)) (setsOf sets) (now rewards) (now work) ⌝ }
+    ensures { λ r. ⌜ Made rounding (c .states) (first rounding (chainOf c (now (denominators .entry)) (now (edges .entry))) (setsOf sets) (λ i. getD (now (rewards .entry)) i 0) (λ _. 0)) (now (work .entry)) (now (work .exit)) r ⌝ }
 {
     let n = c.states;
-    gather(work, n, good, live, edges);
-    finish_all(work, n, live, denominators, rewards, rounding)
+    gather(work, n, sets, edges);
+    finish_all(work, n, sets.live, denominators, rewards, rounding)
 }

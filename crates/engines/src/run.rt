@@ -7,11 +7,12 @@ ghost use Rattle.meaning.specs.Outcome.{cleared};
 ghost use Rattle.chain.specs.Says.{lent};
 ghost use Rattle.engines.specs.Row.{Fit};
 ghost use Rattle.engines.specs.Table.{rowAt, Kept, Ready};
-ghost use Rattle.engines.specs.First.{setsOf};
+ghost use Rattle.engines.specs.Sets.{setsOf};
 ghost use Rattle.engines.specs.Run.{endOf, Begun, runs};
 use crate::first::first_rows;
 use crate::row::REWARD;
 use crate::row::UNKNOWN;
+use crate::sets::Sets;
 use crate::step::outside;
 use crate::walk::Walk;
 use crate::walk::eliminate;
@@ -59,8 +60,7 @@ fn last_of(work: &[u64], n: usize, start: usize, rounding: bool) -> Course
 // The elimination in the work table, whose rows it leaves as they come.
 fn follow(
     c: Chain,
-    good: u64,
-    live: u64,
+    sets: Sets,
     denominators: &[u64],
     edges: &[u64],
     order: &[u64],
@@ -68,10 +68,10 @@ fn follow(
     work: &mut [u64],
     rounding: bool,
 ) -> Course
-    requires { ⌜ Begun rounding (lent c (now denominators) (now edges) (now order) (now rewards) (now work)) (setsOf good live) ⌝ }
-    ensures { λ r. ⌜ Kept (c .states) (now (work .entry)) (now (work .exit)) × runs rounding (lent c (now (denominators .entry)) (now (edges .entry)) (now (order .entry)) (now (rewards .entry)) (now (work .entry))) (setsOf good live) r ⌝ }
+    requires { ⌜ Begun rounding (lent c (now denominators) (now edges) (now order) (now rewards) (now work)) (setsOf sets) ⌝ }
+    ensures { λ r. ⌜ Kept (c .states) (now (work .entry)) (now (work .exit)) × runs rounding (lent c (now (denominators .entry)) (now (edges .entry)) (now (order .entry)) (now (rewards .entry)) (now (work .entry))) (setsOf sets) r ⌝ }
 {
-    if !first_rows(work, c, good, live, denominators, edges, rewards, rounding) {
+    if !first_rows(work, c, sets, denominators, edges, rewards, rounding) {
         return Course::Stops {
             number: 12,
             place: Chain::STATES,
@@ -79,7 +79,7 @@ fn follow(
     }
     let n = c.states;
     let start = c.start;
-    match eliminate(work, n, order, start, live, rounding) {
+    match eliminate(work, n, order, start, sets.live, rounding) {
         Walk::NoFit(p) => {
             return Course::Stops {
                 number: 12,
@@ -100,8 +100,7 @@ fn follow(
 // The elimination, after which the work table is zero.
 pub(crate) fn run(
     c: Chain,
-    good: u64,
-    live: u64,
+    sets: Sets,
     denominators: &[u64],
     edges: &[u64],
     order: &[u64],
@@ -109,20 +108,10 @@ pub(crate) fn run(
     work: &mut [u64],
     rounding: bool,
 ) -> Course
-    requires { ⌜ Begun rounding (lent c (now denominators) (now edges) (now order) (now rewards) (now work)) (setsOf good live) ⌝ }
-    ensures { λ r. ⌜ (now (work .exit) ≡ cleared (lent c (now (denominators .entry)) (now (edges .entry)) (now (order .entry)) (now (rewards .entry)) (now (work .entry)))) × runs rounding (lent c (now (denominators .entry)) (now (edges .entry)) (now (order .entry)) (now (rewards .entry)) (now (work .entry))) (setsOf good live) r ⌝ }
+    requires { ⌜ Begun rounding (lent c (now denominators) (now edges) (now order) (now rewards) (now work)) (setsOf sets) ⌝ }
+    ensures { λ r. ⌜ (now (work .exit) ≡ cleared (lent c (now (denominators .entry)) (now (edges .entry)) (now (order .entry)) (now (rewards .entry)) (now (work .entry)))) × runs rounding (lent c (now (denominators .entry)) (now (edges .entry)) (now (order .entry)) (now (rewards .entry)) (now (work .entry))) (setsOf sets) r ⌝ }
 {
-    let r = follow(
-        c,
-        good,
-        live,
-        denominators,
-        edges,
-        order,
-        rewards,
-        work,
-        rounding,
-    );
+    let r = follow(c, sets, denominators, edges, order, rewards, work, rounding);
     clear_work(work, c.states);
     r
 }

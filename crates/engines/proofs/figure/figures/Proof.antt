@@ -2,7 +2,7 @@ use borrow.Author.Needs.{needs}
 use Rattle.meaning.specs.Step.{Sets}
 use Rattle.meaning.specs.Refusal.{Lent}
 use Rattle.chain.specs.Says.{lent}
-use Rattle.engines.specs.First.{setsOf}
+use Rattle.engines.specs.Sets.{setsOf}
 use Rattle.engines.proofs.Figures.{won-figured, lost-figured, live-figured}
 use Rattle.engines.proofs.figure.figures.Statement.{statement}
 use Rattle.engines.proofs.figure.figures.Tie as tie
@@ -12,7 +12,7 @@ abbrev l : tie.Start → Lent
 l c = let a = c .args in lent (a .c) (a .denominators .now) (a .edges .now) (a .order .now) (a .rewards .now) (a .work .now)
 
 abbrev k : tie.Start → Sets
-k c = setsOf (c .args .good) (c .args .live)
+k c = setsOf (c .args .sets)
 
 returns : tie.Need-returns
 returns c =

@@ -2,7 +2,7 @@ use mathlib.Core.Path.{sym, _∙_}
 use native.Mathlib.Omega.{arith}
 use borrow.Author.Needs.{needs}
 use borrow.Author.Tests.{eqb-true, eqb-false, not-true, not-false}
-use Rattle.engines.specs.First.{setsOf}
+use Rattle.engines.specs.Sets.{setsOf}
 use Rattle.engines.proofs.Cells.{added-none, added-some}
 use Rattle.engines.proofs.first.carry.Statement.{statement}
 use Rattle.engines.proofs.first.carry.Tie as tie
@@ -17,7 +17,7 @@ returns c =
     let a = c .before .before .before .before .before .args in
     let f = c .before .before .from .ensures in
     let d = eqb-false _ _ (sym (c .before .holds .ensures) ∙ not-true _ (c .if1 .taken)) in
-    added-none (a .n) (setsOf (a .good) (a .live)) (a .edges .now) (a .e) (a .work .now) (λ l. d (rw (← f) at l))
+    added-none (a .n) (setsOf (a .sets)) (a .edges .now) (a .e) (a .work .now) (λ l. d (rw (← f) at l))
 
 column-requires : tie.Need-column-requires
 column-requires c κs =
@@ -41,7 +41,7 @@ returns-2 c =
     let t = c .before .before .before .before .before .before .to .ensures in
     let j = c .before .before .before .before .before .column .ensures in
     let l = c .before .before .before .weight .ensures in
-    added-some (a .n) (setsOf (a .good) (a .live)) (a .edges .now) (a .e) (a .work .now) _ (h .room) _ _ _ (rw f (h .source)) (j .1)
+    added-some (a .n) (setsOf (a .sets)) (a .edges .now) (a .e) (a .work .now) _ (h .room) _ _ _ (rw f (h .source)) (j .1)
     (eqb-true _ _ (sym (o .before .holds .ensures) ∙ not-false _ (o .if1 .left))) f (rw t at (j .0)) l
     (c .before .before .add .ensures)
 

@@ -2,17 +2,17 @@ use Prim.Native.Nat.{_-_}
 use mathlib.Core.Path.{_∙_}
 use native.Mathlib.Omega.{arith}
 use borrow.Author.Needs.{needs}
-use Rattle.engines.specs.First.{setsOf}
+use Rattle.engines.specs.Sets.{setsOf}
 use Rattle.engines.proofs.Tables.{kept-more}
 use Rattle.engines.proofs.Cells.{zeros-kept, zeros-at, Gathering, gathering-none, gathering-more, gathering-all, gathering-addable}
 use Rattle.engines.proofs.first.gather.Statement.{statement}
 use Rattle.engines.proofs.first.gather.Tie as tie
 
 abbrev Inv-loop : tie.InvT-loop
-Inv-loop work₀ n good live edges count e₀ work e = Gathering n (setsOf good live) edges work₀ e work
+Inv-loop work₀ n sets edges count e₀ work e = Gathering n (setsOf sets) edges work₀ e work
 
 abbrev μ-loop : tie.MeasureT-loop
-μ-loop work₀ n good live edges count e₀ work e = count - e
+μ-loop work₀ n sets edges count e₀ work e = count - e
 
 loop-holds : tie.Need-loop-holds Inv-loop μ-loop
 loop-holds c =

@@ -6,7 +6,7 @@ use Rattle.meaning.specs.Step.{Sets, goes, first, after}
 use Rattle.meaning.specs.Stop.{rewardOf}
 use Rattle.meaning.specs.Refusal.{Lent}
 use Rattle.chain.specs.Says.{lent as lentTo}
-use Rattle.engines.specs.First.{setsOf}
+use Rattle.engines.specs.Sets.{setsOf}
 use Rattle.engines.specs.Run.{Begun}
 use Rattle.engines.specs.Table.{tableOf, Kept}
 use Rattle.engines.specs.Order.{Finished}
@@ -24,7 +24,7 @@ abbrev l : tie.Start → Lent
 l c = let a = c .args in lentTo (a .c) (a .denominators .now) (a .edges .now) (a .order .now) (a .rewards .now) (a .work .now)
 
 abbrev k : tie.Start → Sets
-k c = setsOf (c .args .good) (c .args .live)
+k c = setsOf (c .args .sets)
 
 begun : (c : tie.Start) → Begun (c .args .rounding) (l c) (k c)
 begun c = c .pre
@@ -63,14 +63,14 @@ kept : (c : tie.After-eliminate) → Kept (start-of c .args .c .states) (start-o
 kept c =
     let a = start-of c .args in
     kept-more (begins c .kept)
-    (walk-kept (a .rounding) (a .c .states) (goes (a .c .start) (a .live)) (a .order .now) _ _ (c .eliminate .result) (c .eliminate .ensures))
+    (walk-kept (a .rounding) (a .c .states) (goes (a .c .start) (a .sets .live)) (a .order .now) _ _ (c .eliminate .result) (c .eliminate .ensures))
 
 done : (c : tie.After-eliminate) → c .eliminate .result ≡ Done
     → let a = start-of c .args in
     let o = a .order .now in
     let v = c .before .before .before .before .before .first-rows .last .0 in
-    Finished (a .rounding) (a .c .states) (goes (a .c .start) (a .live)) o
-    (after (a .rounding) (a .c .states) (goes (a .c .start) (a .live)) o (tableOf (a .c .states) v)) v (c .eliminate .last .0)
+    Finished (a .rounding) (a .c .states) (goes (a .c .start) (a .sets .live)) o
+    (after (a .rounding) (a .c .states) (goes (a .c .start) (a .sets .live)) o (tableOf (a .c .states) v)) v (c .eliminate .last .0)
 done c e =
     let s = start-of c in
     ends (s .args .rounding) (l s) (k s) _ _ (begins c .same) (c .eliminate .result) (c .eliminate .ensures) e
