@@ -1,10 +1,10 @@
 -- The call from C: file bytes, a mode and an answer of four 4-byte little-endian numbers.
-use Prim.Native.Nat.{ℕ, _/_, _%_, _^_, _≤_, _<_}
+use Prim.Native.Nat.{ℕ, _+_, _*_, _/_, _%_, _^_, _≤_, _<_}
 use mathlib.Core.Path.{_≡_}
 use mathlib.Core.List.{List, _++_}
-use lib.ListN.{length, drop}
-use Rattle.meaning.specs.Number.{tabFrom}
-use Rattle.meaning.specs.Outcome.{Answer, ChanceOutcome, Bounds, BoundsOutcome}
+use lib.ListN.{length, getD, drop}
+use Rattle.meaning.specs.Number.{sumTo, tabFrom}
+use Rattle.meaning.specs.Outcome.{Answer, ChanceOutcome, Bounds, between, BoundsOutcome}
 use Rattle.meaning.specs.Block.{Input}
 use Rattle.meaning.specs.File.{FileRefused, Accepted}
 use Rattle.meaning.specs.Report.{plainIn}
@@ -27,6 +27,14 @@ fourBytes x = tabFrom 0 4 (λ i. x / 256 ^ i % 256)
 -- Lower, then upper; numerator first.
 abbrev pub answerBytes : ℕ → ℕ → ℕ → ℕ → List ℕ
 answerBytes p q s t = fourBytes p ++ fourBytes q ++ fourBytes s ++ fourBytes t
+
+-- Number i of an answer, counted from 0, as it is read back: 4 bytes, little-endian.
+abbrev pub answerNumber : List ℕ → ℕ → ℕ
+answerNumber answer i = sumTo (λ j. getD answer (4 * i + j) 0 * 256 ^ j) 4
+
+-- The two fractions of an answer, as they are read back.
+abbrev pub answerRead : List ℕ → Bounds
+answerRead answer = between (answerNumber answer 0) (answerNumber answer 1) (answerNumber answer 2) (answerNumber answer 3)
 
 -- The answer bytes where it answers: bytes beyond 16 stay.
 abbrev pub written : List ℕ → List ℕ → List ℕ

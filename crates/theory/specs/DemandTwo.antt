@@ -68,6 +68,9 @@ number-is e = ap (λ (z : Answer). z .number) e
 nought-and-twelve : (number : ℕ) → number ≡ 0 → number ≡ 12 → ⊥
 nought-and-twelve number e f = omega arith
 
+pub chance-of : {l : Lent} {a : Answer} → ChanceFigure l a → Chance (l .chain) (a .numerator) (a .denominator)
+chance-of {l} (ChanceFigure.chance p q h e) = subst (λ (z : Answer). Chance (l .chain) (z .numerator) (z .denominator)) (sym e) h
+
 -- The entry for the chance.
 module _ (l : Lent) (formed : WellFormed plain l) (a : Answer) (w : List ℕ) where
   -- It answers, or refuses with 12.
@@ -81,7 +84,7 @@ module _ (l : Lent) (formed : WellFormed plain l) (a : Answer) (w : List ℕ) wh
   chance-is (refused n p r e s) z = absurd (formed .none n p (r .applies))
   chance-is (stopped n p f t e s) z =
       absurd (nought-and-twelve (a .number) z (number-is e ∙ stopped-twelve plain l formed refl t))
-  chance-is (answered f t (ChanceFigure.chance p q h e) s) z = subst (λ (z : Answer). Chance (l .chain) (z .numerator) (z .denominator)) (sym e) h
+  chance-is (answered f t g s) z = chance-of g
 
   -- It refuses exactly when a kept row in lowest terms does not fit.
   pub chance-refuses : ChanceOutcome l a w → (a .number ≡ 12) ↔ Large l

@@ -51,3 +51,4 @@ pub mod FileOne
 pub mod Entails
 pub mod ReportOne
 pub mod CallOne
+pub mod CallRead
