@@ -1,5 +1,5 @@
--- Every row of every table has n + 4 columns, and in the bounds engine fits; no row is above M * M before it is settled.
-use Prim.Native.Nat.{ℕ, zero, suc, _+_, _*_, _≤_, _<_}
+-- Every row of every table has n + 4 columns, and in the bounds engine fits.
+use Prim.Native.Nat.{ℕ, zero, suc, _+_, _≤_, _<_}
 use mathlib.Core.Path.{_≡_, refl, _∙_}
 use mathlib.Core.Logic.{⊎-elim}
 use mathlib.Core.Bool.{Bool, true, false}
@@ -14,7 +14,7 @@ use Rattle.meaning.specs.Row.{Row, cell, total, settled, rounding}
 use Rattle.meaning.specs.Step.{Table, row, Sets, outside, given, firstRow, noRow, renewed, removed, after, stage}
 use Rattle.theory.specs.Sum.{same, sum-zero}
 use Rattle.theory.specs.Tab.{tab-at, tab-length}
-use Rattle.theory.specs.Relation.{combined-length, combined-fits}
+use Rattle.theory.specs.Relation.{combined-length}
 use Rattle.theory.specs.Settle.{settled-length, settled-fits}
 use Rattle.theory.specs.Leads.{step, removes}
 use Rattle.theory.specs.Given.{given-length}
@@ -78,16 +78,6 @@ module _ (c : Chain) (k : Sets) (r : ℕ → ℕ) (o : List ℕ) where
       go rest true = removed-all b n (getD o p 0) (stage b c k r o p) rest
       go rest false = rest
 
-  -- A row combined from two that fit.
-  pub step-fits : (b : Bool) (p s i : ℕ) → s < n → i < n
-      → let t = stage b c k r o p in total n (row t s) ≤ M → total n (row t i) ≤ M → total n (step n s t i) ≤ M * M
-  step-fits b p s i h d x y =
-      let t = stage b c k r o p in
-      combined-fits n s (row t s) (row t i) h (stage-fits b p i d .wide) y x
-
   -- In the bounds engine all fit.
   pub bounds-fit : (p i : ℕ) → i < n → total n (row (stage rounding c k r o p) i) ≤ M
   bounds-fit p i h = stage-fits rounding p i h .small refl
-
-  pub bounds-step : (p s i : ℕ) → s < n → i < n → total n (step n s (stage rounding c k r o p) i) ≤ M * M
-  bounds-step p s i h d = step-fits rounding p s i h d (bounds-fit p s h) (bounds-fit p i d)

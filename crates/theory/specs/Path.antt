@@ -6,10 +6,7 @@ use mathlib.Core.Bool.{Bool, true, false}
 use native.Mathlib.Omega.{arith}
 use native.Mathlib.Decide.{ℕ-discrete, map-dec}
 use Rattle.meaning.specs.Chain.{Chain, edgeCount, from, to, Goal, PathTo, ToGoal, FromStart, Live}
-use Rattle.meaning.specs.Figure.{Missed}
 use Rattle.theory.specs.Sum.{last-or-below}
-use Rattle.theory.specs.Search.{anywhere}
-use Rattle.theory.specs.Fine.{Fine, reached-state}
 
 -- A decision as a test, and what the test says.
 abbrev pub test : {P : Type 0} → Dec P → Bool
@@ -118,8 +115,3 @@ module _ (c : Chain) where
   decLive i =
       map-dec (λ p. record { unwon = p .0; reached = p .1 .0; leads = p .1 .1 }) (λ l. (l .unwon, (l .reached, l .leads)))
       (Dec·and (Dec·not (decGoal c i)) (Dec·and (decFromStart i) (decToGoal i)))
-
-pub decMissed : (c : Chain) → Fine c → c .start < c .states → Dec (Missed c)
-decMissed c fine h =
-    map-dec (λ w. (w .0, w .1 .1 .0, w .1 .1 .1)) (λ w. (w .0, (reached-state fine h (w .1), (w .1, w .2))))
-    (anywhere (λ i. FromStart c i × (ToGoal c i → ⊥)) (c .states) (λ i. Dec·and (decFromStart c i) (Dec·not (decToGoal c i))))

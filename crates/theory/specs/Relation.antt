@@ -3,12 +3,11 @@ use Prim.Native.Nat.{ℕ, _+_, _*_, _≤_, _<_}
 use mathlib.Core.Path.{_≡_, refl, ap, _∙_}
 use mathlib.Core.Logic.{⊎-elim}
 use native.Mathlib.Omega.{arith}
-use native.Mathlib.Nat.{le-of-mul-le-mul-left, mul-le-mul-left, mul-le-mul}
+use native.Mathlib.Nat.{le-of-mul-le-mul-left, mul-le-mul-left}
 use lib.Dec.{eqb}
 use lib.ListN.{length}
 use borrow.Author.Tests.{eq-eqb, ne-eqb}
 use Rattle.meaning.specs.Number.{sumTo, choose}
-use Rattle.meaning.specs.Chain.{M}
 use Rattle.meaning.specs.Row.{Row, cell, total, divisor, lowest}
 use Rattle.meaning.specs.Step.{outside, combined}
 use Rattle.theory.specs.Sum.{same, sum-ext, sum-add, sum-scale, sum-term, sum-hole}
@@ -127,7 +126,3 @@ module _ (n s : ℕ) (p r : Row) (inside : s < n) (wide : length r ≡ n + 4) wh
       rw combined-total
       (combine-least _ _ _ _ _ (cell p s) (v s) x (total n r) (total n p) total-split
       (combined-sum s (outside n s p) p r v (n + 4) (omega arith) (omega arith)) h k)
-
-  -- Where both rows fit, the new total is at most M * M.
-  pub combined-fits : total n r ≤ M → total n p ≤ M → total n step ≤ M * M
-  combined-fits h k = rw combined-total (mul-le-mul {m₂ = M} h (omega arith))
