@@ -12,3 +12,4 @@ pub mod File
 pub mod Text
 pub mod Report
 pub mod Call
+pub mod Demand

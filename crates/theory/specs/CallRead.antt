@@ -16,8 +16,8 @@ use Rattle.meaning.specs.Block.{Input}
 use Rattle.meaning.specs.File.{BlockRefused, FileRefused, chainIn}
 use Rattle.meaning.specs.Report.{plainIn}
 use Rattle.meaning.specs.Call.{exactMode, boundsMode, answerBytes, answerNumber, answerRead, written, wholeFile, Said, CallOutcome}
+use Rattle.meaning.specs.Demand.{BothChance}
 use Rattle.theory.specs.DemandTwo.{chance-of}
-use Rattle.theory.specs.DemandThree.{Equal}
 use Rattle.theory.specs.Small.{Small, BothSmall, chance-small, bounds-small}
 
 -- A number up to M is the sum of its four bytes.
@@ -87,11 +87,11 @@ module _ {file before after : List ℕ} {mode : ℕ} where
       × Chance (chainIn (wholeFile file)) (answerNumber after 2) (answerNumber after 3)
   call-chance m o = go (said o .1) (said o .2)
     where
-      go : {bytes : List ℕ} → Said (wholeFile file) mode 0 bytes → after ≡ written bytes before → Equal (chainIn (wholeFile file)) (answerRead after)
+      go : {bytes : List ℕ} → Said (wholeFile file) mode 0 bytes → after ≡ written bytes before → BothChance (chainIn (wholeFile file)) (answerRead after)
       go (Said.exactly m a w o e g) k =
           let h = chance-of (figure (λ (a : Answer). a .number) (λ n p. refl) (λ n p s. stop-above (s .stops)) o (sym e)) in
           let u = chance-small o in
-          subst (Equal (chainIn (wholeFile file))) (sym (reads before u u g k)) (h, h)
+          subst (BothChance (chainIn (wholeFile file))) (sym (reads before u u g k)) (h, h)
       go (Said.bounded m′ a w o e g) k = absurd (omega arith)
 
   -- In mode 2 they are the bounds.

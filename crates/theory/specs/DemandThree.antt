@@ -5,14 +5,15 @@ use mathlib.Core.Path.{_≡_, refl, sym, ap, subst}
 use mathlib.Core.List.{List}
 use native.Mathlib.Omega.{arith}
 use native.Mathlib.Nat.{le-of-mul-le-mul-left, mul-le-mul-left, mul-pos}
-use Rattle.meaning.specs.Number.{Lowest, Reduced}
+use Rattle.meaning.specs.Number.{Reduced}
 use Rattle.meaning.specs.Chain.{Chain, Live}
 use Rattle.meaning.specs.Figure.{Chance}
 use Rattle.meaning.specs.Row.{cell, goalColumn, unknownColumn, exact, rounding}
-use Rattle.meaning.specs.Step.{Sets, Right, outside, RoundedAt}
+use Rattle.meaning.specs.Step.{Sets, Right, outside}
 use Rattle.meaning.specs.Refusal.{Lent, plain, WellFormed}
 use Rattle.meaning.specs.Stop.{rewardOf, Stops, before-steps, in-step, at-turn}
 use Rattle.meaning.specs.Outcome.{refused, stopped, answered, Bounds, between, lastRow, BoundsFigure, BoundsOutcome}
+use Rattle.meaning.specs.Demand.{AtMost, ChanceBetween, BothChance, Unrounded}
 use Rattle.theory.specs.Shares.{shares-exist}
 use Rattle.theory.specs.Formed.{formed-fine, start-in, unpaid}
 use Rattle.theory.specs.Whole.{
@@ -28,10 +29,6 @@ use Rattle.theory.specs.Whole.{
 }
 use Rattle.theory.specs.Unique.{chance-one}
 
--- p over q is at most s over t.
-abbrev pub AtMost : ℕ → ℕ → ℕ → ℕ → Type 0
-AtMost p q s t = p * t ≤ s * q
-
 -- A fraction in lowest terms keeps its place beside x over d: a over b is x over d's lower, or upper, bound.
 below-share : (a b p q d x s t : ℕ) → 0 < b → 0 < d → Reduced a b p q → s * d ≡ x * t → a * d ≤ x * b → AtMost p q s t
 below-share a b p q d x s t whole above r e h =
@@ -43,27 +40,12 @@ above-share a b p q d x s t whole above r e h =
     le-of-mul-le-mul-left {k = b * d}
     (omega (arith, ap (λ z. z * (d * t)) (r .same), ap (λ z. z * (b * q)) e, mul-le-mul-left (q * t) h)) (mul-pos whole above)
 
--- What the two fractions say of the chance.
-pub record Holds (c : Chain) (a : Bounds) : Type 0 where
-  pub lower-lowest : Lowest (a .lowerNumerator) (a .lowerDenominator)
-  pub upper-lowest : Lowest (a .upperNumerator) (a .upperDenominator)
-  pub lower : (p q : ℕ) → Chance c p q → AtMost (a .lowerNumerator) (a .lowerDenominator) p q
-  pub upper : (p q : ℕ) → Chance c p q → AtMost p q (a .upperNumerator) (a .upperDenominator)
-
--- Both fractions are the chance.
-abbrev pub Equal : Chain → Bounds → Type 0
-Equal c a = Chance c (a .lowerNumerator) (a .lowerDenominator) × Chance c (a .upperNumerator) (a .upperDenominator)
-
--- No row is rounded.
-abbrev pub Unrounded : Lent → Type 0
-Unrounded l = (k : Sets) → Right (l .chain) k → (p : ℕ) → p ≤ l .chain .states → RoundedAt (l .chain) k (rewardOf l) (l .order) p → ⊥
-
 module _ (l : Lent) (formed : WellFormed plain l) where
   abbrev c : Chain
   c = l .chain
 
   -- A chance that is known is both of its bounds.
-  known : (u v : ℕ) → Chance c u v → Holds c (between u v u v)
+  known : (u v : ℕ) → Chance c u v → ChanceBetween c (between u v u v)
   known u v h =
       record {
         lower-lowest = h .lowest;
@@ -82,7 +64,7 @@ module _ (l : Lent) (formed : WellFormed plain l) where
       whole =
           bounds-whole c k (l .order) (formed-ready plain l formed refl k right) (rewardOf l) alive (unpaid plain l formed refl)
 
-      live-holds : Holds c (between p q s t)
+      live-holds : ChanceBetween c (between p q s t)
       live-holds =
           let ready = formed-ready plain l formed refl k right in
           let free = unpaid plain l formed refl in
@@ -132,21 +114,21 @@ module _ (l : Lent) (formed : WellFormed plain l) where
         nought b (BoundsFigure.live k r v p q s t f e) = ap (λ (z : Bounds). z .number) e
 
     -- The chance lies between its two fractions, which are in lowest terms.
-    pub bounds-hold : BoundsOutcome l a w → Holds c a
-    bounds-hold = outcome (Holds c) a w held
+    pub bounds-hold : BoundsOutcome l a w → ChanceBetween c a
+    bounds-hold = outcome (ChanceBetween c) a w held
       where
-        held : (b : Bounds) → BoundsFigure l b → Holds c b
-        held b (BoundsFigure.won g e) = subst (Holds c) (sym e) (known 1 1 (chance-won c (start-in plain l formed) g))
-        held b (BoundsFigure.lost g e) = subst (Holds c) (sym e) (known 0 1 (chance-lost c (start-in plain l formed) g))
-        held b (BoundsFigure.live k r v p q s t f e) = subst (Holds c) (sym e) (live-holds k r v p q s t (f .0) (f .1))
+        held : (b : Bounds) → BoundsFigure l b → ChanceBetween c b
+        held b (BoundsFigure.won g e) = subst (ChanceBetween c) (sym e) (known 1 1 (chance-won c (start-in plain l formed) g))
+        held b (BoundsFigure.lost g e) = subst (ChanceBetween c) (sym e) (known 0 1 (chance-lost c (start-in plain l formed) g))
+        held b (BoundsFigure.live k r v p q s t f e) = subst (ChanceBetween c) (sym e) (live-holds k r v p q s t (f .0) (f .1))
 
     -- Both are the chance where no row was rounded.
-    pub bounds-equal : Unrounded l → BoundsOutcome l a w → Equal c a
-    bounds-equal none = outcome (Equal c) a w equal
+    pub bounds-equal : Unrounded l → BoundsOutcome l a w → BothChance c a
+    bounds-equal none = outcome (BothChance c) a w equal
       where
-        equal : (b : Bounds) → BoundsFigure l b → Equal c b
+        equal : (b : Bounds) → BoundsFigure l b → BothChance c b
         equal b (BoundsFigure.won g e) =
-            let h = chance-won c (start-in plain l formed) g in subst (Equal c) (sym e) (h, h)
+            let h = chance-won c (start-in plain l formed) g in subst (BothChance c) (sym e) (h, h)
         equal b (BoundsFigure.lost g e) =
-            let h = chance-lost c (start-in plain l formed) g in subst (Equal c) (sym e) (h, h)
-        equal b (BoundsFigure.live k r v p q s t f e) = subst (Equal c) (sym e) (live-equal k r v p q s t (f .0) (f .1) none)
+            let h = chance-lost c (start-in plain l formed) g in subst (BothChance c) (sym e) (h, h)
+        equal b (BoundsFigure.live k r v p q s t f e) = subst (BothChance c) (sym e) (live-equal k r v p q s t (f .0) (f .1) none)

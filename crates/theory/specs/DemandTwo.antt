@@ -1,6 +1,6 @@
 -- Demand 2 in its own words, from the outcome relations alone: for a well-formed chain and any order the exact entries give the figure in
 -- lowest terms, and refuse exactly when a kept row in lowest terms does not fit.
-use Prim.Native.Nat.{ℕ, suc, _≤_, _<_}
+use Prim.Native.Nat.{ℕ, suc, _<_}
 use mathlib.Core.Path.{_≡_, refl, sym, ap, subst, _∙_}
 use mathlib.Core.Logic.{_⊎_, inl, inr, _↔_}
 use mathlib.Core.Bool.{true}
@@ -11,21 +11,13 @@ use Rattle.meaning.specs.Figure.{Chance, Missed, Expected}
 use Rattle.meaning.specs.Row.{exact, rounding}
 use Rattle.meaning.specs.Step.{Sets, Right}
 use Rattle.meaning.specs.Refusal.{Lent, Entry, plain, paid, WellFormed}
-use Rattle.meaning.specs.Stop.{rewardOf, NoFit, NoWay, Stops, before-steps, in-step, at-turn, Stopped}
+use Rattle.meaning.specs.Stop.{rewardOf, NoWay, Stops, before-steps, in-step, at-turn, Stopped}
 use Rattle.meaning.specs.Outcome.{refused, stopped, answered, Answer, infinite, ChanceFigure, ChanceOutcome, RewardFigure, RewardOutcome}
+use Rattle.meaning.specs.Demand.{NoFitAnywhere}
 use Rattle.theory.specs.Unique.{chance-one, expected-one}
 use Rattle.theory.specs.Formed.{formed-fine, start-in}
 use Rattle.theory.specs.Whole.{no-stuck}
 use Rattle.theory.specs.Halt.{Halted, stops, runs, halt}
-
--- In the exact engine a kept row in lowest terms does not fit, at some position.
-pub record Large (l : Lent) : Type 0 where
-  pub sets : Sets
-  pub right : Right (l .chain) sets
-  pub alive : Live (l .chain) (l .chain .start)
-  pub position : ℕ
-  pub inside : position ≤ l .chain .states
-  pub large : NoFit exact l sets position
 
 module _ (x : Entry) (l : Lent) (formed : WellFormed x l) (ordered : x .order ≡ true) where
   never-stuck : (k : Sets) → Right (l .chain) k → (p : ℕ) → p < l .chain .states → NoWay exact l k p → ⊥
@@ -43,18 +35,18 @@ module _ (x : Entry) (l : Lent) (formed : WellFormed x l) (ordered : x .order �
   pub stopped-twelve : {number place : ℕ} → Stopped exact l number place → number ≡ 12
   stopped-twelve s = stop-twelve (s .sets) (s .right) (s .stops)
 
-  stop-large : (k : Sets) → Right (l .chain) k → Live (l .chain) (l .chain .start) → {number place : ℕ} → Stops exact l k number place → Large l
+  stop-large : (k : Sets) → Right (l .chain) k → Live (l .chain) (l .chain .start) → {number place : ℕ} → Stops exact l k number place → NoFitAnywhere l
   stop-large k right alive (before-steps f) =
       record { sets = k; right = right; alive = alive; position = 0; inside = omega arith; large = f }
   stop-large k right alive (in-step p h w d f) =
       record { sets = k; right = right; alive = alive; position = suc p; inside = h; large = f }
   stop-large k right alive (at-turn p h w d) = absurd (never-stuck k right p h d)
 
-  pub stopped-large : {number place : ℕ} → Stopped exact l number place → Large l
+  pub stopped-large : {number place : ℕ} → Stopped exact l number place → NoFitAnywhere l
   stopped-large s = stop-large (s .sets) (s .right) (s .alive) (s .stops)
 
   -- And a row that is large stops it.
-  pub large-stopped : Large l → (number : ℕ) × (place : ℕ) × Stopped exact l number place
+  pub large-stopped : NoFitAnywhere l → (number : ℕ) × (place : ℕ) × Stopped exact l number place
   large-stopped h = go (halt exact l (h .sets))
     where
       go : Halted exact l (h .sets) → (number : ℕ) × (place : ℕ) × Stopped exact l number place
@@ -87,7 +79,7 @@ module _ (l : Lent) (formed : WellFormed plain l) (a : Answer) (w : List ℕ) wh
   chance-is (answered f t g s) z = chance-of g
 
   -- It refuses exactly when a kept row in lowest terms does not fit.
-  pub chance-refuses : ChanceOutcome l a w → (a .number ≡ 12) ↔ Large l
+  pub chance-refuses : ChanceOutcome l a w → (a .number ≡ 12) ↔ NoFitAnywhere l
   chance-refuses (refused n p r e s) = absurd (formed .none n p (r .applies))
   chance-refuses (stopped n p f t e s) =
       (λ _. stopped-large plain l formed refl t, λ _. number-is e ∙ stopped-twelve plain l formed refl t)
@@ -139,7 +131,7 @@ module _ (l : Lent) (formed : WellFormed paid l) (a : Answer) (w : List ℕ) whe
       subst (λ (z : Answer). Expected (l .chain) (rewardOf l) (z .numerator) (z .denominator)) (sym e) h
 
   -- It refuses exactly when the goal is not missed and a kept row in lowest terms does not fit.
-  pub reward-refuses : RewardOutcome l a w → (a .number ≡ 12) ↔ ((Missed (l .chain) → ⊥) × Large l)
+  pub reward-refuses : RewardOutcome l a w → (a .number ≡ 12) ↔ ((Missed (l .chain) → ⊥) × NoFitAnywhere l)
   reward-refuses (refused n p r e s) = absurd (formed .none n p (r .applies))
   reward-refuses (stopped n p f t e s) = (
     λ _. (t .0, stopped-large paid l formed refl (t .1)),

@@ -1,0 +1,39 @@
+-- What the exact entries and the bounds are held to: the words of demands 2 and 3.
+use Prim.Native.Nat.{ℕ, _*_, _≤_}
+use Rattle.meaning.specs.Number.{Lowest}
+use Rattle.meaning.specs.Chain.{Chain, Live}
+use Rattle.meaning.specs.Figure.{Chance}
+use Rattle.meaning.specs.Row.{exact}
+use Rattle.meaning.specs.Step.{Sets, Right, RoundedAt}
+use Rattle.meaning.specs.Refusal.{Lent}
+use Rattle.meaning.specs.Stop.{rewardOf, NoFit}
+use Rattle.meaning.specs.Outcome.{Bounds}
+
+-- In the exact engine a kept row in lowest terms does not fit, after some of the positions of the order. With the start a goal or not live
+-- no row is made.
+pub record NoFitAnywhere (l : Lent) : Type 0 where
+  pub sets : Sets
+  pub right : Right (l .chain) sets
+  pub alive : Live (l .chain) (l .chain .start)
+  pub position : ℕ
+  pub inside : position ≤ l .chain .states
+  pub large : NoFit exact l sets position
+
+-- p over q is at most s over t, by cross products.
+abbrev pub AtMost : ℕ → ℕ → ℕ → ℕ → Type 0
+AtMost p q s t = p * t ≤ s * q
+
+-- The chance lies between the two fractions, and each of them is in lowest terms.
+pub record ChanceBetween (c : Chain) (a : Bounds) : Type 0 where
+  pub lower-lowest : Lowest (a .lowerNumerator) (a .lowerDenominator)
+  pub upper-lowest : Lowest (a .upperNumerator) (a .upperDenominator)
+  pub lower : (p q : ℕ) → Chance c p q → AtMost (a .lowerNumerator) (a .lowerDenominator) p q
+  pub upper : (p q : ℕ) → Chance c p q → AtMost p q (a .upperNumerator) (a .upperDenominator)
+
+-- Both fractions are the chance.
+abbrev pub BothChance : Chain → Bounds → Type 0
+BothChance c a = Chance c (a .lowerNumerator) (a .lowerDenominator) × Chance c (a .upperNumerator) (a .upperDenominator)
+
+-- The bounds engine rounds no row.
+abbrev pub Unrounded : Lent → Type 0
+Unrounded l = (k : Sets) → Right (l .chain) k → (p : ℕ) → p ≤ l .chain .states → RoundedAt (l .chain) k (rewardOf l) (l .order) p → ⊥
