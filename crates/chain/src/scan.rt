@@ -2,7 +2,7 @@
 ghost use mathlib.Core.Path.{_≡_};
 ghost use lib.ListN.{length};
 ghost use Rattle.chain.specs.Least.{least, decides};
-ghost use Rattle.meaning.specs.Refusal.{Outside, DenominatorFault, EndFault, WeightFault, Earlier, OrderFault, RewardFault};
+ghost use Rattle.meaning.specs.Refusal.{OutOfRange, DenominatorFault, EndFault, WeightFault, Earlier, OrderFault, RewardFault};
 ghost use Prim.Native.Nat.{_<_};
 use crate::Chain;
 use crate::edge;
@@ -15,7 +15,7 @@ pub(crate) enum Place {
 
 // Neither a denominator nor a weight.
 fn outside(x: u64) -> bool
-    ensures { λ r. ⌜ decides (Outside x) r ⌝ }
+    ensures { λ r. ⌜ decides (OutOfRange x) r ⌝ }
 {
     if x == 0 {
         return true;

@@ -7,7 +7,7 @@ use Rattle.meaning.specs.Chain.{mostStates, mostEdges}
 use Rattle.meaning.specs.Block.{Input, demanded, headStates, headEdges, flagIn, fullBlock}
 use Rattle.meaning.specs.File.{
   CheckFault,
-  PlaceFault,
+  BlockNumberFault,
   KindFault,
   ContentFault,
   BlockRefused,
@@ -26,9 +26,9 @@ use Rattle.chainfile.specs.Input.{input, mostBlocks}
 use Rattle.chainfile.specs.Tells.{tested, further, judged, Within}
 use Rattle.chainfile.proofs.Turn.{kind-state, at-state}
 
-pub right : (f : Input) (b : ℕ) → (CheckFault f b → ⊥) → (PlaceFault f b → ⊥) → (KindFault f b → ⊥) → (ContentFault f b → ⊥) → BlockRight f b
+pub right : (f : Input) (b : ℕ) → (CheckFault f b → ⊥) → (BlockNumberFault f b → ⊥) → (KindFault f b → ⊥) → (ContentFault f b → ⊥) → BlockRight f b
 right f b c p k n number (BlockRefused.check-refused x) = c x
-right f b c p k n number (BlockRefused.place-refused _ x) = p x
+right f b c p k n number (BlockRefused.block-number-refused _ x) = p x
 right f b c p k n number (BlockRefused.kind-refused _ _ x) = k x
 right f b c p k n number (BlockRefused.content-refused _ _ _ x) = n x
 
@@ -44,7 +44,7 @@ module _ (f : Input) (b : ℕ) {r : Block} (t : tested f b r) where
 pub content-right : {f : Input} {b : ℕ} → BlockRight f b → ContentFault f b → ⊥
 content-right {f} {b} r x =
     let c : CheckFault f b → ⊥ = λ w. r 21 (BlockRefused.check-refused w) in
-    let p : PlaceFault f b → ⊥ = λ w. r 22 (BlockRefused.place-refused c w) in
+    let p : BlockNumberFault f b → ⊥ = λ w. r 22 (BlockRefused.block-number-refused c w) in
     let k : KindFault f b → ⊥ = λ w. r 23 (BlockRefused.kind-refused c p w) in
     r 24 (BlockRefused.content-refused c p k x)
 

@@ -16,7 +16,7 @@ use Rattle.chainfile.proofs.Tested.{bounded}
 -- The numbers of a file's refusals begin with 20.
 block-least : {f : Input} {b n : ℕ} → BlockRefused f b n → 20 ≤ n
 block-least (BlockRefused.check-refused w) = lit≤ tt
-block-least (BlockRefused.place-refused c w) = lit≤ tt
+block-least (BlockRefused.block-number-refused c w) = lit≤ tt
 block-least (BlockRefused.kind-refused c p w) = lit≤ tt
 block-least (BlockRefused.content-refused c p k w) = lit≤ tt
 

@@ -2,7 +2,7 @@
 ghost use mathlib.Core.Path.{_≡_};
 ghost use Prim.Native.Nat.{ℕ, _*_, _-_, _≤_, _<_, min};
 ghost use Rattle.meaning.specs.Block.{fullBlock};
-ghost use Rattle.meaning.specs.File.{CheckFault, PlaceFault, KindFault, ContentFault, kindOf, countOf};
+ghost use Rattle.meaning.specs.File.{CheckFault, BlockNumberFault, KindFault, ContentFault, kindOf, countOf};
 ghost use Rattle.chain.specs.Least.{decides};
 ghost use Rattle.chainfile.specs.Input.{input, mostBlocks};
 ghost use Rattle.chainfile.specs.Tells.{tested};
@@ -35,12 +35,12 @@ fn check_wrong(kept: &[u8], b: usize) -> bool
 }
 
 // 22: the block number is not the block's place.
-fn place_wrong(kept: &[u8], b: usize) -> bool
+fn block_number_wrong(kept: &[u8], b: usize) -> bool
     requires { ⌜ b < mostBlocks ⌝ }
-    ensures { λ r. ⌜ decides (PlaceFault (input (now (kept .entry)) 0) b) r ⌝ }
+    ensures { λ r. ⌜ decides (BlockNumberFault (input (now (kept .entry)) 0) b) r ⌝ }
 {
     let place = b as u64;
-    if bytes::number(kept, layout::BLOCK * b + layout::PLACE, layout::PAIR) != place {
+    if bytes::number(kept, layout::BLOCK * b + layout::BLOCK_NUMBER, layout::PAIR) != place {
         return true;
     }
     false
@@ -133,7 +133,7 @@ pub(crate) fn test(kept: &[u8], b: usize) -> Block
     if check_wrong(kept, b) {
         return Block::Wrong(21);
     }
-    if place_wrong(kept, b) {
+    if block_number_wrong(kept, b) {
         return Block::Wrong(22);
     }
     if kind_wrong(kept, b) {

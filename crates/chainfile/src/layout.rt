@@ -18,7 +18,7 @@ pub(crate) const KIND: usize = 0;
 
 pub(crate) const VERSION: usize = 1;
 
-pub(crate) const PLACE: usize = 2;
+pub(crate) const BLOCK_NUMBER: usize = 2;
 
 pub(crate) const COUNT: usize = 4;
 

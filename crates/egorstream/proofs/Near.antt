@@ -101,7 +101,7 @@ stopped-near {x} {b} {l} formed s = stops-near (few-states x l formed) (s .stops
 -- The numbers 20 to 24.
 block-number : {f : Input} {b number : ℕ} → BlockRefused f b number → (21 ≤ number) × (number ≤ 24)
 block-number (BlockRefused.check-refused h) = (omega arith, omega arith)
-block-number (BlockRefused.place-refused g h) = (omega arith, omega arith)
+block-number (BlockRefused.block-number-refused g h) = (omega arith, omega arith)
 block-number (BlockRefused.kind-refused e g h) = (omega arith, omega arith)
 block-number (BlockRefused.content-refused d e g h) = (omega arith, omega arith)
 
@@ -111,12 +111,12 @@ content-right right h =
     right 24
     (BlockRefused.content-refused
     (λ e. right 21 (BlockRefused.check-refused e))
-    (λ e. right 22 (BlockRefused.place-refused (λ d. right 21 (BlockRefused.check-refused d)) e))
+    (λ e. right 22 (BlockRefused.block-number-refused (λ d. right 21 (BlockRefused.check-refused d)) e))
     (λ e.
     right 23
     (BlockRefused.kind-refused
     (λ d. right 21 (BlockRefused.check-refused d))
-    (λ d. right 22 (BlockRefused.place-refused (λ c. right 21 (BlockRefused.check-refused c)) d))
+    (λ d. right 22 (BlockRefused.block-number-refused (λ c. right 21 (BlockRefused.check-refused c)) d))
     e))
     h)
 

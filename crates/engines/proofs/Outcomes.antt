@@ -48,11 +48,11 @@ read-unstopped b l (live k right alive z) number place s = passed-unstopped l k 
 -- A chance, and an expected reward, in lowest terms.
 lowest-chance : (c : Chain) (a b p q : ℕ) → Chance c a b → Reduced a b p q → Chance c p q
 lowest-chance c a b p q h r =
-    record { lowest = r .lowest; share = λ d x s. reduced-share a b p q d (x (c .start)) r (h .lowest .below) (h .share d x s) }
+    record { lowest = r .lowest; share = λ d x s. reduced-share a b p q d (x (c .start)) r (h .lowest .whole) (h .share d x s) }
 
 lowest-reward : (c : Chain) (r : ℕ → ℕ) (a b p q : ℕ) → Expected c r a b → Reduced a b p q → Expected c r p q
 lowest-reward c r a b p q h t =
-    record { lowest = t .lowest; share = λ d x s. reduced-share a b p q d (x (c .start)) t (h .lowest .below) (h .share d x s) }
+    record { lowest = t .lowest; share = λ d x s. reduced-share a b p q d (x (c .start)) t (h .lowest .whole) (h .share d x s) }
 
 -- The numbers that were read.
 module _ {b : Bool} {l : Lent} {k : Sets} {g u e d : ℕ} (z : Ended b l k g u e d) where
@@ -183,7 +183,7 @@ module _ (l : Lent) (formed : WellFormed paid l) {w : List ℕ} (s : w ≡ clear
         subst (λ f. Rewarded l (reward.Is f) w) (sym t)
         (record {
           outcome = answered formed (λ number place s. read-unstopped exact l y number place (s .1)) (RewardFigure.expected sure _ _ h refl) s;
-          proper = h .lowest .below;
+          proper = h .lowest .whole;
         })
 
     pub reward-stops : {number place : ℕ} → r ≡ Stops number place → figured exact l r → Rewarded l (reward.Refused number place) w

@@ -36,11 +36,11 @@ module _ {a b : Answer} (e : a ≡ b) where
 chance-proper : (l : Lent) (r : Chance) (w : List ℕ) → ChanceOutcome l (toldChance r) w → ProperChance r
 chance-proper l (chance.Is f) w (refused n p z e s) = absurd (omega (arith, number e, refused-some z))
 chance-proper l (chance.Is f) w (stopped n p v t e s) = absurd (omega (arith, number e, stop-some (t .stops)))
-chance-proper l (chance.Is f) w (answered v t (ChanceFigure.chance p q h e) s) = omega (arith, denominator e, h .lowest .below)
+chance-proper l (chance.Is f) w (answered v t (ChanceFigure.chance p q h e) s) = omega (arith, denominator e, h .lowest .whole)
 chance-proper l (chance.Refused k i) w (refused n p z e s) = omega (arith, number e, refused-some z)
 chance-proper l (chance.Refused k i) w (stopped n p v t e s) = omega (arith, number e, stop-some (t .stops))
 chance-proper l (chance.Refused k i) w (answered v t (ChanceFigure.chance p q h e) s) =
-    absurd (omega (arith, denominator e, h .lowest .below))
+    absurd (omega (arith, denominator e, h .lowest .whole))
 
 module _ {a b : Numbers} (e : a ≡ b) where
   which : a .number ≡ b .number
@@ -57,7 +57,7 @@ figure-proper : (l : Lent) (a : Numbers) → BoundsFigure l a → (0 < a .lowerD
 figure-proper l a (BoundsFigure.won g e) = (omega (arith, lower e), omega (arith, upper e))
 figure-proper l a (BoundsFigure.lost g e) = (omega (arith, lower e), omega (arith, upper e))
 figure-proper l a (BoundsFigure.live k r v p q s t f e) =
-    (omega (arith, lower e, f .0 .lowest .below), omega (arith, upper e, f .1 .lowest .below))
+    (omega (arith, lower e, f .0 .lowest .whole), omega (arith, upper e, f .1 .lowest .whole))
 
 bounds-proper : (l : Lent) (r : Bounds) (w : List ℕ) → BoundsOutcome l (toldBounds r) w → ProperBounds r
 bounds-proper l (bounds.Between f h) w (refused n p z e s) = absurd (omega (arith, which e, refused-some z))

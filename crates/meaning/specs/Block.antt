@@ -36,8 +36,8 @@ kindAt b = blockAt b
 abbrev pub versionAt : ℕ → ℕ
 versionAt b = blockAt b + 1
 
-abbrev pub placeAt : ℕ → ℕ
-placeAt b = blockAt b + 2
+abbrev pub blockNumberAt : ℕ → ℕ
+blockNumberAt b = blockAt b + 2
 
 abbrev pub countAt : ℕ → ℕ
 countAt b = blockAt b + 4

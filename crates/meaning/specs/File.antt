@@ -16,7 +16,7 @@ use Rattle.meaning.specs.Block.{
   blockSize,
   kindAt,
   versionAt,
-  placeAt,
+  blockNumberAt,
   countAt,
   recordsAt,
   checkAt,
@@ -52,8 +52,8 @@ CheckFault f b =
     ⊎ (byte f (checkAt b + 1) ≡ secondSum checkModulus checkBegin (blockByte f b) checkedBytes → ⊥)
 
 -- 22: the block number is not the block's place, from 0.
-abbrev pub PlaceFault : Input → ℕ → Type 0
-PlaceFault f b = numberAt f (placeAt b) 2 ≡ b → ⊥
+abbrev pub BlockNumberFault : Input → ℕ → Type 0
+BlockNumberFault f b = numberAt f (blockNumberAt b) 2 ≡ b → ⊥
 
 -- The kind whose turn it is at block b: 1, one block; then 2, as many as the states need; then 3.
 abbrev pub kindOf : Input → ℕ → ℕ
@@ -91,9 +91,9 @@ pub data ContentFault (f : Input) (b : ℕ) : Type 0 where
 -- Block b is refused: 21, 22, 23 and 24 are tested in turn.
 pub data BlockRefused (f : Input) (b : ℕ) : ℕ → Type 0 where
   check-refused : CheckFault f b → BlockRefused f b 21
-  place-refused : (CheckFault f b → ⊥) → PlaceFault f b → BlockRefused f b 22
-  kind-refused : (CheckFault f b → ⊥) → (PlaceFault f b → ⊥) → KindFault f b → BlockRefused f b 23
-  content-refused : (CheckFault f b → ⊥) → (PlaceFault f b → ⊥) → (KindFault f b → ⊥) → ContentFault f b → BlockRefused f b 24
+  block-number-refused : (CheckFault f b → ⊥) → BlockNumberFault f b → BlockRefused f b 22
+  kind-refused : (CheckFault f b → ⊥) → (BlockNumberFault f b → ⊥) → KindFault f b → BlockRefused f b 23
+  content-refused : (CheckFault f b → ⊥) → (BlockNumberFault f b → ⊥) → (KindFault f b → ⊥) → ContentFault f b → BlockRefused f b 24
 
 abbrev pub BlockRight : Input → ℕ → Type 0
 BlockRight f b = (number : ℕ) → BlockRefused f b number → ⊥

@@ -46,7 +46,7 @@ gcd a b = gcdIn (suc b) a b
 
 -- p over q is in lowest terms.
 pub record Lowest (p q : ℕ) : Type 0 where
-  pub below : 0 < q
+  pub whole : 0 < q
   pub prime : (k : ℕ) → (a b : ℕ) → p ≡ k * a → q ≡ k * b → k ≡ 1
 
 -- p over q is a over b, in lowest terms.

@@ -66,12 +66,12 @@ abbrev pub GoalFault : ℕ → ℕ → Type 0
 GoalFault n goals = (goals ≡ 0) ⊎ (2 ^ n ≤ goals)
 
 -- x is 0 or above M.
-abbrev pub Outside : ℕ → Type 0
-Outside x = (x ≡ 0) ⊎ (M < x)
+abbrev pub OutOfRange : ℕ → Type 0
+OutOfRange x = (x ≡ 0) ⊎ (M < x)
 
 -- 5: the denominator of state i is 0 or above M.
 abbrev pub DenominatorFault : ℕ → List ℕ → ℕ → Type 0
-DenominatorFault n denominators i = (i < n) × Outside (getD denominators i 0)
+DenominatorFault n denominators i = (i < n) × OutOfRange (getD denominators i 0)
 
 -- 6: edge e names a state not below n.
 abbrev pub EndFault : ℕ → List ℕ → ℕ → Type 0
@@ -79,7 +79,7 @@ EndFault n edges e = (e < edgeCount edges) × ((n ≤ from edges e) ⊎ (n ≤ t
 
 -- 7: the weight of edge e is 0 or above M.
 abbrev pub WeightFault : List ℕ → ℕ → Type 0
-WeightFault edges e = (e < edgeCount edges) × Outside (weight edges e)
+WeightFault edges e = (e < edgeCount edges) × OutOfRange (weight edges e)
 
 -- Edges d and e have the same pair (from, to).
 abbrev pub Same : List ℕ → ℕ → ℕ → Type 0

@@ -50,7 +50,7 @@ given c k r u i =
     (choose (eqb j (trapColumn (c .states))) (along c i (λ t. 1 - bit (k .good) t))
     (choose (eqb j (unknownColumn (c .states))) u (earned c r i)))))
 
--- The first row of a live state: what the chain gives, divided likewise.
+-- The first row of a live state: what the chain gives, divided likewise, and in the bounds engine rounded where its total is above M.
 abbrev pub firstRow : Bool → Chain → Sets → (ℕ → ℕ) → ℕ → ℕ → Row
 firstRow b c k r u i = settled b (c .states) (given c k r u i)
 

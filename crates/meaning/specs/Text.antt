@@ -1,4 +1,4 @@
--- Text as bytes: ASCII letters and decimal numbers.
+-- Text as bytes: ASCII characters and decimal numbers.
 use Prim.Native.Nat.{ℕ, zero, suc, _+_, _/_, _%_}
 use Prim.Native.String.{String, [] as none, _∷_ as _then_}
 use Prim.Native.Char.{code}
@@ -6,7 +6,7 @@ use mathlib.Core.List.{List, [], _∷_, _++_}
 use lib.Dec.{ltb}
 use Rattle.meaning.specs.Number.{choose}
 
--- The bytes of a text of ASCII letters.
+-- The bytes of a text of ASCII characters.
 abbrev pub bytesOf : String → List ℕ
 bytesOf none = []
 bytesOf (c then s) = code c ∷ bytesOf s

@@ -58,7 +58,7 @@ between-of (BoundsFigure.live k r v p q s t f e) = rw e refl
 -- A number of refusal is not 0, so a call that returns 0 answers.
 block-above : {f : Input} {b number : ℕ} → BlockRefused f b number → 0 < number
 block-above (BlockRefused.check-refused w) = omega arith
-block-above (BlockRefused.place-refused c w) = omega arith
+block-above (BlockRefused.block-number-refused c w) = omega arith
 block-above (BlockRefused.kind-refused c p w) = omega arith
 block-above (BlockRefused.content-refused c p k w) = omega arith
 

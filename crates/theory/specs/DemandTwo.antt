@@ -116,7 +116,7 @@ module _ (l : Lent) (formed : WellFormed paid l) (a : Answer) (w : List ℕ) whe
   )
   reward-infinite (answered f t (RewardFigure.missed m e) s) = (λ _. m, λ _. e)
   reward-infinite (answered f t (RewardFigure.expected u p q h e) s) = (
-    λ i. absurd (let z : q ≡ 0 = ap (λ (z : Answer). z .denominator) (sym e ∙ i) in omega (arith, h .lowest .below)),
+    λ i. absurd (let z : q ≡ 0 = ap (λ (z : Answer). z .denominator) (sym e ∙ i) in omega (arith, h .lowest .whole)),
     λ m. absurd (u m),
   )
 

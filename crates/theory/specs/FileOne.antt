@@ -17,19 +17,19 @@ use Rattle.meaning.specs.File.{
 -- A block is refused with one number.
 pub block-one : {f : Input} {b n n′ : ℕ} → BlockRefused f b n → BlockRefused f b n′ → n ≡ n′
 block-one (BlockRefused.check-refused w) (BlockRefused.check-refused w′) = refl
-block-one (BlockRefused.check-refused w) (BlockRefused.place-refused c′ w′) = absurd (c′ w)
+block-one (BlockRefused.check-refused w) (BlockRefused.block-number-refused c′ w′) = absurd (c′ w)
 block-one (BlockRefused.check-refused w) (BlockRefused.kind-refused c′ p′ w′) = absurd (c′ w)
 block-one (BlockRefused.check-refused w) (BlockRefused.content-refused c′ p′ k′ w′) = absurd (c′ w)
-block-one (BlockRefused.place-refused c w) (BlockRefused.check-refused w′) = absurd (c w′)
-block-one (BlockRefused.place-refused c w) (BlockRefused.place-refused c′ w′) = refl
-block-one (BlockRefused.place-refused c w) (BlockRefused.kind-refused c′ p′ w′) = absurd (p′ w)
-block-one (BlockRefused.place-refused c w) (BlockRefused.content-refused c′ p′ k′ w′) = absurd (p′ w)
+block-one (BlockRefused.block-number-refused c w) (BlockRefused.check-refused w′) = absurd (c w′)
+block-one (BlockRefused.block-number-refused c w) (BlockRefused.block-number-refused c′ w′) = refl
+block-one (BlockRefused.block-number-refused c w) (BlockRefused.kind-refused c′ p′ w′) = absurd (p′ w)
+block-one (BlockRefused.block-number-refused c w) (BlockRefused.content-refused c′ p′ k′ w′) = absurd (p′ w)
 block-one (BlockRefused.kind-refused c p w) (BlockRefused.check-refused w′) = absurd (c w′)
-block-one (BlockRefused.kind-refused c p w) (BlockRefused.place-refused c′ w′) = absurd (p w′)
+block-one (BlockRefused.kind-refused c p w) (BlockRefused.block-number-refused c′ w′) = absurd (p w′)
 block-one (BlockRefused.kind-refused c p w) (BlockRefused.kind-refused c′ p′ w′) = refl
 block-one (BlockRefused.kind-refused c p w) (BlockRefused.content-refused c′ p′ k′ w′) = absurd (k′ w)
 block-one (BlockRefused.content-refused c p k w) (BlockRefused.check-refused w′) = absurd (c w′)
-block-one (BlockRefused.content-refused c p k w) (BlockRefused.place-refused c′ w′) = absurd (p w′)
+block-one (BlockRefused.content-refused c p k w) (BlockRefused.block-number-refused c′ w′) = absurd (p w′)
 block-one (BlockRefused.content-refused c p k w) (BlockRefused.kind-refused c′ p′ w′) = absurd (k w′)
 block-one (BlockRefused.content-refused c p k w) (BlockRefused.content-refused c′ p′ k′ w′) = refl
 

@@ -75,7 +75,7 @@ module _ (p q : ℕ) (whole : 0 < q) where
   pub fraction-lowest : Lowest (p / gcd p q) (q / gcd p q)
   fraction-lowest =
       record {
-        below =
+        whole =
             ⊎-elim
             (λ (e : q / gcd p q ≡ 0). absurd (let z : gcd p q * 0 ≡ q = rw (← e) common-q in omega arith))
             (λ (d : q / gcd p q ≡ 0 → ⊥). omega arith)

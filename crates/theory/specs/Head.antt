@@ -16,7 +16,7 @@ use Rattle.meaning.specs.Block.{
   blockSize,
   kindAt,
   versionAt,
-  placeAt,
+  blockNumberAt,
   checkAt,
   firstSum,
   secondSum,
@@ -27,12 +27,12 @@ use Rattle.meaning.specs.Block.{
 use Rattle.meaning.specs.File.{
   LengthFault,
   CheckFault,
-  PlaceFault,
+  BlockNumberFault,
   kindOf,
   version,
   KindFault,
   check-refused,
-  place-refused,
+  block-number-refused,
   kind-refused,
   FileRefused,
   length-wrong,
@@ -65,9 +65,9 @@ checked f h =
     turned (λ z. rw (sums-are f h) at z) (λ z. rw (sums-are f h) z)
     (either (Dec·not (ℕ-discrete (byte f (checkAt 0)) (sums f .0))) (Dec·not (ℕ-discrete (byte f (checkAt 0 + 1)) (sums f .1))))
 
-unfoldable pub placed : (f : Input) → Dec (PlaceFault f 0)
+unfoldable pub numbered : (f : Input) → Dec (BlockNumberFault f 0)
 unfolding ℕ-discrete Dec·not
-placed f = Dec·not (ℕ-discrete (numberAt f (placeAt 0) 2) 0)
+numbered f = Dec·not (ℕ-discrete (numberAt f (blockNumberAt 0) 2) 0)
 
 unfoldable pub kinds : (f : Input) → Dec (KindFault f 0)
 unfolding either ℕ-discrete Dec·not
@@ -75,7 +75,7 @@ kinds f = either (Dec·not (ℕ-discrete (byte f (kindAt 0)) (kindOf f 0))) (Dec
 
 -- The first of 20 to 23 that the head is refused by, if it is.
 unfoldable pub headed : (f : Input) → Option ((number : ℕ) × FileRefused f number 0)
-unfolding lengthy checked placed kinds decLe
+unfolding lengthy checked numbered kinds decLe
 headed f =
     elim (lengthy f) [
       | yes w ↦ some (20, length-wrong w)
@@ -83,8 +83,8 @@ headed f =
         | no h ↦ none
         | yes h ↦ elim (checked f h) [
           | yes c ↦ some (21, head-wrong 21 w (check-refused c))
-          | no c ↦ elim (placed f) [
-            | yes p ↦ some (22, head-wrong 22 w (place-refused c p))
+          | no c ↦ elim (numbered f) [
+            | yes p ↦ some (22, head-wrong 22 w (block-number-refused c p))
             | no p ↦ elim (kinds f) [
               | yes k ↦ some (23, head-wrong 23 w (kind-refused c p k))
               | no k ↦ none

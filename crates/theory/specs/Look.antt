@@ -9,7 +9,7 @@ use native.Mathlib.Decide.{ℕ-discrete, decLe, decLt}
 use lib.ListN.{length, getD}
 use Rattle.meaning.specs.Number.{only}
 use Rattle.meaning.specs.Chain.{mostStates, mostEdges, M, mostReward, edgeSize, edgeCount, from, to, weight, rowSum}
-use Rattle.meaning.specs.Refusal.{Lent, Entry, workSize, Misshaped, no-states, many-states, denominators-length, edges-threes, many-edges, order-length, rewards-length, GoalFault, Outside, Same, whole, never, lentFault, faults, Refused, WellFormed}
+use Rattle.meaning.specs.Refusal.{Lent, Entry, workSize, Misshaped, no-states, many-states, denominators-length, edges-threes, many-edges, order-length, rewards-length, GoalFault, OutOfRange, Same, whole, never, lentFault, faults, Refused, WellFormed}
 use Rattle.theory.specs.Search.{turned, either, Clear, Least, at, nowhere, clear-none, ranged, anywhere}
 
 module _ (x : Entry) (states denominators edges order rewards : ℕ) where
@@ -53,9 +53,9 @@ module _ (x : Entry) (states denominators edges order rewards : ℕ) where
       (either (Dec·not (ℕ-discrete order (only (x .order) states)))
       (Dec·not (ℕ-discrete rewards (only (x .rewards) states)))))))))
 
-unfoldable pub outsides : (w : ℕ) → Dec (Outside w)
+unfoldable pub out-of-range : (w : ℕ) → Dec (OutOfRange w)
 unfolding either ℕ-discrete decLt
-outsides w = either (ℕ-discrete w 0) (decLt M w)
+out-of-range w = either (ℕ-discrete w 0) (decLt M w)
 
 unfoldable pub sames : (edges : List ℕ) (d e : ℕ) → Dec (Same edges d e)
 unfolding Dec·and ℕ-discrete
@@ -76,7 +76,7 @@ pub data Each : List (ℕ → Type 0) → Type 1 where
   more : {F : ℕ → Type 0} {fs : List (ℕ → Type 0)} → Least F → Each fs → Each (F ∷ fs)
 
 unfoldable pub sought : (x : Entry) (l : Lent) → Each (faults x l)
-unfolding wholly lently misshaped outsides sames ranged anywhere either decLt decLe ℕ-discrete Dec·not
+unfolding wholly lently misshaped out-of-range sames ranged anywhere either decLt decLe ℕ-discrete Dec·not
 sought x l =
     let c = l .chain in
     more (nowhere (λ q z. z))
@@ -84,9 +84,9 @@ sought x l =
     (more (lently (x .work) _ (wholly _ (decLt (length (l .work)) (workSize (c .states)))))
     (more (wholly _ (decLe (c .states) (c .start)))
     (more (wholly (GoalFault (c .states) (c .goals)) (either (ℕ-discrete (c .goals) 0) (decLe (2 ^ c .states) (c .goals))))
-    (more (ranged _ (c .states) (λ i. outsides (getD (c .denominators) i 0)))
+    (more (ranged _ (c .states) (λ i. out-of-range (getD (c .denominators) i 0)))
     (more (ranged _ (edgeCount (c .edges)) (λ e. either (decLe (c .states) (from (c .edges) e)) (decLe (c .states) (to (c .edges) e))))
-    (more (ranged _ (edgeCount (c .edges)) (λ e. outsides (weight (c .edges) e)))
+    (more (ranged _ (edgeCount (c .edges)) (λ e. out-of-range (weight (c .edges) e)))
     (more (ranged _ (edgeCount (c .edges)) (λ e. anywhere _ e (λ d. sames (c .edges) d e)))
     (more (ranged _ (c .states) (λ i. Dec·not (ℕ-discrete (rowSum (c .edges) i) (getD (c .denominators) i 0))))
     (more

@@ -34,18 +34,18 @@ gcd-scale k a b m w p q =
 
 lowest-one : {p q : ℕ} → Lowest p q → gcd p q ≡ 1
 lowest-one {p} {q} h =
-    h .prime (gcd p q) (p / gcd p q) (q / gcd p q) (sym (common-p p q (h .below))) (sym (common-q p q (h .below)))
+    h .prime (gcd p q) (p / gcd p q) (q / gcd p q) (sym (common-p p q (h .whole))) (sym (common-q p q (h .whole)))
 
 divides : {p q p' q' : ℕ} → Lowest p q → Lowest p' q' → p * q' ≡ p' * q → q ∣ q'
 divides {p} {q} {p'} {q'} h k e =
     rw (mul-one q') at
     (rw (lowest-one h) at
-    (gcd-scale q' p q q (k .below) (subst (λ z. q ∣ z) (omega arith) (dvd-mul-left q p')) (dvd-mul-left q q')))
+    (gcd-scale q' p q q (k .whole) (subst (λ z. q ∣ z) (omega arith) (dvd-mul-left q p')) (dvd-mul-left q q')))
 
 pub fraction-one : {p q p' q' : ℕ} → Lowest p q → Lowest p' q' → p * q' ≡ p' * q → (p ≡ p') × (q ≡ q')
 fraction-one {p} {q} {p'} {q'} h k e =
     let s : q ≡ q' = dvd-antisymm (divides h k e) (divides k h (sym e)) in
-    (eq-of-mul-eq-mul-right q (h .below) p p' (subst (λ z. p * z ≡ p' * q) (sym s) e), s)
+    (eq-of-mul-eq-mul-right q (h .whole) p p' (subst (λ z. p * z ≡ p' * q) (sym s) e), s)
 
 -- Of one fraction, a over b.
 pub reduced-one : {a b p q p' q' : ℕ} → 0 < b → Reduced a b p q → Reduced a b p' q' → (p ≡ p') × (q ≡ q')

@@ -98,7 +98,7 @@ no-stuck b x l formed lent k right free p h w =
 one-lowest : (p : ℕ) → Lowest p 1
 one-lowest p =
     record {
-      below = omega arith;
+      whole = omega arith;
       prime = λ k a b e f. eq-one-of-dvd-one (subst (λ z. k ∣ z) (sym f) (dvd-mul-right k b));
     }
 

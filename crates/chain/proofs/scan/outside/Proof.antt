@@ -1,7 +1,7 @@
 use mathlib.Core.Logic.{⊎-elim, inl, inr}
 use Rattle.chain.proofs.Law.{compares}
 use Rattle.meaning.specs.Chain.{M}
-use Rattle.meaning.specs.Refusal.{Outside}
+use Rattle.meaning.specs.Refusal.{OutOfRange}
 use Rattle.chain.proofs.scan.outside.Statement.{statement}
 use Rattle.chain.proofs.scan.outside.Tie as tie
 
@@ -11,7 +11,7 @@ returns c = inl (c .if1 .taken)
 returns-2 : tie.Need-returns-2
 returns-2 c =
     let x = c .before .args .x in
-    compares (Outside x) M x inr (⊎-elim (λ z. absurd (c .if1 .left z)) (λ h. h))
+    compares (OutOfRange x) M x inr (⊎-elim (λ z. absurd (c .if1 .left z)) (λ h. h))
 
 pub outside-spec : {M : Type 1} → statement M
 outside-spec = tie.close (tie.spec returns returns-2)

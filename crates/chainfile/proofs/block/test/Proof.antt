@@ -1,5 +1,5 @@
 use borrow.Author.Needs.{needs}
-use Rattle.meaning.specs.File.{CheckFault, PlaceFault, KindFault, ContentFault, BlockRefused}
+use Rattle.meaning.specs.File.{CheckFault, BlockNumberFault, KindFault, ContentFault, BlockRefused}
 use Rattle.chain.proofs.Law.{holds, fails}
 use Rattle.chainfile.specs.Input.{input}
 use Rattle.chainfile.proofs.Tested.{right}
@@ -10,8 +10,8 @@ use Rattle.chainfile.proofs.block.test.Tie as tie
 checks : (c : tie.Else1) → let a = c .before .before .before .args in CheckFault (input (a .kept .now) 0) (a .b) → ⊥
 checks c = fails _ (c .before .check-wrong .ensures) (c .if1 .left)
 
-places : (c : tie.Else2) → let a = c .before .before .before .before .before .args in PlaceFault (input (a .kept .now) 0) (a .b) → ⊥
-places c = fails _ (c .before .place-wrong .ensures) (c .if2 .left)
+numbers : (c : tie.Else2) → let a = c .before .before .before .before .before .args in BlockNumberFault (input (a .kept .now) 0) (a .b) → ⊥
+numbers c = fails _ (c .before .block-number-wrong .ensures) (c .if2 .left)
 
 kinds : (c : tie.Else3) → let a = c .before .before .before .before .before .before .before .args in KindFault (input (a .kept .now) 0) (a .b) → ⊥
 kinds c = fails _ (c .before .kind-wrong .ensures) (c .if3 .left)
@@ -20,18 +20,18 @@ returns : tie.Need-returns
 returns c = λ more. BlockRefused.check-refused (holds _ (c .before .check-wrong .ensures) (c .if1 .taken))
 
 returns-2 : tie.Need-returns-2
-returns-2 c = λ more. BlockRefused.place-refused (checks (c .before .before)) (holds _ (c .before .place-wrong .ensures) (c .if2 .taken))
+returns-2 c = λ more. BlockRefused.block-number-refused (checks (c .before .before)) (holds _ (c .before .block-number-wrong .ensures) (c .if2 .taken))
 
 returns-3 : tie.Need-returns-3
 returns-3 c = λ more.
     let d = c .before .before in
-    BlockRefused.kind-refused (checks (d .before .before)) (places d) (holds _ (c .before .kind-wrong .ensures) (c .if3 .taken))
+    BlockRefused.kind-refused (checks (d .before .before)) (numbers d) (holds _ (c .before .kind-wrong .ensures) (c .if3 .taken))
 
 returns-4 : tie.Need-returns-4
 returns-4 c = λ more.
     let d = c .before .before in
     let e = d .before .before in
-    BlockRefused.content-refused (checks (e .before .before)) (places e) (kinds d)
+    BlockRefused.content-refused (checks (e .before .before)) (numbers e) (kinds d)
     (holds (ContentFault (input (e .before .before .before .before .before .args .kept .now) more) (e .before .before .before .before .before .args .b))
     (c .before .content-wrong .ensures more) (c .if4 .taken))
 
@@ -40,7 +40,7 @@ returns-5 c = λ more.
     let d = c .before .before in
     let e = d .before .before in
     let a = e .before .before .before .before .before .args in
-    right (input (a .kept .now) more) (a .b) (checks (e .before .before)) (places e) (kinds d)
+    right (input (a .kept .now) more) (a .b) (checks (e .before .before)) (numbers e) (kinds d)
     (fails (ContentFault (input (a .kept .now) more) (a .b)) (c .before .content-wrong .ensures more) (c .if4 .left))
 
 pub test-spec : {M : Type 1} → statement M
