@@ -7,7 +7,7 @@ use mathlib.Core.List.{List}
 use native.Mathlib.Omega.{arith}
 use lib.ListN.{getD}
 use Rattle.meaning.specs.Chain.{mostStates, mostEdges}
-use Rattle.meaning.specs.Block.{numberAt, countAt, recordsAt, checkAt, recordSize, headStates, headEdges}
+use Rattle.meaning.specs.Block.{numberAt, countAt, recordsAt, checkAt, recordSize, headStates, headEdges, headZeros}
 use Rattle.meaning.specs.File.{ContentFault, kindOf, countOf}
 use Rattle.chain.specs.Least.{decides}
 use Rattle.chainfile.specs.Input.{input, NonZero}
@@ -17,7 +17,7 @@ use Rattle.chainfile.proofs.Turn.{kind-head, at-head}
 
 -- Of the head's faults none but a reserved byte is left.
 pub head-rest : {kept : List ℕ} → let f = input kept 0 in (headStates f ≡ 0 → ⊥) → headStates f ≤ mostStates → (headEdges f ≡ 0 → ⊥)
-    → headEdges f ≤ mostEdges → HeadFault kept → NonZero kept (recordsAt 0 + 4) (recordsAt 0 + recordSize)
+    → headEdges f ≤ mostEdges → HeadFault kept → NonZero kept (recordsAt 0 + headZeros) (recordsAt 0 + recordSize)
 head-rest a b c d (HeadFault.states-fault s) = absurd (⊎-elim a (λ h. omega arith) s)
 head-rest a b c d (HeadFault.edges-fault s) = absurd (⊎-elim c (λ h. omega arith) s)
 head-rest a b c d (HeadFault.reserved-fault n) = n

@@ -9,7 +9,7 @@ use lib.ListN.{length, getD, set, drop, length-set, length-append, length-drop, 
 use lib.Seq.{ext-getD, getD-set-same, getD-set-other, getD-append-add, getD-drop}
 use Rattle.meaning.specs.Number.{sumTo, tabFrom}
 use Rattle.meaning.specs.Chain.{mostStates, mostEdges, edgeSize}
-use Rattle.meaning.specs.Block.{Input, byte, numberAt, headStates, stateAt, fromIn, toIn, weightIn}
+use Rattle.meaning.specs.Block.{Input, byte, numberAt, headStates, stateAt, orderByte, fromIn, toIn, weightIn}
 use Rattle.meaning.specs.File.{Tables, Short, filled, denominatorsIn, ordersIn, edgeNumber}
 use Rattle.theory.specs.Sum.{below, last-or-below}
 use Rattle.theory.specs.Tab.{tab-at, tab-length}
@@ -101,5 +101,5 @@ module _ (f : Input) (t : List ℕ) where
   pub denominators-are : filled (tabFrom 0 (headStates f) (λ i. numberAt f (stateAt i + 0) 4)) t ≡ filled (denominatorsIn f) t
   denominators-are = ap (λ l. filled l t) (tab-same 0 (headStates f) _ _ (λ j. ap (λ z. numberAt f z 4) (add-zero (stateAt j))))
 
-  pub orders-are : filled (tabFrom 0 (headStates f) (λ i. numberAt f (stateAt i + 7) 1)) t ≡ filled (ordersIn f) t
-  orders-are = ap (λ l. filled l t) (tab-same 0 (headStates f) _ _ (λ j. one-byte f (stateAt j + 7)))
+  pub orders-are : filled (tabFrom 0 (headStates f) (λ i. numberAt f (stateAt i + orderByte) 1)) t ≡ filled (ordersIn f) t
+  orders-are = ap (λ l. filled l t) (tab-same 0 (headStates f) _ _ (λ j. one-byte f (stateAt j + orderByte)))

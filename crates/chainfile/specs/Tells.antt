@@ -1,8 +1,7 @@
 -- What the answers tell.
-use Prim.Native.Nat.{ℕ, _*_, _≤_, _<_}
-use mathlib.Core.Logic.{_⊎_}
+use Prim.Native.Nat.{ℕ, _≤_, _<_}
 use mathlib.Core.List.{List}
-use Rattle.meaning.specs.Chain.{mostStates, mostEdges, edgeSize}
+use Rattle.meaning.specs.Chain.{mostStates, mostEdges}
 use Rattle.meaning.specs.Block.{Input, demanded, headStates, headEdges, flagIn}
 use Rattle.meaning.specs.File.{BlockRefused, BlockRight, FileRefused, Accepted, Tables, Reading as Answer, noReading}
 use Rattle.chainfile.specs.declared.block.Block.{Block}
@@ -42,11 +41,6 @@ pub record Within (f : Input) : Type 0 where
 abbrev pub tables : List ℕ → List ℕ → List ℕ → List ℕ → Tables
 tables denominators edges order rewards =
     record { denominators = denominators; edges = edges; order = order; rewards = rewards }
-
--- A table of one of these lengths is short.
-abbrev pub ShortOf : ℕ → ℕ → ℕ → ℕ → Type 0
-ShortOf denominators edges order rewards =
-    (denominators < mostStates) ⊎ (edges < edgeSize * mostEdges) ⊎ (order < mostStates) ⊎ (rewards < mostStates)
 
 -- The numbers of each answer.
 abbrev pub told : Reading → Answer

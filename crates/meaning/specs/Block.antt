@@ -45,8 +45,12 @@ countAt b = blockAt b + 4
 abbrev pub recordsAt : ℕ → ℕ
 recordsAt b = blockAt b + 6
 
+-- How many bytes of a block are checked: all but the check itself.
+abbrev pub checkedBytes : ℕ
+checkedBytes = 510
+
 abbrev pub checkAt : ℕ → ℕ
-checkAt b = blockAt b + 510
+checkAt b = blockAt b + checkedBytes
 
 abbrev pub recordSize : ℕ
 recordSize = 8
@@ -71,10 +75,6 @@ checkModulus = 255
 abbrev pub checkBegin : ℕ
 checkBegin = 0
 
--- How many bytes of a block are checked: all but the check itself.
-abbrev pub checkedBytes : ℕ
-checkedBytes = 510
-
 -- How many blocks hold that many records: every block but the last of its kind is full.
 abbrev pub blocksOf : ℕ → ℕ
 blocksOf records = (records + (fullBlock - 1)) / fullBlock
@@ -88,6 +88,10 @@ headStart f = byte f (recordsAt 0 + 1)
 
 abbrev pub headEdges : Input → ℕ
 headEdges f = numberAt f (recordsAt 0 + 2) 2
+
+-- Where the head's four zeros begin.
+abbrev pub headZeros : ℕ
+headZeros = 4
 
 -- How many blocks the head demands: itself, the states' and the edges'.
 abbrev pub stateBlocks : Input → ℕ
@@ -110,11 +114,18 @@ denominatorIn f i = numberAt f (stateAt i) 4
 abbrev pub rewardIn : Input → ℕ → ℕ
 rewardIn f i = numberAt f (stateAt i + 4) 2
 
+-- Which byte of a state's record is the goal flag, and which the order's entry.
+abbrev pub flagByte : ℕ
+flagByte = 6
+
+abbrev pub orderByte : ℕ
+orderByte = 7
+
 abbrev pub flagIn : Input → ℕ → ℕ
-flagIn f i = byte f (stateAt i + 6)
+flagIn f i = byte f (stateAt i + flagByte)
 
 abbrev pub orderIn : Input → ℕ → ℕ
-orderIn f i = byte f (stateAt i + 7)
+orderIn f i = byte f (stateAt i + orderByte)
 
 -- An edge's record: from (1), to (1), two zeros, weight (4).
 abbrev pub edgeAt : Input → ℕ → ℕ
@@ -126,5 +137,12 @@ fromIn f e = byte f (edgeAt f e)
 abbrev pub toIn : Input → ℕ → ℕ
 toIn f e = byte f (edgeAt f e + 1)
 
+-- Where an edge's two zeros begin, and its weight after them.
+abbrev pub edgeZeros : ℕ
+edgeZeros = 2
+
+abbrev pub weightByte : ℕ
+weightByte = 4
+
 abbrev pub weightIn : Input → ℕ → ℕ
-weightIn f e = numberAt f (edgeAt f e + 4) 4
+weightIn f e = numberAt f (edgeAt f e + weightByte) 4

@@ -30,14 +30,18 @@ use Rattle.meaning.specs.Block.{
   headStates,
   headStart,
   headEdges,
+  headZeros,
   stateBlocks,
   demanded,
   denominatorIn,
   rewardIn,
+  flagByte,
   flagIn,
   orderIn,
   fromIn,
   toIn,
+  edgeZeros,
+  weightByte,
   weightIn,
 }
 
@@ -84,9 +88,9 @@ pub data ContentFault (f : Input) (b : ℕ) : Type 0 where
   rest-wrong : (j : ℕ) → recordsAt b + recordSize * countOf f b ≤ j → j < checkAt b → (byte f j ≡ 0 → ⊥) → ContentFault f b
   states-wrong : b ≡ 0 → (headStates f ≡ 0) ⊎ (mostStates < headStates f) → ContentFault f b
   edges-wrong : b ≡ 0 → (headEdges f ≡ 0) ⊎ (mostEdges < headEdges f) → ContentFault f b
-  head-reserved : kindOf f b ≡ 1 → (j : ℕ) → 4 ≤ j → j < recordSize → (recordByte f b 0 j ≡ 0 → ⊥) → ContentFault f b
-  flag-wrong : kindOf f b ≡ 2 → (r : ℕ) → r < countOf f b → 1 < recordByte f b r 6 → ContentFault f b
-  edge-reserved : kindOf f b ≡ 3 → (r : ℕ) → r < countOf f b → (j : ℕ) → 2 ≤ j → j < 4 → (recordByte f b r j ≡ 0 → ⊥) → ContentFault f b
+  head-reserved : kindOf f b ≡ 1 → (j : ℕ) → headZeros ≤ j → j < recordSize → (recordByte f b 0 j ≡ 0 → ⊥) → ContentFault f b
+  flag-wrong : kindOf f b ≡ 2 → (r : ℕ) → r < countOf f b → 1 < recordByte f b r flagByte → ContentFault f b
+  edge-reserved : kindOf f b ≡ 3 → (r : ℕ) → r < countOf f b → (j : ℕ) → edgeZeros ≤ j → j < weightByte → (recordByte f b r j ≡ 0 → ⊥) → ContentFault f b
 
 -- Block b is refused: 21, 22, 23 and 24 are tested in turn.
 pub data BlockRefused (f : Input) (b : ℕ) : ℕ → Type 0 where
@@ -155,12 +159,13 @@ pub record Tables : Type 0 where
   pub order : List ℕ
   pub rewards : List ℕ
 
+-- 2: one of these lengths, or of these tables, is under the largest chain's size.
+abbrev pub ShortOf : ℕ → ℕ → ℕ → ℕ → Type 0
+ShortOf denominators edges order rewards =
+    (denominators < mostStates) ⊎ (edges < edgeSize * mostEdges) ⊎ (order < mostStates) ⊎ (rewards < mostStates)
+
 abbrev pub Short : Tables → Type 0
-Short t =
-    (length (t .denominators) < mostStates)
-    ⊎ (length (t .edges) < edgeSize * mostEdges)
-    ⊎ (length (t .order) < mostStates)
-    ⊎ (length (t .rewards) < mostStates)
+Short t = ShortOf (length (t .denominators)) (length (t .edges)) (length (t .order)) (length (t .rewards))
 
 -- A list at the front of a table; entries past the list's own stay.
 abbrev pub filled : List ℕ → List ℕ → List ℕ

@@ -1,13 +1,14 @@
 use Prim.Native.Nat.{_+_, _*_, _-_}
 use native.Mathlib.Omega.{arith}
 use borrow.Author.Needs.{needs}
+use Rattle.meaning.specs.Block.{recordSize, edgeZeros, weightByte}
 use Rattle.chain.proofs.Law.{Passed, pass, holds, fails}
 use Rattle.chainfile.specs.Input.{NonZero}
 use Rattle.chainfile.proofs.records.reserved_wrong.Statement.{statement}
 use Rattle.chainfile.proofs.records.reserved_wrong.Tie as tie
 
 abbrev Inv-loop : tie.InvT-loop
-Inv-loop kept at count i₀ i = Passed (λ k. NonZero kept (at + 8 * k + 2) (at + 8 * k + 4)) count i
+Inv-loop kept at count i₀ i = Passed (λ k. NonZero kept (at + recordSize * k + edgeZeros) (at + recordSize * k + weightByte)) count i
 
 abbrev μ-loop : tie.MeasureT-loop
 μ-loop kept at count i₀ i = count - i
