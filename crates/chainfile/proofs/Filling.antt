@@ -7,10 +7,10 @@ use native.Mathlib.Nat.{add-zero}
 use native.Mathlib.Omega.{arith}
 use lib.ListN.{length, getD, set, drop, length-set, length-append, length-drop, List·getD-append}
 use lib.Seq.{ext-getD, getD-set-same, getD-set-other, getD-append-add, getD-drop}
-use Rattle.meaning.specs.Number.{sumTo, tabFrom}
+use Rattle.meaning.specs.Number.{sumTo, tabFrom, filled}
 use Rattle.meaning.specs.Chain.{mostStates, mostEdges, edgeSize}
 use Rattle.meaning.specs.Block.{Input, byte, numberAt, headStates, stateAt, orderByte, fromIn, toIn, weightIn}
-use Rattle.meaning.specs.File.{Tables, Short, filled, denominatorsIn, ordersIn, edgeNumber}
+use Rattle.meaning.specs.File.{Tables, Short, denominatorsIn, ordersIn, edgeNumber}
 use Rattle.theory.specs.Sum.{below, last-or-below}
 use Rattle.theory.specs.Tab.{tab-at, tab-length}
 

@@ -2,10 +2,10 @@
 ghost use mathlib.Core.Path.{_≡_};
 ghost use Prim.Native.Nat.{_+_, _*_, _/_, _≤_, _<_};
 ghost use lib.ListN.{length};
-ghost use Rattle.meaning.specs.Number.{tabFrom};
+ghost use Rattle.meaning.specs.Number.{tabFrom, filled};
 ghost use Rattle.meaning.specs.Chain.{edgeSize};
 ghost use Rattle.meaning.specs.Block.{numberAt, recordSize, fullBlock, headStates, headEdges, recordAt, stateAt};
-ghost use Rattle.meaning.specs.File.{ShortOf, Short, filled, filledIn, edgesIn, goalsIn};
+ghost use Rattle.meaning.specs.File.{ShortOf, Short, filledIn, edgesIn, goalsIn};
 ghost use Rattle.chain.specs.Least.{decides};
 ghost use Rattle.chainfile.specs.Input.{input, mostBlocks, end};
 ghost use Rattle.chainfile.specs.Tells.{Within, tables};

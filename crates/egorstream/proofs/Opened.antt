@@ -6,11 +6,11 @@ use mathlib.Core.List.{List}
 use native.Mathlib.Omega.{arith}
 use lib.ListN.{length, take, drop, replicate, length-append, length-replicate}
 use lib.Seq.{take-at}
-use Rattle.meaning.specs.Number.{tabFrom}
+use Rattle.meaning.specs.Number.{tabFrom, filled}
 use Rattle.meaning.specs.Chain.{mostStates, mostEdges, edgeSize}
 use Rattle.meaning.specs.Refusal.{workSize}
 use Rattle.meaning.specs.Block.{Input, headEdges, denominatorIn, rewardIn, orderIn}
-use Rattle.meaning.specs.File.{FileRefused, filled, edgeNumber, Tables, Short, Reading as Numbers, reading, ReadOutcome}
+use Rattle.meaning.specs.File.{FileRefused, edgeNumber, Tables, Short, Reading as Numbers, reading, ReadOutcome}
 use Rattle.theory.specs.Tab.{tab-length}
 use Rattle.chain.specs.declared.Chain.{Chain as Frame}
 use Rattle.chainfile.specs.Tells.{told, tables}

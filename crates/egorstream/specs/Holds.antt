@@ -3,11 +3,12 @@ use Prim.Native.Nat.{ℕ, _<_}
 use mathlib.Core.Path.{_≡_}
 use mathlib.Core.List.{List}
 use lib.ListN.{length}
+use Rattle.meaning.specs.Number.{filled}
 use Rattle.meaning.specs.Refusal.{Lent}
 use Rattle.meaning.specs.Block.{Input}
-use Rattle.meaning.specs.File.{Accepted, filled}
+use Rattle.meaning.specs.File.{Accepted}
 use Rattle.meaning.specs.Outcome.{Answer, ChanceOutcome, Bounds, BoundsOutcome}
-use Rattle.meaning.specs.Call.{answerBytes, written, Said}
+use Rattle.meaning.specs.Call.{answerBytes, Said}
 use Rattle.meaning.specs.Report.{paidIn, Printing, printing, noPrinting}
 use Rattle.chain.specs.declared.Chain.{Chain}
 use Rattle.egorstream.specs.Found.{ours}
@@ -22,7 +23,7 @@ pub record Holds (f : Input) (c : Chain) (denominators edges order rewards : Lis
 -- The answer bytes once an engine has answered or refused.
 pub data Replied (number : ℕ) (bytes before : List ℕ) (returned : ℕ) (after : List ℕ) : Type 0 where
   refused : 0 < number → returned ≡ number → after ≡ before → Replied number bytes before returned after
-  answered : number ≡ 0 → returned ≡ 0 → after ≡ written bytes before → Replied number bytes before returned after
+  answered : number ≡ 0 → returned ≡ 0 → after ≡ filled bytes before → Replied number bytes before returned after
 
 -- The exact engine's fraction is written twice.
 pub record Exactly (l : Lent) (before : List ℕ) (returned : ℕ) (after : List ℕ) : Type 0 where

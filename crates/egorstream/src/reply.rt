@@ -2,7 +2,8 @@
 ghost use mathlib.Core.Path.{_≡_};
 ghost use Prim.Native.Nat.{_≤_};
 ghost use lib.ListN.{length};
-ghost use Rattle.meaning.specs.Call.{answerLength, fourBytes, answerBytes, written};
+ghost use Rattle.meaning.specs.Number.{filled};
+ghost use Rattle.meaning.specs.Call.{answerLength, fourBytes, answerBytes};
 ghost use Rattle.egorstream.specs.Written.{Room, Written};
 use crate::text::byte;
 
@@ -23,7 +24,7 @@ fn four(answer: &mut [u8], at: usize, x: u64) -> usize
 // p over q and s over t, numerators first. Bytes beyond these stay.
 pub(crate) fn reply(answer: &mut [u8], p: u64, q: u64, s: u64, t: u64)
     requires { ⌜ answerLength ≤ length (now answer) ⌝ }
-    ensures { λ _. ⌜ now (answer .exit) ≡ written (answerBytes p q s t) (now (answer .entry)) ⌝ }
+    ensures { λ _. ⌜ now (answer .exit) ≡ filled (answerBytes p q s t) (now (answer .entry)) ⌝ }
 {
     let second = four(answer, 0, p);
     let third = four(answer, second, q);

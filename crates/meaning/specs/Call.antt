@@ -2,8 +2,8 @@
 use Prim.Native.Nat.{ℕ, _+_, _*_, _/_, _%_, _^_, _≤_, _<_}
 use mathlib.Core.Path.{_≡_}
 use mathlib.Core.List.{List, _++_}
-use lib.ListN.{length, getD, drop}
-use Rattle.meaning.specs.Number.{sumTo, tabFrom}
+use lib.ListN.{length, getD}
+use Rattle.meaning.specs.Number.{sumTo, tabFrom, filled}
 use Rattle.meaning.specs.Outcome.{Answer, ChanceOutcome, Bounds, between, BoundsOutcome}
 use Rattle.meaning.specs.Block.{Input}
 use Rattle.meaning.specs.File.{FileRefused, Accepted}
@@ -36,10 +36,6 @@ answerNumber answer i = sumTo (λ j. getD answer (4 * i + j) 0 * 256 ^ j) 4
 abbrev pub answerRead : List ℕ → Bounds
 answerRead answer = between (answerNumber answer 0) (answerNumber answer 1) (answerNumber answer 2) (answerNumber answer 3)
 
--- The answer bytes where it answers: bytes beyond 16 stay.
-abbrev pub written : List ℕ → List ℕ → List ℕ
-written bytes before = bytes ++ drop answerLength before
-
 -- The file as an input: all of its bytes are kept.
 abbrev pub wholeFile : List ℕ → Input
 wholeFile file = record { kept = file; more = 0 }
@@ -54,7 +50,7 @@ pub data Said (f : Input) (mode number : ℕ) (bytes : List ℕ) : Type 0 where
       → Said f mode number bytes
 
 -- What the call returns, and the answer bytes afterwards: the mode is tested, then the answer's length, then the file, then the chain. On a
--- refusal the answer bytes stay.
+-- refusal the answer bytes stay, and bytes beyond 16 always do.
 pub data CallOutcome (file : List ℕ) (mode : ℕ) (before : List ℕ) (returned : ℕ) (after : List ℕ) : Type 0 where
   mode-wrong : boundsMode < mode → returned ≡ 1 → after ≡ before → CallOutcome file mode before returned after
   answer-short : mode ≤ boundsMode → length before < answerLength → returned ≡ 2 → after ≡ before
@@ -65,4 +61,4 @@ pub data CallOutcome (file : List ℕ) (mode : ℕ) (before : List ℕ) (returne
       → Said (wholeFile file) mode number bytes → 0 < number → returned ≡ number → after ≡ before
       → CallOutcome file mode before returned after
   answered : mode ≤ boundsMode → answerLength ≤ length before → Accepted (wholeFile file) → (bytes : List ℕ)
-      → Said (wholeFile file) mode 0 bytes → returned ≡ 0 → after ≡ written bytes before → CallOutcome file mode before returned after
+      → Said (wholeFile file) mode 0 bytes → returned ≡ 0 → after ≡ filled bytes before → CallOutcome file mode before returned after

@@ -2,10 +2,10 @@
 use Prim.Native.Nat.{ℕ, _+_, _*_, _-_, _/_, _%_, _^_, _≤_, _<_, min}
 use mathlib.Core.Path.{_≡_}
 use mathlib.Core.Logic.{_⊎_}
-use mathlib.Core.List.{List, _++_}
-use lib.ListN.{length, drop}
+use mathlib.Core.List.{List}
+use lib.ListN.{length}
 use lib.Dec.{eqb, leb}
-use Rattle.meaning.specs.Number.{sumTo, choose, tabFrom}
+use Rattle.meaning.specs.Number.{sumTo, choose, tabFrom, filled}
 use Rattle.meaning.specs.Chain.{mostStates, mostEdges, Chain, edgeSize}
 use Rattle.meaning.specs.Block.{
   Input,
@@ -167,10 +167,7 @@ ShortOf denominators edges order rewards =
 abbrev pub Short : Tables → Type 0
 Short t = ShortOf (length (t .denominators)) (length (t .edges)) (length (t .order)) (length (t .rewards))
 
--- A list at the front of a table; entries past the list's own stay.
-abbrev pub filled : List ℕ → List ℕ → List ℕ
-filled l t = l ++ drop (length l) t
-
+-- Entries past the chain's own stay.
 abbrev pub filledIn : Input → Tables → Tables
 filledIn f t =
     record {

@@ -1,8 +1,9 @@
--- Whole numbers: the few words about sums, choices, bits and divisors that the other definitions are written in.
+-- Whole numbers: the few words about sums, choices, bits, lists and divisors that the other definitions are written in.
 use Prim.Native.Nat.{ℕ, zero, suc, _+_, _*_, _/_, _%_, _^_, _<_, _∣_}
 use mathlib.Core.Path.{_≡_}
 use mathlib.Core.Bool.{Bool, true, false}
-use mathlib.Core.List.{List, [], _∷_}
+use mathlib.Core.List.{List, [], _∷_, _++_}
+use lib.ListN.{length, drop}
 use lib.Dec.{eqb}
 
 -- The sum of f 0, f 1, .., f (n - 1).
@@ -28,6 +29,10 @@ bit s i = s / 2 ^ i % 2
 unfoldable pub tabFrom {ℓ} : {A : Type ℓ} → ℕ → ℕ → (ℕ → A) → List A
 tabFrom i zero f = []
 tabFrom i (suc n) f = f i ∷ tabFrom (suc i) n f
+
+-- A list at the front of a table; what is past the list's own stays.
+abbrev pub filled : List ℕ → List ℕ → List ℕ
+filled l t = l ++ drop (length l) t
 
 -- g divides a and b, and whatever divides both divides g.
 pub record Greatest (a b g : ℕ) : Type 0 where

@@ -4,7 +4,7 @@ use mathlib.Core.Path.{_≡_}
 use mathlib.Core.List.{List, [], _++_}
 use lib.ListN.{length, replicate}
 use lib.Dec.{eqb}
-use Rattle.meaning.specs.Number.{choose}
+use Rattle.meaning.specs.Number.{choose, filled}
 use Rattle.meaning.specs.Chain.{mostStates, Goal, Live}
 use Rattle.meaning.specs.Refusal.{Lent, paid, workSize, Refused, WellFormed}
 use Rattle.meaning.specs.Outcome.{
@@ -16,7 +16,7 @@ use Rattle.meaning.specs.Outcome.{
 }
 use Rattle.meaning.specs.Survey.{Count}
 use Rattle.meaning.specs.Block.{Input, headStates, headEdges}
-use Rattle.meaning.specs.File.{FileRefused, Accepted, chainIn, ordersIn, rewardsIn, filled}
+use Rattle.meaning.specs.File.{FileRefused, Accepted, chainIn, ordersIn, rewardsIn}
 use Rattle.meaning.specs.Text.{bytesOf, decimal}
 
 -- What an entry is lent of an accepted file. The work table is the program's own, and holds zeros.

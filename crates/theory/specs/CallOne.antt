@@ -3,10 +3,11 @@ use Prim.Native.Nat.{ℕ}
 use mathlib.Core.Path.{_≡_, sym, ap, _∙_}
 use mathlib.Core.List.{List}
 use native.Mathlib.Omega.{arith}
+use Rattle.meaning.specs.Number.{filled}
 use Rattle.meaning.specs.Outcome.{Answer, Bounds}
 use Rattle.meaning.specs.Block.{Input}
 use Rattle.meaning.specs.Report.{plainIn}
-use Rattle.meaning.specs.Call.{answerBytes, written, Said, CallOutcome, mode-wrong, answer-short, file-refused, chain-refused, answered}
+use Rattle.meaning.specs.Call.{answerBytes, Said, CallOutcome, mode-wrong, answer-short, file-refused, chain-refused, answered}
 use Rattle.theory.specs.Entries.{chance-determined, bounds-determined}
 use Rattle.theory.specs.FileOne.{file-one, not-both}
 
@@ -56,4 +57,4 @@ call-one (answered m l a b s e k) (answer-short m′ l′ e′ k′) = absurd (o
 call-one (answered m l a b s e k) (file-refused m′ l′ n′ p′ r′ e′ k′) = absurd (not-both a r′)
 call-one (answered m l a b s e k) (chain-refused m′ l′ a′ n′ b′ s′ z′ e′ k′) = absurd (omega (arith, said-one s s′ .0))
 call-one {before = before} (answered m l a b s e k) (answered m′ l′ a′ b′ s′ e′ k′) =
-    (e ∙ sym e′, k ∙ ap (λ b. written b before) (said-one s s′ .1) ∙ sym k′)
+    (e ∙ sym e′, k ∙ ap (λ b. filled b before) (said-one s s′ .1) ∙ sym k′)

@@ -5,7 +5,7 @@ use mathlib.Core.Bool.{Bool}
 use mathlib.Core.List.{List}
 use native.Mathlib.Omega.{arith}
 use native.Mathlib.Nat.{div-one, div-div-eq-div-mul}
-use Rattle.meaning.specs.Number.{sumTo, tabFrom}
+use Rattle.meaning.specs.Number.{sumTo, tabFrom, filled}
 use Rattle.meaning.specs.Chain.{M}
 use Rattle.meaning.specs.Figure.{Chance}
 use Rattle.meaning.specs.Step.{Sets}
@@ -15,7 +15,7 @@ use Rattle.meaning.specs.Outcome.{Outcome, refused, stopped, answered, Answer, 
 use Rattle.meaning.specs.Block.{Input}
 use Rattle.meaning.specs.File.{BlockRefused, FileRefused, chainIn}
 use Rattle.meaning.specs.Report.{plainIn}
-use Rattle.meaning.specs.Call.{exactMode, boundsMode, answerBytes, answerNumber, answerRead, written, wholeFile, Said, CallOutcome}
+use Rattle.meaning.specs.Call.{exactMode, boundsMode, answerBytes, answerNumber, answerRead, wholeFile, Said, CallOutcome}
 use Rattle.meaning.specs.Demand.{BothChance}
 use Rattle.theory.specs.DemandTwo.{chance-of}
 use Rattle.theory.specs.Small.{Small, BothSmall, chance-small, bounds-small}
@@ -31,7 +31,7 @@ four x h =
     let d = digits x (x / 256) (x / 65536) (x / 16777216) h refl (div-div-eq-div-mul x 256 256) (div-div-eq-div-mul x 65536 256) in
     omega (arith, d, div-one x)
 
-read-back : (p q s t : ℕ) (before : List ℕ) → Small p q → Small s t → answerRead (written (answerBytes p q s t) before) ≡ between p q s t
+read-back : (p q s t : ℕ) (before : List ℕ) → Small p q → Small s t → answerRead (filled (answerBytes p q s t) before) ≡ between p q s t
 unfolding sumTo tabFrom
 read-back p q s t before h k =
     λ i. between (four p (h .numerator) i) (four q (h .denominator) i) (four s (k .numerator) i) (four t (k .denominator) i)
@@ -70,11 +70,11 @@ file-above (FileRefused.block-wrong number b l t z m a w) = block-above w
 
 -- The numbers that an engine said are read back.
 reads : (before : List ℕ) {after bytes : List ℕ} {p q s t : ℕ} → Small p q → Small s t → bytes ≡ answerBytes p q s t
-    → after ≡ written bytes before → answerRead after ≡ between p q s t
-reads before {p = p} {q} {s} {t} h k e w = ap answerRead (w ∙ ap (λ b. written b before) e) ∙ read-back p q s t before h k
+    → after ≡ filled bytes before → answerRead after ≡ between p q s t
+reads before {p = p} {q} {s} {t} h k e w = ap answerRead (w ∙ ap (λ b. filled b before) e) ∙ read-back p q s t before h k
 
 module _ {file before after : List ℕ} {mode : ℕ} where
-  said : CallOutcome file mode before 0 after → (bytes : List ℕ) × Said (wholeFile file) mode 0 bytes × (after ≡ written bytes before)
+  said : CallOutcome file mode before 0 after → (bytes : List ℕ) × Said (wholeFile file) mode 0 bytes × (after ≡ filled bytes before)
   said (CallOutcome.mode-wrong m e k) = absurd (omega arith)
   said (CallOutcome.answer-short m l e k) = absurd (omega arith)
   said (CallOutcome.file-refused m l number place r e k) = absurd (omega (arith, file-above r))
@@ -87,7 +87,7 @@ module _ {file before after : List ℕ} {mode : ℕ} where
       × Chance (chainIn (wholeFile file)) (answerNumber after 2) (answerNumber after 3)
   call-chance m o = go (said o .1) (said o .2)
     where
-      go : {bytes : List ℕ} → Said (wholeFile file) mode 0 bytes → after ≡ written bytes before → BothChance (chainIn (wholeFile file)) (answerRead after)
+      go : {bytes : List ℕ} → Said (wholeFile file) mode 0 bytes → after ≡ filled bytes before → BothChance (chainIn (wholeFile file)) (answerRead after)
       go (Said.exactly m a w o e g) k =
           let h = chance-of (figure (λ (a : Answer). a .number) (λ n p. refl) (λ n p s. stop-above (s .stops)) o (sym e)) in
           let u = chance-small o in
@@ -98,7 +98,7 @@ module _ {file before after : List ℕ} {mode : ℕ} where
   pub call-bounds : mode ≡ boundsMode → CallOutcome file mode before 0 after → BoundsFigure (plainIn (wholeFile file)) (answerRead after)
   call-bounds m o = go (said o .1) (said o .2)
     where
-      go : {bytes : List ℕ} → Said (wholeFile file) mode 0 bytes → after ≡ written bytes before → BoundsFigure (plainIn (wholeFile file)) (answerRead after)
+      go : {bytes : List ℕ} → Said (wholeFile file) mode 0 bytes → after ≡ filled bytes before → BoundsFigure (plainIn (wholeFile file)) (answerRead after)
       go (Said.exactly m′ a w o e g) k = absurd (omega arith)
       go (Said.bounded m a w o e g) k =
           let h = figure (λ (a : Bounds). a .number) (λ n p. refl) (λ n p s. stop-above (s .stops)) o (sym e) in
@@ -109,7 +109,7 @@ module _ {file before after : List ℕ} {mode : ℕ} where
   pub call-small : CallOutcome file mode before 0 after → BothSmall (answerRead after)
   call-small o = go (said o .1) (said o .2)
     where
-      go : {bytes : List ℕ} → Said (wholeFile file) mode 0 bytes → after ≡ written bytes before → BothSmall (answerRead after)
+      go : {bytes : List ℕ} → Said (wholeFile file) mode 0 bytes → after ≡ filled bytes before → BothSmall (answerRead after)
       go (Said.exactly m a w o e g) k =
           let h = chance-small o in subst BothSmall (sym (reads before h h g k)) (h, h)
       go (Said.bounded m a w o e g) k =

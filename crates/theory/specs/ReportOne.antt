@@ -4,9 +4,9 @@ use mathlib.Core.Path.{_≡_, sym, ap, ap₂, _∙_}
 use mathlib.Core.List.{List, _++_}
 use native.Mathlib.Omega.{arith}
 use lib.ListN.{length}
+use Rattle.meaning.specs.Number.{filled}
 use Rattle.meaning.specs.Refusal.{Entry, Lent, Refused, WellFormed}
 use Rattle.meaning.specs.Block.{Input, headStates, headEdges}
-use Rattle.meaning.specs.File.{filled}
 use Rattle.meaning.specs.Text.{bytesOf}
 use Rattle.meaning.specs.Report.{plainIn, paidIn, refusedText, linesText, Report, Printing, printing, TextOutcome}
 use Rattle.theory.specs.Determined.{refused-one}
