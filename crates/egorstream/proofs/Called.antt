@@ -1,14 +1,16 @@
 -- From what an engine leaves of the answer bytes to the outcome of the call.
-use Prim.Native.Nat.{ℕ, _≤_}
+use Prim.Native.Nat.{ℕ, _≤_, _<_}
 use mathlib.Core.Path.{_≡_, refl, ap, subst}
+use mathlib.Core.Logic.{_⊎_, inl, inr, ⊎-elim}
 use mathlib.Core.List.{List, []}
+use native.Mathlib.Omega.{arith}
 use lib.ListN.{length}
 use Rattle.meaning.specs.Refusal.{Lent}
 use Rattle.meaning.specs.Outcome.{ChanceOutcome, BoundsOutcome}
 use Rattle.meaning.specs.Block.{Input}
-use Rattle.meaning.specs.File.{Accepted}
-use Rattle.meaning.specs.Report.{plainIn}
-use Rattle.meaning.specs.Call.{exactMode, boundsMode, answerLength, wholeFile, Said, CallOutcome}
+use Rattle.meaning.specs.File.{Accepted, plainIn}
+use Rattle.meaning.specs.Call.{defaultMode, exactMode, boundsMode, answerLength, wholeFile, Said, CallOutcome}
+use Rattle.theory.specs.Sum.{below}
 use Rattle.chain.specs.declared.Chain.{Chain}
 use Rattle.egorstream.specs.Found.{ours}
 use Rattle.egorstream.specs.Holds.{Holds, Replied, Exactly, Bounded, Asked}
@@ -18,6 +20,10 @@ unpaid : {f : Input} {c : Chain} {denominators edges order rewards : List ℕ} �
     → ours c denominators edges order [] ≡ plainIn f
 unpaid h = ap (λ (l : Lent). record { chain = l .chain; order = l .order; rewards = []; work = l .work }) (h .paid)
 
+-- A mode below that of the bounds is the default or exact.
+pub exact-mode : {mode : ℕ} → mode < boundsMode → (mode ≡ defaultMode) ⊎ (mode ≡ exactMode)
+exact-mode {mode} h = ⊎-elim (λ l. inl (omega arith)) (λ l. inr (omega arith)) (below mode exactMode)
+
 module _
     {f : Input}
     {c : Chain}
@@ -25,7 +31,7 @@ module _
     {denominators edges order rewards before after : List ℕ}
     (h : Holds f c denominators edges order rewards)
   where
-    pub exactly-asked : mode ≤ exactMode → Exactly (ours c denominators edges order []) before r after → Asked f mode before r after
+    pub exactly-asked : (mode ≡ defaultMode) ⊎ (mode ≡ exactMode) → Exactly (ours c denominators edges order []) before r after → Asked f mode before r after
     exactly-asked m e =
         let a = e .answer in
         record {

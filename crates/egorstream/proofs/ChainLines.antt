@@ -9,9 +9,9 @@ use Rattle.meaning.specs.Refusal.{Lent, plain, paid, bare, Refused, WellFormed}
 use Rattle.meaning.specs.Outcome.{Answer, Bounds, Outcome, ChanceOutcome, RewardFigure, RewardOutcome, BoundsOutcome}
 use Rattle.meaning.specs.Survey.{Count}
 use Rattle.meaning.specs.Block.{Input, headEdges}
-use Rattle.meaning.specs.File.{edgeNumber, FileRefused, Accepted}
+use Rattle.meaning.specs.File.{edgeNumber, paidIn, FileRefused, Accepted}
 use Rattle.meaning.specs.Text.{bytesOf}
-use Rattle.meaning.specs.Report.{refusedText, linesText, paidIn, Report, printing, TextOutcome, longest}
+use Rattle.meaning.specs.Report.{refusedText, linesText, Report, printing, TextOutcome, longest}
 use Rattle.theory.specs.Tab.{tab-length}
 use Rattle.theory.specs.Formed.{few-states, few-edges}
 use Rattle.theory.specs.Entails.{fewer}

@@ -6,10 +6,10 @@ use lib.ListN.{length}
 use Rattle.meaning.specs.Number.{filled}
 use Rattle.meaning.specs.Refusal.{Lent}
 use Rattle.meaning.specs.Block.{Input}
-use Rattle.meaning.specs.File.{Accepted}
+use Rattle.meaning.specs.File.{Accepted, paidIn}
 use Rattle.meaning.specs.Outcome.{Answer, ChanceOutcome, Bounds, BoundsOutcome}
 use Rattle.meaning.specs.Call.{answerBytes, Said}
-use Rattle.meaning.specs.Report.{paidIn, Printing, printing, noPrinting}
+use Rattle.meaning.specs.Report.{Printing, printing, noPrinting}
 use Rattle.chain.specs.declared.Chain.{Chain}
 use Rattle.egorstream.specs.Found.{ours}
 use Rattle.egorstream.specs.declared.report.Printed.{Printed}

@@ -12,7 +12,9 @@ use chain::Chain;
 use chain::edge;
 use chainfile::Reading;
 
-// The modes: the default, 0, means exact.
+// The modes: the default means exact.
+const DEFAULT: u32 = 0;
+
 const EXACT: u32 = 1;
 
 const BOUNDS: u32 = 2;
@@ -56,10 +58,10 @@ fn asked(
     requires { ⌜ (mode ≤ boundsMode) × (answerLength ≤ length (now answer)) ⌝ }
     ensures { λ r. ⌜ ((f : Input) (rewards : List ℕ) → Holds f c (now (denominators .entry)) (now (edges .entry)) (now (order .entry)) rewards → Asked f mode (now (answer .entry)) r (now (answer .exit))) ⌝ }
 {
-    if mode <= EXACT {
-        return exact(c, denominators, edges, order, answer);
+    match mode {
+        DEFAULT | EXACT => exact(c, denominators, edges, order, answer),
+        _ => between(c, denominators, edges, order, answer),
     }
-    between(c, denominators, edges, order, answer)
 }
 
 // The file is read into tables of the call's own.

@@ -1,15 +1,18 @@
 -- The call from C: file bytes, a mode and an answer of four 4-byte little-endian numbers.
 use Prim.Native.Nat.{ℕ, _+_, _*_, _/_, _%_, _^_, _≤_, _<_}
 use mathlib.Core.Path.{_≡_}
+use mathlib.Core.Logic.{_⊎_}
 use mathlib.Core.List.{List, _++_}
 use lib.ListN.{length, getD}
 use Rattle.meaning.specs.Number.{sumTo, tabFrom, filled}
 use Rattle.meaning.specs.Outcome.{Answer, ChanceOutcome, Bounds, between, BoundsOutcome}
 use Rattle.meaning.specs.Block.{Input}
-use Rattle.meaning.specs.File.{FileRefused, Accepted}
-use Rattle.meaning.specs.Report.{plainIn}
+use Rattle.meaning.specs.File.{FileRefused, Accepted, plainIn}
 
 -- Modes: 0 is the default and means exact, 1 exact, 2 bounds.
+abbrev pub defaultMode : ℕ
+defaultMode = 0
+
 abbrev pub exactMode : ℕ
 exactMode = 1
 
@@ -43,7 +46,7 @@ wholeFile file = record { kept = file; more = 0 }
 -- What the engine of a mode says of an accepted file: its number, 0 where it answers, and the bytes of its fractions; the exact engine's
 -- fraction stands twice.
 pub data Said (f : Input) (mode number : ℕ) (bytes : List ℕ) : Type 0 where
-  exactly : mode ≤ exactMode → (a : Answer) (w : List ℕ) → ChanceOutcome (plainIn f) a w → number ≡ a .number
+  exactly : (mode ≡ defaultMode) ⊎ (mode ≡ exactMode) → (a : Answer) (w : List ℕ) → ChanceOutcome (plainIn f) a w → number ≡ a .number
       → bytes ≡ answerBytes (a .numerator) (a .denominator) (a .numerator) (a .denominator) → Said f mode number bytes
   bounded : mode ≡ boundsMode → (a : Bounds) (w : List ℕ) → BoundsOutcome (plainIn f) a w → number ≡ a .number
       → bytes ≡ answerBytes (a .lowerNumerator) (a .lowerDenominator) (a .upperNumerator) (a .upperDenominator)

@@ -2,11 +2,12 @@
 use Prim.Native.Nat.{ℕ, _+_, _*_, _-_, _/_, _%_, _^_, _≤_, _<_, min}
 use mathlib.Core.Path.{_≡_}
 use mathlib.Core.Logic.{_⊎_}
-use mathlib.Core.List.{List}
-use lib.ListN.{length}
+use mathlib.Core.List.{List, []}
+use lib.ListN.{length, replicate}
 use lib.Dec.{eqb, leb}
 use Rattle.meaning.specs.Number.{sumTo, choose, tabFrom, filled}
 use Rattle.meaning.specs.Chain.{mostStates, mostEdges, Chain, edgeSize}
+use Rattle.meaning.specs.Refusal.{Lent, workSize}
 use Rattle.meaning.specs.Block.{
   Input,
   inputLength,
@@ -151,6 +152,23 @@ chainIn f =
       denominators = denominatorsIn f;
       edges = edgesIn f;
     }
+
+-- What an entry is lent of an accepted file. The work table is the caller's own, a program's or the C call's, and holds zeros.
+abbrev pub lentIn : Input → List ℕ → Lent
+lentIn f rewards =
+    record {
+      chain = chainIn f;
+      order = ordersIn f;
+      rewards = rewards;
+      work = replicate (workSize mostStates) 0;
+    }
+
+-- The entries for the chance and for the bounds are lent no rewards.
+abbrev pub plainIn : Input → Lent
+plainIn f = lentIn f []
+
+abbrev pub paidIn : Input → Lent
+paidIn f = lentIn f (rewardsIn f)
 
 -- The tables that the reader fills, lent at the largest chain's size or more.
 pub record Tables : Type 0 where

@@ -1,12 +1,12 @@
 -- The report: what the program prints for an input, byte for byte.
 use Prim.Native.Nat.{ℕ, _≤_, _<_}
 use mathlib.Core.Path.{_≡_}
-use mathlib.Core.List.{List, [], _++_}
-use lib.ListN.{length, replicate}
+use mathlib.Core.List.{List, _++_}
+use lib.ListN.{length}
 use lib.Dec.{eqb}
 use Rattle.meaning.specs.Number.{choose, filled}
-use Rattle.meaning.specs.Chain.{mostStates, Goal, Live}
-use Rattle.meaning.specs.Refusal.{Lent, paid, workSize, Refused, WellFormed}
+use Rattle.meaning.specs.Chain.{Goal, Live}
+use Rattle.meaning.specs.Refusal.{paid, Refused, WellFormed}
 use Rattle.meaning.specs.Outcome.{
   Answer,
   ChanceOutcome,
@@ -16,25 +16,8 @@ use Rattle.meaning.specs.Outcome.{
 }
 use Rattle.meaning.specs.Survey.{Count}
 use Rattle.meaning.specs.Block.{Input, headStates, headEdges}
-use Rattle.meaning.specs.File.{FileRefused, Accepted, chainIn, ordersIn, rewardsIn}
+use Rattle.meaning.specs.File.{FileRefused, Accepted, chainIn, plainIn, paidIn}
 use Rattle.meaning.specs.Text.{bytesOf, decimal}
-
--- What an entry is lent of an accepted file. The work table is the program's own, and holds zeros.
-abbrev pub lentIn : Input → List ℕ → Lent
-lentIn f rewards =
-    record {
-      chain = chainIn f;
-      order = ordersIn f;
-      rewards = rewards;
-      work = replicate (workSize mostStates) 0;
-    }
-
--- The entries for the chance and for the bounds are lent no rewards.
-abbrev pub plainIn : Input → Lent
-plainIn f = lentIn f []
-
-abbrev pub paidIn : Input → Lent
-paidIn f = lentIn f (rewardsIn f)
 
 -- A fraction, as 4375/4376.
 abbrev pub fractionText : ℕ → ℕ → List ℕ

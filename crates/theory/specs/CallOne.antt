@@ -1,13 +1,14 @@
 -- The call from C has one outcome for one file, mode and answer: what it returns, and the answer bytes afterwards.
 use Prim.Native.Nat.{ℕ}
 use mathlib.Core.Path.{_≡_, sym, ap, _∙_}
+use mathlib.Core.Logic.{_⊎_, ⊎-elim}
 use mathlib.Core.List.{List}
 use native.Mathlib.Omega.{arith}
 use Rattle.meaning.specs.Number.{filled}
 use Rattle.meaning.specs.Outcome.{Answer, Bounds}
 use Rattle.meaning.specs.Block.{Input}
-use Rattle.meaning.specs.Report.{plainIn}
-use Rattle.meaning.specs.Call.{answerBytes, Said, CallOutcome, mode-wrong, answer-short, file-refused, chain-refused, answered}
+use Rattle.meaning.specs.File.{plainIn}
+use Rattle.meaning.specs.Call.{defaultMode, exactMode, boundsMode, answerBytes, Said, CallOutcome, mode-wrong, answer-short, file-refused, chain-refused, answered}
 use Rattle.theory.specs.Entries.{chance-determined, bounds-determined}
 use Rattle.theory.specs.FileOne.{file-one, not-both}
 
@@ -17,14 +18,18 @@ exact-bytes a = answerBytes (a .numerator) (a .denominator) (a .numerator) (a .d
 bounds-bytes : Bounds → List ℕ
 bounds-bytes a = answerBytes (a .lowerNumerator) (a .lowerDenominator) (a .upperNumerator) (a .upperDenominator)
 
+-- No mode asks for both engines.
+pub modes-apart : {mode : ℕ} → (mode ≡ defaultMode) ⊎ (mode ≡ exactMode) → mode ≡ boundsMode → ⊥
+modes-apart m n = ⊎-elim (λ d. omega arith) (λ e. omega arith) m
+
 -- What the engine of a mode says is one.
 pub said-one : {f : Input} {mode n n′ : ℕ} {b b′ : List ℕ} → Said f mode n b → Said f mode n′ b′ → (n ≡ n′) × (b ≡ b′)
 unfolding exact-bytes bounds-bytes
 said-one {f} (Said.exactly m a w o e g) (Said.exactly m′ a′ w′ o′ e′ g′) =
     let q = chance-determined (plainIn f) o o′ .0 in
     (e ∙ ap (λ (a : Answer). a .number) q ∙ sym e′, g ∙ ap exact-bytes q ∙ sym g′)
-said-one (Said.exactly m a w o e g) (Said.bounded m′ a′ w′ o′ e′ g′) = absurd (omega arith)
-said-one (Said.bounded m a w o e g) (Said.exactly m′ a′ w′ o′ e′ g′) = absurd (omega arith)
+said-one (Said.exactly m a w o e g) (Said.bounded m′ a′ w′ o′ e′ g′) = absurd (modes-apart m m′)
+said-one (Said.bounded m a w o e g) (Said.exactly m′ a′ w′ o′ e′ g′) = absurd (modes-apart m′ m)
 said-one {f} (Said.bounded m a w o e g) (Said.bounded m′ a′ w′ o′ e′ g′) =
     let q = bounds-determined (plainIn f) o o′ .0 in
     (e ∙ ap (λ (a : Bounds). a .number) q ∙ sym e′, g ∙ ap bounds-bytes q ∙ sym g′)

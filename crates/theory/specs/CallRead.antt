@@ -1,6 +1,7 @@
 -- What the call from C answers, read back as four numbers: the chance twice, or the bounds. Each number is at most M, so 4 bytes hold it.
 use Prim.Native.Nat.{ℕ, _+_, _*_, _/_, _%_, _^_, _≤_, _<_}
 use mathlib.Core.Path.{_≡_, refl, sym, ap, subst, _∙_}
+use mathlib.Core.Logic.{_⊎_}
 use mathlib.Core.Bool.{Bool}
 use mathlib.Core.List.{List}
 use native.Mathlib.Omega.{arith}
@@ -13,11 +14,11 @@ use Rattle.meaning.specs.Refusal.{Lent, Entry, Applies}
 use Rattle.meaning.specs.Stop.{Stops, before-steps, in-step, at-turn}
 use Rattle.meaning.specs.Outcome.{Outcome, refused, stopped, answered, Answer, Bounds, between, BoundsFigure}
 use Rattle.meaning.specs.Block.{Input}
-use Rattle.meaning.specs.File.{BlockRefused, FileRefused, chainIn}
-use Rattle.meaning.specs.Report.{plainIn}
-use Rattle.meaning.specs.Call.{exactMode, boundsMode, answerBytes, answerNumber, answerRead, wholeFile, Said, CallOutcome}
+use Rattle.meaning.specs.File.{BlockRefused, FileRefused, chainIn, plainIn}
+use Rattle.meaning.specs.Call.{defaultMode, exactMode, boundsMode, answerBytes, answerNumber, answerRead, wholeFile, Said, CallOutcome}
 use Rattle.meaning.specs.Demand.{BothChance}
 use Rattle.theory.specs.DemandTwo.{chance-of}
+use Rattle.theory.specs.CallOne.{modes-apart}
 use Rattle.theory.specs.Small.{Small, BothSmall, chance-small, bounds-small}
 
 -- A number up to M is the sum of its four bytes.
@@ -82,7 +83,7 @@ module _ {file before after : List ℕ} {mode : ℕ} where
   said (CallOutcome.answered m l a bytes s e k) = (bytes, s, k)
 
   -- In modes 0 and 1 each of the two fractions is the chance, in lowest terms.
-  pub call-chance : mode ≤ exactMode → CallOutcome file mode before 0 after
+  pub call-chance : (mode ≡ defaultMode) ⊎ (mode ≡ exactMode) → CallOutcome file mode before 0 after
       → Chance (chainIn (wholeFile file)) (answerNumber after 0) (answerNumber after 1)
       × Chance (chainIn (wholeFile file)) (answerNumber after 2) (answerNumber after 3)
   call-chance m o = go (said o .1) (said o .2)
@@ -92,14 +93,14 @@ module _ {file before after : List ℕ} {mode : ℕ} where
           let h = chance-of (figure (λ (a : Answer). a .number) (λ n p. refl) (λ n p s. stop-above (s .stops)) o (sym e)) in
           let u = chance-small o in
           subst (BothChance (chainIn (wholeFile file))) (sym (reads before u u g k)) (h, h)
-      go (Said.bounded m′ a w o e g) k = absurd (omega arith)
+      go (Said.bounded m′ a w o e g) k = absurd (modes-apart m m′)
 
   -- In mode 2 they are the bounds.
   pub call-bounds : mode ≡ boundsMode → CallOutcome file mode before 0 after → BoundsFigure (plainIn (wholeFile file)) (answerRead after)
   call-bounds m o = go (said o .1) (said o .2)
     where
       go : {bytes : List ℕ} → Said (wholeFile file) mode 0 bytes → after ≡ filled bytes before → BoundsFigure (plainIn (wholeFile file)) (answerRead after)
-      go (Said.exactly m′ a w o e g) k = absurd (omega arith)
+      go (Said.exactly m′ a w o e g) k = absurd (modes-apart m′ m)
       go (Said.bounded m a w o e g) k =
           let h = figure (λ (a : Bounds). a .number) (λ n p. refl) (λ n p s. stop-above (s .stops)) o (sym e) in
           let (u, v) = bounds-small o in

@@ -7,8 +7,9 @@ use lib.ListN.{length}
 use Rattle.meaning.specs.Number.{filled}
 use Rattle.meaning.specs.Refusal.{Entry, Lent, Refused, WellFormed}
 use Rattle.meaning.specs.Block.{Input, headStates, headEdges}
+use Rattle.meaning.specs.File.{plainIn, paidIn}
 use Rattle.meaning.specs.Text.{bytesOf}
-use Rattle.meaning.specs.Report.{plainIn, paidIn, refusedText, linesText, Report, Printing, printing, TextOutcome}
+use Rattle.meaning.specs.Report.{refusedText, linesText, Report, Printing, printing, TextOutcome}
 use Rattle.theory.specs.Determined.{refused-one}
 use Rattle.theory.specs.Counted.{count-one}
 use Rattle.theory.specs.Entries.{chance-determined, reward-determined, bounds-determined}
