@@ -90,7 +90,7 @@ fn print(number: u64, goals: u64) {
         &ORDER,
         &mut work,
     );
-    let mut buffer = [0u8; egorstream::LONGEST_FACE];
+    let mut buffer = [0u8; egorstream::FACE_ROOM];
     if let Printed::Length(n) = face(number, found, &mut buffer) {
         io::write_all(STDOUT_FILENO, &buffer[..n]);
     }

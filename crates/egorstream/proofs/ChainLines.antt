@@ -11,7 +11,7 @@ use Rattle.meaning.specs.Survey.{Count}
 use Rattle.meaning.specs.Block.{Input, headEdges}
 use Rattle.meaning.specs.File.{edgeNumber, paidIn, FileRefused, Accepted}
 use Rattle.meaning.specs.Text.{bytesOf}
-use Rattle.meaning.specs.Report.{refusedText, linesText, Report, printing, TextOutcome, longest}
+use Rattle.meaning.specs.Report.{refusedText, linesText, Report, printing, TextOutcome, reportRoom}
 use Rattle.theory.specs.Tab.{tab-length}
 use Rattle.theory.specs.Formed.{few-states, few-edges}
 use Rattle.theory.specs.Entails.{fewer}
@@ -22,7 +22,7 @@ use Rattle.egorstream.specs.Holds.{Stands}
 use Rattle.egorstream.specs.declared.lines.Counts.{Counts}
 use Rattle.egorstream.proofs.Steps.{whole}
 use Rattle.egorstream.proofs.Near.{refused-near, stopped-near, file-near}
-use Rattle.egorstream.proofs.Longest.{refusal-short}
+use Rattle.egorstream.proofs.Lengths.{refusal-short}
 use Rattle.egorstream.proofs.Room.{reward-near, report-short}
 
 -- 12, 13 and 0 do not end the report.
@@ -64,11 +64,11 @@ pub printed : {Text : List ℕ → Type 0} {before after : List ℕ} {most r : �
 printed h s = TextOutcome.printed h (s .text) (s .wanted) (ap printing (s .whole)) (s .bytes)
 
 -- There is room for the line of a refusal.
-pub refusal-room : {l : Lent} {a : Answer} (buffer : List ℕ) → longest ≤ length buffer → Found (RewardOutcome l) a
+pub refusal-room : {l : Lent} {a : Answer} (buffer : List ℕ) → reportRoom ≤ length buffer → Found (RewardOutcome l) a
     → Room buffer 0 (refusedText (a .number) (a .place) ++ bytesOf "\n")
 refusal-room {a = a} buffer h f = omega (arith, refusal-short (a .number) (a .place) (reward-near (f .outcome)))
 
-pub file-room : {f : Input} {number place : ℕ} (buffer : List ℕ) → longest ≤ length buffer → FileRefused f number place
+pub file-room : {f : Input} {number place : ℕ} (buffer : List ℕ) → reportRoom ≤ length buffer → FileRefused f number place
     → Room buffer 0 (refusedText number place ++ bytesOf "\n")
 file-room {number = number} {place} buffer h w = omega (arith, refusal-short number place (file-near w .1))
 
@@ -83,7 +83,7 @@ module _
     (fr : Found (RewardOutcome l) reward)
     (fb : Found (BoundsOutcome (fewer plain l)) bounds)
   where
-    pub lines-room : (buffer : List ℕ) → longest ≤ length buffer
+    pub lines-room : (buffer : List ℕ) → reportRoom ≤ length buffer
         → Room buffer 0 (linesText (counts .states) (counts .edges) (counts .goals) (counts .live) chance reward bounds)
     lines-room buffer h =
         let states = few-states paid l formed in

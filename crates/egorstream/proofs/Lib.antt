@@ -1,6 +1,6 @@
 pub mod Steps
 pub mod Decimal
-pub mod Longest
+pub mod Lengths
 pub mod Printed
 pub mod Near
 pub mod Room

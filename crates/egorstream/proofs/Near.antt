@@ -15,7 +15,7 @@ use Rattle.meaning.specs.Step.{Sets}
 use Rattle.theory.specs.Sum.{below}
 use Rattle.theory.specs.Formed.{few-states}
 use Rattle.egorstream.specs.Told.{Ends, chain, file}
-use Rattle.egorstream.proofs.Longest.{Near}
+use Rattle.egorstream.proofs.Lengths.{Near}
 
 upto : (n m : ℕ) → (m < n → ⊥) → n ≤ m
 upto n m f = ⊎-elim (λ h. absurd (f h)) (λ h. h) (below m n)

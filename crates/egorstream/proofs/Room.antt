@@ -1,4 +1,4 @@
--- A report needs no more room than the longest.
+-- There is room for any report.
 use Prim.Native.Nat.{ℕ, _≤_}
 use native.Mathlib.Omega.{arith}
 use mathlib.Core.List.{List}
@@ -16,9 +16,9 @@ use Rattle.meaning.specs.Outcome.{
   BoundsFigure,
   BoundsOutcome,
 }
-use Rattle.meaning.specs.Report.{linesText, longest}
+use Rattle.meaning.specs.Report.{linesText, reportRoom}
 use Rattle.theory.specs.Small.{chance-small, reward-small, bounds-small}
-use Rattle.egorstream.proofs.Longest.{Near, lines-short}
+use Rattle.egorstream.proofs.Lengths.{Near, lines-short}
 use Rattle.egorstream.proofs.Near.{refused-near, stopped-near}
 
 nought : Near 0 0
@@ -45,7 +45,7 @@ bounds-near (Outcome.answered f t (BoundsFigure.live k r v p q u z h e) s) = rw 
 pub report-short : {l m n : Lent} {chance reward : Answer} {bounds : Bounds} {w₁ w₂ w₃ : List ℕ} (states edges goals live : ℕ)
     → states ≤ mostStates → edges ≤ mostEdges → goals ≤ mostStates → live ≤ mostStates
     → ChanceOutcome l chance w₁ → RewardOutcome m reward w₂ → BoundsOutcome n bounds w₃
-    → length (linesText states edges goals live chance reward bounds) ≤ longest
+    → length (linesText states edges goals live chance reward bounds) ≤ reportRoom
 report-short {chance = chance} {reward = reward} {bounds = bounds} states edges goals live hs he hg hl c r b =
     lines-short states edges goals live chance reward bounds hs he hg hl (chance-near c) (chance-small c) (reward-near r) (reward-small r)
     (bounds-near b) (bounds-small b)

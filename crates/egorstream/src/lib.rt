@@ -7,5 +7,5 @@ pub mod report;
 mod text;
 
 pub use call::egorstream_chance;
-pub use lines::LONGEST;
-pub use lines::LONGEST_FACE;
+pub use lines::FACE_ROOM;
+pub use lines::REPORT_ROOM;

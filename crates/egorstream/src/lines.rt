@@ -7,7 +7,7 @@ ghost use Rattle.egorstream.specs.Written.{Room, Written};
 ghost use Rattle.egorstream.specs.Told.{toldFigure, toldLimits, toldLines, lineText, countsText, Ends};
 use crate::text;
 
-// What the longest report holds: a line has a name, what stands in it, and a byte for its end.
+// Room for any report, each line at its longest: a line has a name, what stands in it, and a byte for its end.
 const FRACTION: usize = 10 + 1 + 10;
 
 const COUNT_LINES: usize = (7 + 2 + 1) + (6 + 4 + 1) + (6 + 2 + 1) + (5 + 2 + 1);
@@ -16,10 +16,10 @@ const FIGURE_LINE: usize = 7 + FRACTION + 1;
 
 const BOUNDS_LINE: usize = 7 + FRACTION + 1 + FRACTION + 1;
 
-// A number of 64 bits has 20 digits.
-pub const LONGEST_FACE: usize = 5 + 20 + 1 + (8 + 10 + 4 + 20) + 1;
+// Room for any line of a face: a number of 64 bits has 20 digits.
+pub const FACE_ROOM: usize = 5 + 20 + 1 + (8 + 10 + 4 + 20) + 1;
 
-pub const LONGEST: usize = COUNT_LINES + 2 * FIGURE_LINE + BOUNDS_LINE;
+pub const REPORT_ROOM: usize = COUNT_LINES + 2 * FIGURE_LINE + BOUNDS_LINE;
 
 pub(crate) struct Counts {
     pub states: u64,

@@ -4,7 +4,7 @@ ghost use mathlib.Core.List.{List, []};
 ghost use Prim.Native.Nat.{ℕ, _≤_};
 ghost use lib.ListN.{length};
 ghost use Rattle.meaning.specs.Block.{Input};
-ghost use Rattle.meaning.specs.Report.{longest, Report, ReportOutcome, FaceOutcome};
+ghost use Rattle.meaning.specs.Report.{reportRoom, Report, ReportOutcome, FaceOutcome};
 ghost use Rattle.chain.specs.Answer.{toldChance};
 ghost use Rattle.chainfile.specs.Input.{input};
 ghost use Rattle.egorstream.specs.Holds.{Holds, Stands, told};
@@ -32,7 +32,7 @@ fn chain_lines(
     rewards: &[u64],
     buffer: &mut [u8],
 ) -> usize
-    requires { ⌜ longest ≤ length (now buffer) ⌝ }
+    requires { ⌜ reportRoom ≤ length (now buffer) ⌝ }
     ensures { λ r. ⌜ ((f : Input) → Holds f c (now (denominators .entry)) (now (edges .entry)) (now (order .entry)) (now (rewards .entry)) → Stands (Report f) (now (buffer .entry)) r (now (buffer .exit))) ⌝ }
 {
     let reward = figures::reward(c, denominators, edges, order, rewards);
@@ -47,7 +47,7 @@ fn chain_lines(
 
 // The file is read into tables of the report's own.
 fn file_lines(kept: &[u8], more: u64, buffer: &mut [u8]) -> usize
-    requires { ⌜ longest ≤ length (now buffer) ⌝ }
+    requires { ⌜ reportRoom ≤ length (now buffer) ⌝ }
     ensures { λ r. ⌜ Stands (Report (input (now (kept .entry)) more)) (now (buffer .entry)) r (now (buffer .exit)) ⌝ }
 {
     let mut denominators = [0u64; Chain::STATES];
@@ -85,7 +85,7 @@ fn file_lines(kept: &[u8], more: u64, buffer: &mut [u8]) -> usize
 pub fn report(kept: &[u8], more: u64, buffer: &mut [u8]) -> Printed
     ensures { λ r. ⌜ ReportOutcome (input (now (kept .entry)) more) (now (buffer .entry)) (told r) (now (buffer .exit)) ⌝ }
 {
-    if buffer.len() < lines::LONGEST {
+    if buffer.len() < lines::REPORT_ROOM {
         return Printed::Refused {
             number: 2,
             place: 0,
@@ -98,7 +98,7 @@ pub fn report(kept: &[u8], more: u64, buffer: &mut [u8]) -> Printed
 pub fn face(face: u64, chance: Chance, buffer: &mut [u8]) -> Printed
     ensures { λ r. ⌜ FaceOutcome face (toldChance chance) (now (buffer .entry)) (told r) (now (buffer .exit)) ⌝ }
 {
-    if buffer.len() < lines::LONGEST_FACE {
+    if buffer.len() < lines::FACE_ROOM {
         return Printed::Refused {
             number: 2,
             place: 0,

@@ -80,22 +80,23 @@ noPrinting number place = record { number = number; place = place; length = 0 }
 abbrev pub printing : ℕ → Printing
 printing n = record { number = 0; place = 0; length = n }
 
--- A buffer with no room for the longest text is refused by 2, and stays. Else the text stands at its front, and bytes past the text stay.
-pub data TextOutcome (most : ℕ) (Text : List ℕ → Type 0) (before : List ℕ) (a : Printing) (after : List ℕ) : Type 0 where
-  short : length before < most → a ≡ noPrinting 2 0 → after ≡ before → TextOutcome most Text before a after
-  printed : most ≤ length before → (t : List ℕ) → Text t → a ≡ printing (length t) → after ≡ filled t before
-      → TextOutcome most Text before a after
+-- A buffer with less than the room for any such text is refused by 2, and stays. Else the text stands at its front, and bytes past the text
+-- stay.
+pub data TextOutcome (room : ℕ) (Text : List ℕ → Type 0) (before : List ℕ) (a : Printing) (after : List ℕ) : Type 0 where
+  short : length before < room → a ≡ noPrinting 2 0 → after ≡ before → TextOutcome room Text before a after
+  printed : room ≤ length before → (t : List ℕ) → Text t → a ≡ printing (length t) → after ≡ filled t before
+      → TextOutcome room Text before a after
 
--- The longest report: counts of 2, 4, 2 and 2 digits, and fractions of 21 bytes.
-abbrev pub longest : ℕ
-longest = 147
+-- Room for any report, each line at its longest: counts of 2, 4, 2 and 2 digits, and fractions of 21 bytes.
+abbrev pub reportRoom : ℕ
+reportRoom = 147
 
 abbrev pub ReportOutcome : Input → List ℕ → Printing → List ℕ → Type 0
-ReportOutcome f = TextOutcome longest (Report f)
+ReportOutcome f = TextOutcome reportRoom (Report f)
 
--- The longest line of a face: numbers of 64 bits have 20 digits, and a refusal's number has 10.
-abbrev pub longestFace : ℕ
-longestFace = 69
+-- Room for any line of a face: numbers of 64 bits have 20 digits, and a refusal's number has 10.
+abbrev pub faceRoom : ℕ
+faceRoom = 69
 
 abbrev pub FaceOutcome : ℕ → Answer → List ℕ → Printing → List ℕ → Type 0
-FaceOutcome face chance = TextOutcome longestFace (λ t. t ≡ faceText face chance)
+FaceOutcome face chance = TextOutcome faceRoom (λ t. t ≡ faceText face chance)

@@ -44,7 +44,7 @@ fn main() {
     } else {
         rest()
     };
-    let mut buffer = [0u8; egorstream::LONGEST];
+    let mut buffer = [0u8; egorstream::REPORT_ROOM];
     if let Printed::Length(n) = report(&kept[..length], more, &mut buffer) {
         io::write_all(STDOUT_FILENO, &buffer[..n]);
     }

@@ -3,7 +3,7 @@ use native.Mathlib.Omega.{arith}
 use borrow.Author.Needs.{needs}
 use Rattle.meaning.specs.Report.{faceText, TextOutcome}
 use Rattle.egorstream.specs.Told.{toldFigure}
-use Rattle.egorstream.proofs.Longest.{face-room}
+use Rattle.egorstream.proofs.Lengths.{face-room}
 use Rattle.egorstream.proofs.ChainLines.{stands, printed}
 use Rattle.egorstream.proofs.report.face.Statement.{statement}
 use Rattle.egorstream.proofs.report.face.Tie as tie

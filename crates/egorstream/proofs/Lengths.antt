@@ -1,16 +1,15 @@
 -- How long the texts of the report can be.
 use Prim.Native.Nat.{ℕ, _^_, _≤_, _<_}
 use native.Mathlib.Omega.{arith}
-use mathlib.Core.Path.{_≡_, refl}
 use mathlib.Core.Bool.{Bool, true, false}
 use mathlib.Core.List.{List, _++_}
 use lib.ListN.{length, length-append}
 use lib.Dec.{eqb}
 use Rattle.meaning.specs.Number.{choose}
-use Rattle.meaning.specs.Chain.{mostStates, mostEdges, M}
-use Rattle.meaning.specs.Outcome.{Answer, fraction, Bounds, between}
-use Rattle.meaning.specs.Text.{bytesOf, decimal, decimalIn}
-use Rattle.meaning.specs.Report.{fractionText, refusedText, answerText, boundsText, linesText, faceText, longest, longestFace}
+use Rattle.meaning.specs.Chain.{mostStates, mostEdges}
+use Rattle.meaning.specs.Outcome.{Answer, Bounds}
+use Rattle.meaning.specs.Text.{bytesOf}
+use Rattle.meaning.specs.Report.{fractionText, refusedText, answerText, boundsText, linesText, faceText, reportRoom, faceRoom}
 use Rattle.theory.specs.Small.{Small, BothSmall}
 use Rattle.egorstream.specs.Written.{Room}
 use Rattle.egorstream.proofs.Decimal.{digits}
@@ -53,7 +52,7 @@ pub lines-short : (states edges goals live : ℕ) (chance reward : Answer) (boun
     → Near (chance .number) (chance .place) → Small (chance .numerator) (chance .denominator)
     → Near (reward .number) (reward .place) → Small (reward .numerator) (reward .denominator)
     → Near (bounds .number) (bounds .place) → BothSmall bounds
-    → length (linesText states edges goals live chance reward bounds) ≤ longest
+    → length (linesText states edges goals live chance reward bounds) ≤ reportRoom
 lines-short states edges goals live chance reward bounds hs he hg hl nc sc nr sr nb sb =
     simp length-append
     (omega (
@@ -68,16 +67,11 @@ lines-short states edges goals live chance reward bounds hs he hg hl nc sc nr sr
     ))
 
 -- The single line of a refusal.
-pub refusal-short : (number place : ℕ) → Near number place → length (refusedText number place ++ bytesOf "\n") ≤ longest
+pub refusal-short : (number place : ℕ) → Near number place → length (refusedText number place ++ bytesOf "\n") ≤ reportRoom
 refusal-short number place n = simp length-append (omega (arith, digits 1 number (omega arith), digits 3 place (omega arith)))
 
--- A report can be that long.
-pub longest-met : length (linesText mostStates mostEdges mostStates mostStates (fraction M M) (fraction M M) (between M M M M)) ≡ longest
-unfolding decimal decimalIn
-longest-met = refl
-
 -- The line of a face, whatever 64-bit numbers stand in it.
-pub face-room : (buffer : List ℕ) (face : ℕ) (a : Answer) → longestFace ≤ length buffer
+pub face-room : (buffer : List ℕ) (face : ℕ) (a : Answer) → faceRoom ≤ length buffer
     → face < 2 ^ 64 → a .number < 2 ^ 32 → a .place < 2 ^ 64 → a .numerator < 2 ^ 64 → a .denominator < 2 ^ 64
     → Room buffer 0 (faceText face a)
 face-room buffer face a room hf hn hp hu hd =
