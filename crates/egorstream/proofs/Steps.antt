@@ -66,11 +66,6 @@ join {a} {t} {b} {u} {d} {p} {m} {k} v w =
       bytes = w .bytes ∙ rw (start, rest, append-assoc (take p a) t u);
     }
 
--- A line is added to a text.
-pub extend : {a t b d : List ℕ} {p m k : ℕ} (n v l : List ℕ) → Written a p t b m → Written b m (n ++ v ++ l) d k
-    → Written a p (t ++ n ++ v ++ l) d k
-extend {a} {t} n v l w x = rw (append-assoc (t ++ n) v l, append-assoc t n (v ++ l), ← append-assoc n v l) (join w x)
-
 -- A text from the first place on.
 pub whole : {a t b : List ℕ} {m : ℕ} → Written a 0 t b m → b ≡ t ++ drop (length t) a
 whole {a} {t} w = w .bytes ∙ ap (λ z. t ++ drop z a) (w .past ∙ zero-add (length t))

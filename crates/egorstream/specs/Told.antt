@@ -4,7 +4,7 @@ use mathlib.Core.Path.{_≡_}
 use mathlib.Core.List.{List, _++_}
 use Rattle.meaning.specs.Outcome.{Answer, Bounds}
 use Rattle.meaning.specs.Text.{bytesOf, decimal}
-use Rattle.meaning.specs.Report.{linesText}
+use Rattle.meaning.specs.Report.{lineText, linesText}
 use Rattle.egorstream.specs.declared.lines.Counts.{Counts}
 use Rattle.egorstream.specs.declared.lines.Figure.{Figure}
 use Rattle.egorstream.specs.declared.lines.Limits.{Limits}
@@ -31,17 +31,13 @@ toldLimits f =
       upperDenominator = f .t;
     }
 
--- A line: a name and what it is.
-abbrev pub lineText : List ℕ → List ℕ → List ℕ
-lineText name value = name ++ value ++ bytesOf "\n"
-
 -- The first four lines.
 abbrev pub countsText : ℕ → ℕ → ℕ → ℕ → List ℕ
 countsText states edges goals live =
     lineText (bytesOf "states ") (decimal states)
-    ++ bytesOf "edges " ++ decimal edges ++ bytesOf "\n"
-    ++ bytesOf "goals " ++ decimal goals ++ bytesOf "\n"
-    ++ bytesOf "live " ++ decimal live ++ bytesOf "\n"
+    ++ lineText (bytesOf "edges ") (decimal edges)
+    ++ lineText (bytesOf "goals ") (decimal goals)
+    ++ lineText (bytesOf "live ") (decimal live)
 
 -- The seven lines.
 abbrev pub toldLines : Counts → Figure → Figure → Limits → List ℕ

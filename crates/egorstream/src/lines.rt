@@ -1,10 +1,10 @@
 // The lines of the report. Each function asks for the room of what it writes, and answers the place after it.
 ghost use mathlib.Core.List.{_++_};
 ghost use Rattle.meaning.specs.Text.{bytesOf, decimal};
-ghost use Rattle.meaning.specs.Report.{fractionText, refusedText, answerText, boundsText, faceText};
+ghost use Rattle.meaning.specs.Report.{fractionText, refusedText, answerText, boundsText, lineText, faceText};
 ghost use Rattle.chain.specs.Least.{decides};
 ghost use Rattle.egorstream.specs.Written.{Room, Written};
-ghost use Rattle.egorstream.specs.Told.{toldFigure, toldLimits, toldLines, lineText, countsText, Ends};
+ghost use Rattle.egorstream.specs.Told.{toldFigure, toldLimits, toldLines, countsText, Ends};
 use crate::text;
 
 // Room for any report, each line at its longest: a line has a name, what stands in it, and a byte for its end.

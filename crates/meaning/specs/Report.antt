@@ -42,16 +42,20 @@ boundsText a =
     ++ fractionText (a .upperNumerator) (a .upperDenominator))
     (refusedText (a .number) (a .place))
 
+-- A line: a word, a text, a newline.
+abbrev pub lineText : List ℕ → List ℕ → List ℕ
+lineText word text = word ++ text ++ bytesOf "\n"
+
 -- The seven lines of a report.
 abbrev pub linesText : ℕ → ℕ → ℕ → ℕ → Answer → Answer → Bounds → List ℕ
 linesText states edges goals live chance reward bounds =
-    bytesOf "states " ++ decimal states ++ bytesOf "\n"
-    ++ bytesOf "edges " ++ decimal edges ++ bytesOf "\n"
-    ++ bytesOf "goals " ++ decimal goals ++ bytesOf "\n"
-    ++ bytesOf "live " ++ decimal live ++ bytesOf "\n"
-    ++ bytesOf "chance " ++ answerText chance ++ bytesOf "\n"
-    ++ bytesOf "reward " ++ answerText reward ++ bytesOf "\n"
-    ++ bytesOf "bounds " ++ boundsText bounds ++ bytesOf "\n"
+    lineText (bytesOf "states ") (decimal states)
+    ++ lineText (bytesOf "edges ") (decimal edges)
+    ++ lineText (bytesOf "goals ") (decimal goals)
+    ++ lineText (bytesOf "live ") (decimal live)
+    ++ lineText (bytesOf "chance ") (answerText chance)
+    ++ lineText (bytesOf "reward ") (answerText reward)
+    ++ lineText (bytesOf "bounds ") (boundsText bounds)
 
 -- t is the report of the input f: the single line of a refusal by 20 to 24 or 1 to 11, or seven lines.
 pub data Report (f : Input) (t : List ℕ) : Type 0 where
@@ -66,7 +70,7 @@ pub data Report (f : Input) (t : List ℕ) : Type 0 where
 
 -- The line of a face of the dice, as `face 1 1/6`, or `face 1 refused 12 at 1` where the chance is refused.
 abbrev pub faceText : ℕ → Answer → List ℕ
-faceText face chance = bytesOf "face " ++ decimal face ++ bytesOf " " ++ answerText chance ++ bytesOf "\n"
+faceText face chance = lineText (bytesOf "face " ++ decimal face ++ bytesOf " ") (answerText chance)
 
 -- What a text in a lent buffer answers: a refusal's number and place, or 0 and how long the text is.
 pub record Printing : Type 0 where

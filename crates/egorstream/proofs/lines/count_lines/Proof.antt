@@ -1,8 +1,7 @@
 use native.Mathlib.Omega.{arith}
 use lib.ListN.{length-append}
 use borrow.Author.Needs.{needs}
-use Rattle.egorstream.proofs.Steps.{extend}
-use Rattle.meaning.specs.Text.{bytesOf, decimal}
+use Rattle.egorstream.proofs.Steps.{join}
 use Rattle.egorstream.proofs.lines.count_lines.Statement.{statement}
 use Rattle.egorstream.proofs.lines.count_lines.Tie as tie
 
@@ -54,11 +53,8 @@ returns c =
     let at-count-line3 = at-count-line4 .before .before .before .before .before in
     let at-count-line2 = at-count-line3 .before .before .before .before .before in
     let at-count-line = at-count-line2 .before .before .before .before .before in
-    let at-start = at-count-line .before .before .before .before in
-    extend (bytesOf "live ") (decimal (at-start .args .counts .live)) (bytesOf "\n")
-    (extend (bytesOf "goals ") (decimal (at-start .args .counts .goals)) (bytesOf "\n")
-    (extend (bytesOf "edges ") (decimal (at-start .args .counts .edges)) (bytesOf "\n") (at-count-line .count-line .ensures) (at-count-line2 .count-line2 .ensures))
-    (at-count-line3 .count-line3 .ensures))
+    join
+    (join (join (at-count-line .count-line .ensures) (at-count-line2 .count-line2 .ensures)) (at-count-line3 .count-line3 .ensures))
     (at-count-line4 .count-line4 .ensures)
 
 pub count-lines-spec : {M : Type 1} → statement M

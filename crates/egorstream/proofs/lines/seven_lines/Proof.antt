@@ -1,10 +1,7 @@
 use native.Mathlib.Omega.{arith}
 use lib.ListN.{length-append}
 use borrow.Author.Needs.{needs}
-use Rattle.egorstream.proofs.Steps.{extend}
-use Rattle.meaning.specs.Text.{bytesOf}
-use Rattle.meaning.specs.Report.{answerText, boundsText}
-use Rattle.egorstream.specs.Told.{toldFigure, toldLimits}
+use Rattle.egorstream.proofs.Steps.{join}
 use Rattle.egorstream.proofs.lines.seven_lines.Statement.{statement}
 use Rattle.egorstream.proofs.lines.seven_lines.Tie as tie
 
@@ -56,11 +53,8 @@ returns c =
     let at-figure-line2 = at-bounds-line .before .before .before .before in
     let at-figure-line = at-figure-line2 .before .before .before .before .before in
     let at-count-lines = at-figure-line .before .before .before .before .before in
-    let at-start = at-count-lines .before .before .before in
-    extend (bytesOf "bounds ") (boundsText (toldLimits (at-start .args .limits))) (bytesOf "\n")
-    (extend (bytesOf "reward ") (answerText (toldFigure (at-start .args .reward))) (bytesOf "\n")
-    (extend (bytesOf "chance ") (answerText (toldFigure (at-start .args .chance))) (bytesOf "\n") (at-count-lines .count-lines .ensures) (at-figure-line .figure-line .ensures))
-    (at-figure-line2 .figure-line2 .ensures))
+    join
+    (join (join (at-count-lines .count-lines .ensures) (at-figure-line .figure-line .ensures)) (at-figure-line2 .figure-line2 .ensures))
     (at-bounds-line .bounds-line .ensures)
 
 pub seven-lines-spec : {M : Type 1} → statement M
