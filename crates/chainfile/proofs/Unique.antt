@@ -1,30 +1,16 @@
 -- What the reader promises determines its answer, case and all, and the tables afterwards.
-use Prim.Native.Nat.{ℕ, _≤_, _<_}
+use Prim.Native.Nat.{ℕ, _<_}
 use mathlib.Core.Path.{_≡_, ap, ap₂}
 use native.Mathlib.Omega.{arith}
-use lib.Dec.{lit≤}
 use Rattle.meaning.specs.Block.{Input}
-use Rattle.meaning.specs.File.{BlockRefused, FileRefused, Tables, Reading as Answer, ReadOutcome}
-use Rattle.theory.specs.FileOne.{read-one}
+use Rattle.meaning.specs.File.{Tables, Reading as Answer, ReadOutcome}
+use Rattle.theory.specs.FileOne.{file-numbers, read-one}
 use Rattle.chain.specs.declared.Chain.{Chain as Frame}
 use Rattle.chain.proofs.Unique.{framed}
 use Rattle.chainfile.specs.declared.Reading.{Reading}
 use Rattle.chainfile.specs.declared.Reading.the-variants.{Chain, Refused}
 use Rattle.chainfile.specs.Tells.{told}
 use Rattle.chainfile.proofs.Tested.{bounded}
-
--- The numbers of a file's refusals begin with 20.
-block-least : {f : Input} {b n : ℕ} → BlockRefused f b n → 20 ≤ n
-block-least (BlockRefused.check-refused w) = lit≤ tt
-block-least (BlockRefused.block-number-refused c w) = lit≤ tt
-block-least (BlockRefused.kind-refused c p w) = lit≤ tt
-block-least (BlockRefused.content-refused c p k w) = lit≤ tt
-
-file-least : {f : Input} {n p : ℕ} → FileRefused f n p → 20 ≤ n
-file-least (FileRefused.length-wrong w) = lit≤ tt
-file-least (FileRefused.head-wrong n l w) = block-least w
-file-least (FileRefused.total-wrong l h w) = lit≤ tt
-file-least (FileRefused.block-wrong n b l t z m a w) = block-least w
 
 -- A chain has states, and a refusal a number.
 proper : Reading → Type 0
@@ -41,11 +27,11 @@ module _ {a b : Answer} (e : a ≡ b) where
 is-proper : (f : Input) (t after : Tables) (r : Reading) → ReadOutcome f t (told r) after → proper r
 unfolding proper
 is-proper f t after (Chain c edges) (ReadOutcome.short s e d) = absurd (omega (arith, number e))
-is-proper f t after (Chain c edges) (ReadOutcome.refused s n p w e d) = absurd (omega (arith, number e, file-least w))
+is-proper f t after (Chain c edges) (ReadOutcome.refused s n p w e d) = absurd (omega (arith, number e, file-numbers w))
 is-proper f t after (Chain c edges) (ReadOutcome.accepted s w e d) =
     omega (arith, states e, bounded f (w .blocks 0 (omega arith)))
 is-proper f t after (Refused n p) (ReadOutcome.short s e d) = omega (arith, number e)
-is-proper f t after (Refused n p) (ReadOutcome.refused s n′ p′ w e d) = omega (arith, number e, file-least w)
+is-proper f t after (Refused n p) (ReadOutcome.refused s n′ p′ w e d) = omega (arith, number e, file-numbers w)
 is-proper f t after (Refused n p) (ReadOutcome.accepted s w e d) =
     absurd (omega (arith, states e, bounded f (w .blocks 0 (omega arith))))
 

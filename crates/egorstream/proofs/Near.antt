@@ -3,17 +3,19 @@ use Prim.Native.Nat.{ℕ, zero, suc, _≤_, _<_}
 use native.Mathlib.Omega.{arith}
 use mathlib.Core.Path.{refl}
 use mathlib.Core.Bool.{Bool, true, false}
-use mathlib.Core.Logic.{inr, ⊎-elim}
+use mathlib.Core.Logic.{⊎-elim}
 use mathlib.Core.List.{List, [], _∷_}
 use lib.ListN.{length, getD}
 use Rattle.meaning.specs.Chain.{mostStates, mostEdges, edgeCount}
 use Rattle.meaning.specs.Refusal.{Lent, Entry, Misshaped, never, lentFault, faults, Refused, WellFormed}
 use Rattle.meaning.specs.Stop.{Stopped, Stops}
-use Rattle.meaning.specs.Block.{Input, headStates, headEdges}
-use Rattle.meaning.specs.File.{ContentFault, BlockRefused, BlockRight, FileRefused}
+use Rattle.meaning.specs.Block.{Input}
+use Rattle.meaning.specs.File.{FileRefused}
 use Rattle.meaning.specs.Step.{Sets}
 use Rattle.theory.specs.Sum.{below}
 use Rattle.theory.specs.Formed.{few-states}
+use Rattle.theory.specs.FileOne.{file-numbers}
+use Rattle.chainfile.proofs.Tested.{bounded}
 use Rattle.egorstream.specs.Told.{Ends, chain, file}
 use Rattle.egorstream.proofs.Lengths.{Near}
 
@@ -98,37 +100,13 @@ pub stopped-near : {x : Entry} {b : Bool} {l : Lent} {number place : ℕ} → We
     → (12 ≤ number) × (number ≤ 13) × Near number place
 stopped-near {x} {b} {l} formed s = stops-near (few-states x l formed) (s .stops)
 
--- The numbers 20 to 24.
-block-number : {f : Input} {b number : ℕ} → BlockRefused f b number → (21 ≤ number) × (number ≤ 24)
-block-number (BlockRefused.check-refused h) = (omega arith, omega arith)
-block-number (BlockRefused.block-number-refused g h) = (omega arith, omega arith)
-block-number (BlockRefused.kind-refused e g h) = (omega arith, omega arith)
-block-number (BlockRefused.content-refused d e g h) = (omega arith, omega arith)
-
--- A right block has none of the faults of 24.
-content-right : {f : Input} {b : ℕ} → BlockRight f b → ContentFault f b → ⊥
-content-right right h =
-    right 24
-    (BlockRefused.content-refused
-    (λ e. right 21 (BlockRefused.check-refused e))
-    (λ e. right 22 (BlockRefused.block-number-refused (λ d. right 21 (BlockRefused.check-refused d)) e))
-    (λ e.
-    right 23
-    (BlockRefused.kind-refused
-    (λ d. right 21 (BlockRefused.check-refused d))
-    (λ d. right 22 (BlockRefused.block-number-refused (λ c. right 21 (BlockRefused.check-refused c)) d))
-    e))
-    h)
-
-ended : {number place : ℕ} → (20 ≤ number) × (number ≤ 24) → place ≤ 9999 → Ends number × Near number place
-ended n h = (file (n .0) (n .1), record { two = omega arith; four = h })
+-- The numbers 20 to 24: a file that is refused has few blocks.
+file-place : {f : Input} {number place : ℕ} → FileRefused f number place → place ≤ 9999
+file-place (FileRefused.length-wrong h) = omega arith
+file-place (FileRefused.head-wrong number h r) = omega arith
+file-place (FileRefused.total-wrong h r e) = omega arith
+file-place {f} (FileRefused.block-wrong number b h e l d right r) = omega (arith, bounded f (right 0 l) .few-blocks)
 
 pub file-near : {f : Input} {number place : ℕ} → FileRefused f number place → Ends number × Near number place
-file-near (FileRefused.length-wrong h) = ended (omega arith, omega arith) (omega arith)
-file-near (FileRefused.head-wrong number h r) = let n = block-number r in ended (omega arith, omega arith) (omega arith)
-file-near (FileRefused.total-wrong h r e) = ended (omega arith, omega arith) (omega arith)
-file-near {f} (FileRefused.block-wrong number b h e l d right r) =
-    let n = block-number r in
-    let states : headStates f ≤ mostStates = upto _ _ (λ g. content-right (right 0 l) (ContentFault.states-wrong refl (inr g))) in
-    let edges : headEdges f ≤ mostEdges = upto _ _ (λ g. content-right (right 0 l) (ContentFault.edges-wrong refl (inr g))) in
-    ended (omega arith, omega arith) (omega arith)
+file-near r =
+    let n = file-numbers r in (file (n .0) (n .1), record { two = omega arith; four = file-place r })

@@ -1,5 +1,5 @@
 -- What the reader's answer tells of a file: it is refused, or its chain and tables are those of the answer.
-use Prim.Native.Nat.{ℕ, _*_, _≤_, _<_}
+use Prim.Native.Nat.{ℕ, _*_, _≤_}
 use mathlib.Core.Path.{_≡_, sym, ap, subst, _∙_}
 use mathlib.Core.Logic.{⊎-elim}
 use mathlib.Core.List.{List}
@@ -11,15 +11,14 @@ use Rattle.meaning.specs.Chain.{mostStates, mostEdges, edgeSize}
 use Rattle.meaning.specs.Refusal.{workSize}
 use Rattle.meaning.specs.Block.{Input, headEdges, denominatorIn, rewardIn, orderIn}
 use Rattle.meaning.specs.File.{FileRefused, edgeNumber, Tables, Short, Reading as Numbers, reading, ReadOutcome}
+use Rattle.theory.specs.FileOne.{file-numbers}
 use Rattle.theory.specs.Tab.{tab-length}
 use Rattle.chain.specs.declared.Chain.{Chain as Frame}
 use Rattle.chainfile.specs.Tells.{told, tables}
 use Rattle.chainfile.specs.declared.Reading.{Reading}
 use Rattle.chainfile.specs.declared.Reading.the-variants.{Chain, Refused}
 use Rattle.chainfile.proofs.Tested.{bounded}
-use Rattle.egorstream.specs.Told.{Ends, chain, file}
 use Rattle.egorstream.specs.Holds.{Holds}
-use Rattle.egorstream.proofs.Near.{file-near}
 
 module _ {a b : Numbers} (e : a ≡ b) where
   number : a .number ≡ b .number
@@ -39,13 +38,6 @@ at f t after {m} {n} h e =
       omega (arith, ap length e ∙ length-append l (drop (length l) t)),
       ap (take m) e ∙ take-at l (drop (length l) t) m (size ∙ sym h),
     )
-
-file-some : {f : Input} {n p : ℕ} → FileRefused f n p → 0 < n
-file-some w = some (file-near w .0)
-  where
-    some : {n : ℕ} → Ends n → 0 < n
-    some (chain l h) = omega arith
-    some (file l h) = omega arith
 
 -- The tables hold the chain at their front.
 pub record Opened (f : Input) (c : Frame) (count : ℕ) (t : Tables) : Type 0 where
@@ -77,7 +69,7 @@ module _ {f : Input} {t after : Tables} (room : Short t → ⊥) where
 
   pub file-opened : {r : Reading} {c : Frame} {count : ℕ} → ReadOutcome f t (told r) after → r ≡ Chain c count → Opened f c count after
   file-opened (ReadOutcome.short s e d) q = absurd (room s)
-  file-opened (ReadOutcome.refused s n p w e d) q = absurd (omega (arith, number (sym (ap told q) ∙ e), file-some w))
+  file-opened (ReadOutcome.refused s n p w e d) q = absurd (omega (arith, number (sym (ap told q) ∙ e), file-numbers w))
   file-opened {c = c} {count} (ReadOutcome.accepted s w e d) q =
       let z : told (Chain c count) ≡ reading f = sym (ap told q) ∙ e in
       let sn = states z in

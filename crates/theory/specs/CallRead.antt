@@ -13,11 +13,11 @@ use Rattle.meaning.specs.Step.{Sets}
 use Rattle.meaning.specs.Refusal.{Lent, Entry, Applies}
 use Rattle.meaning.specs.Stop.{Stops, before-steps, in-step, at-turn}
 use Rattle.meaning.specs.Outcome.{Outcome, refused, stopped, answered, Answer, Bounds, between, BoundsFigure}
-use Rattle.meaning.specs.Block.{Input}
-use Rattle.meaning.specs.File.{BlockRefused, FileRefused, chainIn, plainIn}
+use Rattle.meaning.specs.File.{chainIn, plainIn}
 use Rattle.meaning.specs.Call.{defaultMode, exactMode, boundsMode, answerBytes, answerNumber, answerRead, wholeFile, Said, CallOutcome}
 use Rattle.meaning.specs.Demand.{BothChance}
 use Rattle.theory.specs.DemandTwo.{chance-of}
+use Rattle.theory.specs.FileOne.{file-numbers}
 use Rattle.theory.specs.CallOne.{modes-apart}
 use Rattle.theory.specs.Small.{Small, BothSmall, chance-small, bounds-small}
 
@@ -56,29 +56,17 @@ between-of (BoundsFigure.won g e) = rw e refl
 between-of (BoundsFigure.lost g e) = rw e refl
 between-of (BoundsFigure.live k r v p q s t f e) = rw e refl
 
--- A number of refusal is not 0, so a call that returns 0 answers.
-block-above : {f : Input} {b number : ℕ} → BlockRefused f b number → 0 < number
-block-above (BlockRefused.check-refused w) = omega arith
-block-above (BlockRefused.block-number-refused c w) = omega arith
-block-above (BlockRefused.kind-refused c p w) = omega arith
-block-above (BlockRefused.content-refused c p k w) = omega arith
-
-file-above : {f : Input} {number place : ℕ} → FileRefused f number place → 0 < number
-file-above (FileRefused.length-wrong w) = omega arith
-file-above (FileRefused.head-wrong number l w) = block-above w
-file-above (FileRefused.total-wrong l h w) = omega arith
-file-above (FileRefused.block-wrong number b l t z m a w) = block-above w
-
 -- The numbers that an engine said are read back.
 reads : (before : List ℕ) {after bytes : List ℕ} {p q s t : ℕ} → Small p q → Small s t → bytes ≡ answerBytes p q s t
     → after ≡ filled bytes before → answerRead after ≡ between p q s t
 reads before {p = p} {q} {s} {t} h k e w = ap answerRead (w ∙ ap (λ b. filled b before) e) ∙ read-back p q s t before h k
 
 module _ {file before after : List ℕ} {mode : ℕ} where
+  -- No number of refusal is 0, so a call that returns 0 answers.
   said : CallOutcome file mode before 0 after → (bytes : List ℕ) × Said (wholeFile file) mode 0 bytes × (after ≡ filled bytes before)
   said (CallOutcome.mode-wrong m e k) = absurd (omega arith)
   said (CallOutcome.answer-short m l e k) = absurd (omega arith)
-  said (CallOutcome.file-refused m l number place r e k) = absurd (omega (arith, file-above r))
+  said (CallOutcome.file-refused m l number place r e k) = absurd (omega (arith, file-numbers r))
   said (CallOutcome.chain-refused m l a number bytes s z e k) = absurd (omega arith)
   said (CallOutcome.answered m l a bytes s e k) = (bytes, s, k)
 

@@ -1,5 +1,5 @@
 -- What the definitions allow for one chain file and one set of tables is one answer, and one set of tables afterwards.
-use Prim.Native.Nat.{ℕ, _<_}
+use Prim.Native.Nat.{ℕ, _≤_, _<_}
 use mathlib.Core.Path.{_≡_, refl, sym, ap₂, subst, _∙_}
 use native.Mathlib.Omega.{arith}
 use Rattle.meaning.specs.Block.{Input}
@@ -32,6 +32,19 @@ block-one (BlockRefused.content-refused c p k w) (BlockRefused.check-refused w�
 block-one (BlockRefused.content-refused c p k w) (BlockRefused.block-number-refused c′ w′) = absurd (p w′)
 block-one (BlockRefused.content-refused c p k w) (BlockRefused.kind-refused c′ p′ w′) = absurd (k w′)
 block-one (BlockRefused.content-refused c p k w) (BlockRefused.content-refused c′ p′ k′ w′) = refl
+
+-- A block is refused by 21 to 24, and a file by 20 to 24.
+pub block-numbers : {f : Input} {b n : ℕ} → BlockRefused f b n → (21 ≤ n) × (n ≤ 24)
+block-numbers (BlockRefused.check-refused w) = (omega arith, omega arith)
+block-numbers (BlockRefused.block-number-refused c w) = (omega arith, omega arith)
+block-numbers (BlockRefused.kind-refused c p w) = (omega arith, omega arith)
+block-numbers (BlockRefused.content-refused c p k w) = (omega arith, omega arith)
+
+pub file-numbers : {f : Input} {n p : ℕ} → FileRefused f n p → (20 ≤ n) × (n ≤ 24)
+file-numbers (FileRefused.length-wrong w) = (omega arith, omega arith)
+file-numbers (FileRefused.head-wrong n l w) = let h = block-numbers w in (omega arith, omega arith)
+file-numbers (FileRefused.total-wrong l h w) = (omega arith, omega arith)
+file-numbers (FileRefused.block-wrong n b l t z m a w) = let h = block-numbers w in (omega arith, omega arith)
 
 -- The first block that is refused is one.
 first-one : {f : Input} {b b′ n n′ : ℕ} → ((a : ℕ) → a < b → BlockRight f a) → BlockRefused f b n
