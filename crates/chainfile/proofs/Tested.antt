@@ -57,9 +57,9 @@ pub record Bounded (f : Input) : Type 0 where
 
 pub bounded : (f : Input) → BlockRight f 0 → Bounded f
 bounded f r =
-    let some : headStates f ≡ 0 → ⊥ = λ z. content-right r (ContentFault.states-wrong refl (inl z)) in
-    let states : mostStates < headStates f → ⊥ = λ h. content-right r (ContentFault.states-wrong refl (inr h)) in
-    let edges : mostEdges < headEdges f → ⊥ = λ h. content-right r (ContentFault.edges-wrong refl (inr h)) in
+    let some : headStates f ≡ 0 → ⊥ = λ z. content-right r (ContentFault.record-wrong refl (inl (inl z))) in
+    let states : mostStates < headStates f → ⊥ = λ h. content-right r (ContentFault.record-wrong refl (inl (inr h))) in
+    let edges : mostEdges < headEdges f → ⊥ = λ h. content-right r (ContentFault.record-wrong refl (inr (inl (inr h)))) in
     record { some-states = omega arith; few-states = omega arith; few-edges = omega arith; few-blocks = omega arith }
 
 -- The flags of an accepted file are 0 or 1, and its numbers within bounds.
@@ -69,7 +69,7 @@ flag-low f a i h =
     let k = kind-state f b (λ z. omega arith) (omega arith) in
     ⊎-elim
     (λ (w : 1 < flagIn f i).
-    absurd (content-right (a .blocks b (omega arith)) (ContentFault.flag-wrong k (i % fullBlock) (omega (arith, at-state f b k .1)) w)))
+    absurd (content-right (a .blocks b (omega arith)) (ContentFault.flag-wrong k (i % fullBlock, (omega (arith, at-state f b k .1), w)))))
     (λ (l : flagIn f i ≤ 1). l)
     (below 1 (flagIn f i))
 

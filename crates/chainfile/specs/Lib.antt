@@ -1,3 +1,2 @@
 pub mod Input
-pub mod Fault
 pub mod Tells

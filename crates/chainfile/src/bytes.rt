@@ -3,8 +3,9 @@ ghost use mathlib.Core.Path.{_≡_};
 ghost use Prim.Native.Nat.{_+_, _^_, _≤_, _<_};
 ghost use lib.ListN.{getD};
 ghost use Rattle.meaning.specs.Block.{numberAt};
+ghost use Rattle.meaning.specs.File.{NonZero};
 ghost use Rattle.chain.specs.Least.{decides};
-ghost use Rattle.chainfile.specs.Input.{input, end, NonZero};
+ghost use Rattle.chainfile.specs.Input.{input, end};
 
 fn wide(x: u8) -> u64
     ensures { λ r. ⌜ (r ≡ x) × (r < 256) ⌝ }
@@ -39,7 +40,7 @@ pub(crate) fn number(kept: &[u8], at: usize, width: usize) -> u64
 
 // A byte from `low` on and before `high` is not 0.
 pub(crate) fn written(kept: &[u8], low: usize, high: usize) -> bool
-    ensures { λ r. ⌜ decides (NonZero (now (kept .entry)) low high) r ⌝ }
+    ensures { λ r. ⌜ decides (NonZero (input (now (kept .entry)) 0) low high) r ⌝ }
 {
     let mut at = low;
     while at < high {

@@ -1,9 +1,9 @@
 // What is wrong in the records of a block.
 ghost use Prim.Native.Nat.{_+_, _*_, _≤_};
 ghost use Rattle.meaning.specs.Block.{recordSize};
+ghost use Rattle.meaning.specs.File.{HeadFault, FlagFault, ReservedFault};
 ghost use Rattle.chain.specs.Least.{decides};
-ghost use Rattle.chainfile.specs.Input.{end};
-ghost use Rattle.chainfile.specs.Fault.{HeadFault, FlagFault, ReservedFault};
+ghost use Rattle.chainfile.specs.Input.{input, end};
 use crate::bytes;
 use crate::head;
 use crate::layout;
@@ -11,7 +11,7 @@ use chain::Chain;
 
 // The head's n or edges are out of bounds, or a reserved byte is not 0.
 pub(crate) fn head_wrong(kept: &[u8]) -> bool
-    ensures { λ r. ⌜ decides (HeadFault (now (kept .entry))) r ⌝ }
+    ensures { λ r. ⌜ decides (HeadFault (input (now (kept .entry)) 0)) r ⌝ }
 {
     let states = head::states(kept);
     if states == 0 {
@@ -37,7 +37,7 @@ pub(crate) fn head_wrong(kept: &[u8]) -> bool
 // Of `count` states' records from byte `at` on, one has a flag above 1.
 pub(crate) fn flag_wrong(kept: &[u8], at: usize, count: usize) -> bool
     requires { ⌜ at + recordSize * count ≤ end ⌝ }
-    ensures { λ r. ⌜ decides (FlagFault (now (kept .entry)) at count) r ⌝ }
+    ensures { λ r. ⌜ decides (FlagFault (input (now (kept .entry)) 0) at count) r ⌝ }
 {
     let mut i = 0;
     while i < count {
@@ -52,7 +52,7 @@ pub(crate) fn flag_wrong(kept: &[u8], at: usize, count: usize) -> bool
 // Of `count` edges' records from byte `at` on, one has a reserved byte that is not 0.
 pub(crate) fn reserved_wrong(kept: &[u8], at: usize, count: usize) -> bool
     requires { ⌜ at + recordSize * count ≤ end ⌝ }
-    ensures { λ r. ⌜ decides (ReservedFault (now (kept .entry)) at count) r ⌝ }
+    ensures { λ r. ⌜ decides (ReservedFault (input (now (kept .entry)) 0) at count) r ⌝ }
 {
     let mut i = 0;
     while i < count {

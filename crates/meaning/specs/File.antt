@@ -79,19 +79,32 @@ countOf f b =
     (choose (leb b (stateBlocks f)) (min fullBlock (headStates f - fullBlock * (b - 1)))
     (min fullBlock (headEdges f - fullBlock * (b - 1 - stateBlocks f))))
 
--- Byte j of record r of block b.
-abbrev pub recordByte : Input → ℕ → ℕ → ℕ → ℕ
-recordByte f b r j = byte f (recordsAt b + recordSize * r + j)
+-- A byte from low on and before high is not 0.
+abbrev pub NonZero : Input → ℕ → ℕ → Type 0
+NonZero f low high = (j : ℕ) × ((low ≤ j) × ((j < high) × (byte f j ≡ 0 → ⊥)))
 
--- 24: count, flag or reserved byte wrong; in the head also n not 1 to 64, or edges not 1 to 4,096.
+-- The head's n is not 1 to 64, its edges are not 1 to 4,096, or one of its four zeros is not 0.
+abbrev pub HeadFault : Input → Type 0
+HeadFault f =
+    ((headStates f ≡ 0) ⊎ (mostStates < headStates f))
+    ⊎ ((headEdges f ≡ 0) ⊎ (mostEdges < headEdges f))
+    ⊎ NonZero f (recordsAt 0 + headZeros) (recordsAt 0 + recordSize)
+
+-- Of so many states' records from byte `at` on, one has a flag that is not 0 or 1.
+abbrev pub FlagFault : Input → ℕ → ℕ → Type 0
+FlagFault f at count = (r : ℕ) × ((r < count) × (1 < byte f (at + recordSize * r + flagByte)))
+
+-- Of so many edges' records from byte `at` on, one has a reserved byte that is not 0.
+abbrev pub ReservedFault : Input → ℕ → ℕ → Type 0
+ReservedFault f at count = (r : ℕ) × ((r < count) × NonZero f (at + recordSize * r + edgeZeros) (at + recordSize * r + weightByte))
+
+-- 24: count, flag or reserved byte wrong; in the head also n or edges. The bytes after the last record are reserved too.
 pub data ContentFault (f : Input) (b : ℕ) : Type 0 where
   count-wrong : (numberAt f (countAt b) 2 ≡ countOf f b → ⊥) → ContentFault f b
-  rest-wrong : (j : ℕ) → recordsAt b + recordSize * countOf f b ≤ j → j < checkAt b → (byte f j ≡ 0 → ⊥) → ContentFault f b
-  states-wrong : b ≡ 0 → (headStates f ≡ 0) ⊎ (mostStates < headStates f) → ContentFault f b
-  edges-wrong : b ≡ 0 → (headEdges f ≡ 0) ⊎ (mostEdges < headEdges f) → ContentFault f b
-  head-reserved : kindOf f b ≡ 1 → (j : ℕ) → headZeros ≤ j → j < recordSize → (recordByte f b 0 j ≡ 0 → ⊥) → ContentFault f b
-  flag-wrong : kindOf f b ≡ 2 → (r : ℕ) → r < countOf f b → 1 < recordByte f b r flagByte → ContentFault f b
-  edge-reserved : kindOf f b ≡ 3 → (r : ℕ) → r < countOf f b → (j : ℕ) → edgeZeros ≤ j → j < weightByte → (recordByte f b r j ≡ 0 → ⊥) → ContentFault f b
+  rest-wrong : NonZero f (recordsAt b + recordSize * countOf f b) (checkAt b) → ContentFault f b
+  record-wrong : kindOf f b ≡ 1 → HeadFault f → ContentFault f b
+  flag-wrong : kindOf f b ≡ 2 → FlagFault f (recordsAt b) (countOf f b) → ContentFault f b
+  reserved-wrong : kindOf f b ≡ 3 → ReservedFault f (recordsAt b) (countOf f b) → ContentFault f b
 
 -- Block b is refused: 21, 22, 23 and 24 are tested in turn.
 pub data BlockRefused (f : Input) (b : ℕ) : ℕ → Type 0 where

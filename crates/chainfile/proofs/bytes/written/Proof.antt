@@ -19,7 +19,7 @@ loop-holds c = (omega arith, λ j h l. absurd (omega arith))
 returns : tie.Need-returns Inv-loop μ-loop
 returns c =
     let at = c .before .before .before in
-    record { at = at .loop .at; from = at .loop .inv .0; below = search needs; other = λ e. c .if1 .taken (c .before .byte .ensures .0 ∙ e) }
+    (at .loop .at, (at .loop .inv .0, (search needs, λ e. c .if1 .taken (c .before .byte .ensures .0 ∙ e))))
 
 loop-again : tie.Need-loop-again Inv-loop μ-loop
 loop-again c =
@@ -32,7 +32,7 @@ loop-again c =
     )
 
 returns-2 : tie.Need-returns-2 Inv-loop μ-loop
-returns-2 c = λ bad. bad .other (c .before .loop .inv .1 (bad .at) (bad .from) (omega (arith, bad .below)))
+returns-2 c = λ bad. bad .1 .1 .1 (c .before .loop .inv .1 (bad .0) (bad .1 .0) (omega (arith, bad .1 .1 .0)))
 
 pub written-spec : {M : Type 1} → statement M
 written-spec =

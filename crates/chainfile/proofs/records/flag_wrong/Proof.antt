@@ -16,13 +16,13 @@ abbrev μ-loop : tie.MeasureT-loop
 returns : tie.Need-returns Inv-loop μ-loop
 returns c =
     let at = c .before .before .before in
-    record { which = at .loop .i; below = search needs; above = omega (arith, c .before .byte .ensures .0) }
+    (at .loop .i, (search needs, omega (arith, c .before .byte .ensures .0)))
 
 loop-again : tie.Need-loop-again Inv-loop μ-loop
 loop-again c = pass (c .before .before .before .loop .inv) (search needs) (λ bad. omega (arith, c .before .byte .ensures .0))
 
 returns-2 : tie.Need-returns-2 Inv-loop μ-loop
-returns-2 c = λ bad. c .before .loop .inv .1 (bad .which) (omega (arith, bad .below)) (bad .above)
+returns-2 c = λ bad. c .before .loop .inv .1 (bad .0) (omega (arith, bad .1 .0)) (bad .1 .1)
 
 pub flag-wrong-spec : {M : Type 1} → statement M
 flag-wrong-spec =

@@ -2,30 +2,32 @@ use mathlib.Core.Path.{sym, _∙_}
 use mathlib.Core.Logic.{inl, inr}
 use native.Mathlib.Omega.{arith}
 use borrow.Author.Needs.{needs}
+use Rattle.meaning.specs.File.{HeadFault}
 use Rattle.chainfile.proofs.Content.{head-rest}
 use Rattle.chainfile.proofs.Law.{carry}
-use Rattle.chainfile.specs.Fault.{HeadFault}
+use Rattle.chainfile.specs.Input.{input}
 use Rattle.chainfile.proofs.records.head_wrong.Statement.{statement}
 use Rattle.chainfile.proofs.records.head_wrong.Tie as tie
 
 returns : tie.Need-returns
-returns c = HeadFault.states-fault (inl (sym (c .before .states .ensures .0) ∙ c .if1 .taken))
+returns c = inl (inl (sym (c .before .states .ensures .0) ∙ c .if1 .taken))
 
 returns-2 : tie.Need-returns-2
-returns-2 c = HeadFault.states-fault (inr (omega arith))
+returns-2 c = inl (inr (omega arith))
 
 returns-3 : tie.Need-returns-3
-returns-3 c = HeadFault.edges-fault (inl (sym (c .before .edges .ensures .0) ∙ c .if3 .taken))
+returns-3 c = inr (inl (inl (sym (c .before .edges .ensures .0) ∙ c .if3 .taken)))
 
 returns-4 : tie.Need-returns-4
-returns-4 c = HeadFault.edges-fault (inr (omega arith))
+returns-4 c = inr (inl (inr (omega arith)))
 
 returns-5 : tie.Need-returns-5
 returns-5 c =
     let d = c .before .before in
     let s = d .before .before .before in
-    carry _ (HeadFault (s .before .before .before .args .kept .now)) (c .written .result) (c .written .ensures) HeadFault.reserved-fault
-    (head-rest
+    let f = input (s .before .before .before .args .kept .now) 0 in
+    carry _ (HeadFault f) (c .written .result) (c .written .ensures) (λ n. inr (inr n))
+    (head-rest f
     (λ e. s .if1 .left (s .before .states .ensures .0 ∙ e))
     (omega (arith, s .before .states .ensures .0))
     (λ e. c .before .before .if3 .left (c .before .before .before .edges .ensures .0 ∙ e))

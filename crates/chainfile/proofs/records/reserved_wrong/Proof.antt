@@ -2,13 +2,14 @@ use Prim.Native.Nat.{_+_, _*_, _-_}
 use native.Mathlib.Omega.{arith}
 use borrow.Author.Needs.{needs}
 use Rattle.meaning.specs.Block.{recordSize, edgeZeros, weightByte}
+use Rattle.meaning.specs.File.{NonZero}
 use Rattle.chain.proofs.Law.{Passed, pass, holds, fails}
-use Rattle.chainfile.specs.Input.{NonZero}
+use Rattle.chainfile.specs.Input.{input}
 use Rattle.chainfile.proofs.records.reserved_wrong.Statement.{statement}
 use Rattle.chainfile.proofs.records.reserved_wrong.Tie as tie
 
 abbrev Inv-loop : tie.InvT-loop
-Inv-loop kept at count i₀ i = Passed (λ k. NonZero kept (at + recordSize * k + edgeZeros) (at + recordSize * k + weightByte)) count i
+Inv-loop kept at count i₀ i = Passed (λ k. NonZero (input kept 0) (at + recordSize * k + edgeZeros) (at + recordSize * k + weightByte)) count i
 
 abbrev μ-loop : tie.MeasureT-loop
 μ-loop kept at count i₀ i = count - i
@@ -16,13 +17,13 @@ abbrev μ-loop : tie.MeasureT-loop
 returns : tie.Need-returns Inv-loop μ-loop
 returns c =
     let at = c .before .before .before in
-    record { which = at .loop .i; below = search needs; other = holds _ (c .before .written .ensures) (c .if1 .taken) }
+    (at .loop .i, (search needs, holds _ (c .before .written .ensures) (c .if1 .taken)))
 
 loop-again : tie.Need-loop-again Inv-loop μ-loop
 loop-again c = pass (c .before .before .before .loop .inv) (search needs) (fails _ (c .before .written .ensures) (c .if1 .left))
 
 returns-2 : tie.Need-returns-2 Inv-loop μ-loop
-returns-2 c = λ bad. c .before .loop .inv .1 (bad .which) (omega (arith, bad .below)) (bad .other)
+returns-2 c = λ bad. c .before .loop .inv .1 (bad .0) (omega (arith, bad .1 .0)) (bad .1 .1)
 
 pub reserved-wrong-spec : {M : Type 1} → statement M
 reserved-wrong-spec =
