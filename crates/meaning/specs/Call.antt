@@ -1,13 +1,17 @@
 -- The call from C: file bytes, a mode and an answer of four 4-byte little-endian numbers.
-use Prim.Native.Nat.{ℕ, _+_, _*_, _/_, _%_, _^_, _≤_, _<_}
+use Prim.Native.Nat.{ℕ, _*_, _/_, _%_, _^_, _≤_, _<_}
 use mathlib.Core.Path.{_≡_}
 use mathlib.Core.Logic.{_⊎_}
 use mathlib.Core.List.{List, _++_}
-use lib.ListN.{length, getD}
-use Rattle.meaning.specs.Number.{sumTo, tabFrom, filled}
+use lib.ListN.{length}
+use Rattle.meaning.specs.Number.{tabFrom, filled}
 use Rattle.meaning.specs.Outcome.{Answer, ChanceOutcome, Bounds, between, BoundsOutcome}
-use Rattle.meaning.specs.Block.{Input}
+use Rattle.meaning.specs.Block.{Input, numberAt}
 use Rattle.meaning.specs.File.{FileRefused, Accepted, plainIn}
+
+-- The file as an input: all of its bytes are kept.
+abbrev pub wholeFile : List ℕ → Input
+wholeFile file = record { kept = file; more = 0 }
 
 -- Modes: 0 is the default and means exact, 1 exact, 2 bounds.
 abbrev pub defaultMode : ℕ
@@ -31,17 +35,13 @@ fourBytes x = tabFrom 0 4 (λ i. x / 256 ^ i % 256)
 abbrev pub answerBytes : ℕ → ℕ → ℕ → ℕ → List ℕ
 answerBytes p q s t = fourBytes p ++ fourBytes q ++ fourBytes s ++ fourBytes t
 
--- Number i of an answer, counted from 0, as it is read back: 4 bytes, little-endian.
+-- Number i of an answer, counted from 0, as it is read back: as a number of 4 bytes is read in a file.
 abbrev pub answerNumber : List ℕ → ℕ → ℕ
-answerNumber answer i = sumTo (λ j. getD answer (4 * i + j) 0 * 256 ^ j) 4
+answerNumber answer i = numberAt (wholeFile answer) (4 * i) 4
 
 -- The two fractions of an answer, as they are read back.
 abbrev pub answerRead : List ℕ → Bounds
 answerRead answer = between (answerNumber answer 0) (answerNumber answer 1) (answerNumber answer 2) (answerNumber answer 3)
-
--- The file as an input: all of its bytes are kept.
-abbrev pub wholeFile : List ℕ → Input
-wholeFile file = record { kept = file; more = 0 }
 
 -- What the engine of a mode says of an accepted file: its number, 0 where it answers, and the bytes of its fractions; the exact engine's
 -- fraction stands twice.

@@ -166,7 +166,7 @@ chainIn f =
       edges = edgesIn f;
     }
 
--- What an entry is lent of an accepted file. The work table is the caller's own, a program's or the C call's, and holds zeros.
+-- What an entry is lent of an accepted file, by a function whose work table is its own and holds zeros.
 abbrev pub lentIn : Input → List ℕ → Lent
 lentIn f rewards =
     record {
