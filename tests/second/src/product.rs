@@ -1,10 +1,11 @@
 //! The product as its users meet it: the C entry of its static library, and its program. Both are
-//! x86-64 code, so both are run as processes, by the script that runs such programs anywhere.
+//! x86-64 code, so both are run as processes, in the way that a script knows for this machine.
 
 use std::cell::RefCell;
 use std::io::{self, Read, Write};
 use std::path::{Path, PathBuf};
 use std::process::{Child, ChildStdin, ChildStdout, Command, Stdio};
+use std::sync::LazyLock;
 
 /// A path below the repository's root.
 fn below_root(path: &str) -> PathBuf {
@@ -21,15 +22,28 @@ pub fn program() -> PathBuf {
     below_root("target/bin/nightchance")
 }
 
+/// The words before a program that run x86-64 code here. The script is asked once: it costs a third
+/// of a report.
+static WAY: LazyLock<Vec<String>> = LazyLock::new(|| {
+    let mut script = Command::new(below_root("tests/x86-64"));
+    let output = script.arg("how").stderr(Stdio::inherit()).output();
+    let output = output.expect("the script that knows how x86-64 programs are run starts");
+    assert!(output.status.success(), "tests/x86-64 how ended with {}", output.status);
+    let words = String::from_utf8(output.stdout).expect("the words are UTF-8");
+    words.lines().map(str::to_string).collect()
+});
+
 fn start(program: &Path) -> Child {
-    Command::new(below_root("tests/x86-64"))
-        .arg("run")
-        .arg(program)
-        .stdin(Stdio::piped())
-        .stdout(Stdio::piped())
-        .stderr(Stdio::inherit())
-        .spawn()
-        .expect("the script that runs x86-64 programs starts")
+    let mut command = match WAY.split_first() {
+        None => Command::new(program),
+        Some((runner, words)) => {
+            let mut command = Command::new(runner);
+            command.args(words).arg(program);
+            command
+        }
+    };
+    command.stdin(Stdio::piped()).stdout(Stdio::piped()).stderr(Stdio::inherit());
+    command.spawn().unwrap_or_else(|error| panic!("{command:?} does not start: {error}"))
 }
 
 /// A driver that waits for requests.
