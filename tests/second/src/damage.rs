@@ -2,6 +2,7 @@
 
 use crate::block::{self, mend, FIRST_RECORD, LENGTH, RECORD, RECORDS};
 use crate::chain::Chain;
+use crate::damage_head::{head_field, outside_the_ranges};
 use crate::damage_tables;
 use crate::draft::Draft;
 use crate::entry::{ANSWER, BOUNDS};
@@ -19,9 +20,10 @@ pub struct Request {
 /// A family of damage: a name, and what damages the file of a well-formed chain.
 pub type Damage = (&'static str, fn(&mut Random, Chain) -> Vec<u8>);
 
-pub const DAMAGES: [Damage; 10] = [
+pub const DAMAGES: [Damage; 11] = [
     ("a field", any_field),
     ("the head", head_field),
+    ("outside the head's ranges", outside_the_ranges),
     ("any byte", any_byte),
     ("0 for FF", zero_for_ff),
     ("the check", check_byte),
@@ -29,8 +31,11 @@ pub const DAMAGES: [Damage; 10] = [
     ("beyond 69 blocks", beyond_the_most),
     ("moved blocks", moved_blocks),
     ("no chain at all", noise),
-    ("the tables", tables),
+    (RECORDS_WRONG, records_wrong),
 ];
+
+/// The family whose faults differ only in their place, which the C entry does not tell.
+pub const RECORDS_WRONG: &str = "the records";
 
 /// The file of some chain, damaged by one family, with a mode and a length that may be wrong too.
 pub fn request(random: &mut Random, damage: Damage) -> Request {
@@ -45,17 +50,22 @@ pub fn request(random: &mut Random, damage: Damage) -> Request {
 /// A chain to damage: of any family, and at times of two blocks of states or many of edges.
 fn base(random: &mut Random) -> Chain {
     if random.once_in(4) {
-        let n = random.pick(&[63, 64, 64]);
-        let mut draft = Draft::new(n);
-        for from in 0..n {
-            for _ in 0..random.pick(&[1, 2, 5]) {
-                draft.edge(from, random.below(n), 1);
-            }
-        }
-        draft.some_goals(random, 9);
-        return draft.finish(random);
+        many_blocks(random)
+    } else {
+        random.pick(&FAMILIES).1(random)
     }
-    random.pick(&FAMILIES).1(random)
+}
+
+fn many_blocks(random: &mut Random) -> Chain {
+    let n = random.pick(&[63, 64, 64]);
+    let mut draft = Draft::new(n);
+    for from in 0..n {
+        for _ in 0..random.pick(&[1, 2, 5]) {
+            draft.edge(from, random.below(n), 1);
+        }
+    }
+    draft.some_goals(random, 9);
+    draft.finish(random)
 }
 
 fn any_mode(random: &mut Random) -> u32 {
@@ -75,11 +85,11 @@ fn any_length(random: &mut Random) -> usize {
 }
 
 /// One block of a file.
-fn block_at(file: &mut [u8], place: usize) -> &mut [u8] {
+pub fn block_at(file: &mut [u8], place: usize) -> &mut [u8] {
     &mut file[place * LENGTH..(place + 1) * LENGTH]
 }
 
-fn any_block(random: &mut Random, file: &[u8]) -> usize {
+pub fn any_block(random: &mut Random, file: &[u8]) -> usize {
     random.below(file.len() / LENGTH)
 }
 
@@ -115,34 +125,7 @@ fn any_field(random: &mut Random, chain: Chain) -> Vec<u8> {
     file
 }
 
-/// The fields that every later test leans on, with the head's check always mended.
-fn head_field(random: &mut Random, chain: Chain) -> Vec<u8> {
-    let mut file = file::write(&chain);
-    let head = block_at(&mut file, 0);
-    for _ in 0..random.between(1, 2) {
-        match random.below(5) {
-            0 => head[FIRST_RECORD] = random.pick(&[0, 1, 62, 63, 64, 65, 127, 128, 255]),
-            1 => head[FIRST_RECORD] = head[FIRST_RECORD].wrapping_add(random.pick(&[1, 255])),
-            2 => {
-                let edges = random.pick(&[0u16, 1, 63, 64, 4_095, 4_096, 4_097, 32_768, 65_535]);
-                head[FIRST_RECORD + 2..FIRST_RECORD + 4].copy_from_slice(&edges.to_le_bytes());
-            }
-            3 => head[FIRST_RECORD + random.between(4, 7)] = random.byte(),
-            _ => {
-                head[FIRST_RECORD + 2] = head[FIRST_RECORD + 2].wrapping_add(random.pick(&[1, 255]))
-            }
-        }
-    }
-    mend(head);
-    if random.once_in(3) {
-        let place = any_block(random, &file);
-        let at = place * LENGTH + random.below(LENGTH);
-        file[at] = other_byte(random, file[at]);
-    }
-    file
-}
-
-fn other_byte(random: &mut Random, byte: u8) -> u8 {
+pub fn other_byte(random: &mut Random, byte: u8) -> u8 {
     let any = random.byte();
     let other = random.pick(&[0, 1, 2, 3, 255, any, byte.wrapping_add(1), byte.wrapping_sub(1)]);
     if other == byte {
@@ -265,7 +248,32 @@ fn noise(random: &mut Random, _: Chain) -> Vec<u8> {
     file
 }
 
-fn tables(random: &mut Random, mut chain: Chain) -> Vec<u8> {
+/// Whole blocks whose records are wrong: faults in the tables, or flags and zeros of some blocks.
+fn records_wrong(random: &mut Random, mut chain: Chain) -> Vec<u8> {
+    if random.once_in(5) {
+        let mut file = file::write(&many_blocks(random));
+        for _ in 0..random.between(1, 3) {
+            flag_or_zero_wrong(random, &mut file);
+        }
+        return file;
+    }
     damage_tables::damage(random, &mut chain);
     file::write(&chain)
+}
+
+/// A flag above 1, or another number where a block has a zero, with the check mended.
+fn flag_or_zero_wrong(random: &mut Random, file: &mut [u8]) {
+    let place = any_block(random, file);
+    let block = block_at(file, place);
+    let count = usize::from(block[block::COUNT]);
+    let end = FIRST_RECORD + count * RECORD;
+    let record = FIRST_RECORD + random.below(count) * RECORD;
+    let at = match block[block::KIND] {
+        _ if end < block::CHECK && random.once_in(4) => random.between(end, block::CHECK - 1),
+        block::HEAD => record + random.between(4, 7),
+        block::STATES => record + 6,
+        _ => record + random.between(2, 3),
+    };
+    block[at] = random.between(2, 255) as u8;
+    mend(block);
 }

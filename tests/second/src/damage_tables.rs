@@ -5,23 +5,30 @@ use crate::random::Random;
 
 type Damage = fn(&mut Random, &mut Chain);
 
-const DAMAGES: [Damage; 10] = [
-    start_outside,
-    no_goal,
+/// Those whose place tells where the fault is, each under its number; 6 and 10 have two causes.
+const PLACED: [Damage; 6] = [
     denominator_outside,
     edge_names_no_state,
     weight_outside,
     pair_again,
-    row_sum_off,
-    row_sum_off_by_a_turn,
-    order_entry_outside,
-    order_entry_again,
+    row_sum_wrong,
+    order_entry_wrong,
 ];
 
-/// One damage or more: with several, the least number that applies must be given.
+const PLACELESS: [Damage; 2] = [start_outside, no_goal];
+
+/// Faults of one number, whose least place must be given, or of several, whose least number must.
 pub fn damage(random: &mut Random, chain: &mut Chain) {
-    for _ in 0..random.pick(&[1, 1, 2, 3]) {
-        random.pick(&DAMAGES)(random, chain);
+    if random.once_in(2) {
+        let damage = random.pick(&PLACED);
+        for _ in 0..random.between(2, 4) {
+            damage(random, chain);
+        }
+        return;
+    }
+    for _ in 0..random.pick(&[1, 2, 3]) {
+        let damages = if random.once_in(5) { &PLACELESS[..] } else { &PLACED };
+        random.pick(damages)(random, chain);
     }
 }
 
@@ -83,6 +90,10 @@ fn pair_again(random: &mut Random, chain: &mut Chain) {
     }
 }
 
+fn row_sum_wrong(random: &mut Random, chain: &mut Chain) {
+    random.pick(&[row_sum_off, row_sum_off_by_a_turn])(random, chain);
+}
+
 fn row_sum_off(random: &mut Random, chain: &mut Chain) {
     let state = any_state(random, chain);
     let denominator = &mut chain.denominators[state];
@@ -108,12 +119,13 @@ fn row_sum_off_by_a_turn(random: &mut Random, chain: &mut Chain) {
     chain.denominators[state] = (sum - (1 << 32)) as u32;
 }
 
-fn order_entry_outside(random: &mut Random, chain: &mut Chain) {
+/// An entry that names no state, or one that another position has too.
+fn order_entry_wrong(random: &mut Random, chain: &mut Chain) {
     let position = any_state(random, chain);
-    chain.order[position] = no_state(random, chain);
-}
-
-fn order_entry_again(random: &mut Random, chain: &mut Chain) {
-    let (position, other) = (any_state(random, chain), any_state(random, chain));
-    chain.order[position] = chain.order[other];
+    let other = any_state(random, chain);
+    chain.order[position] = if position == other || random.once_in(2) {
+        no_state(random, chain)
+    } else {
+        chain.order[other]
+    };
 }

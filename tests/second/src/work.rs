@@ -3,7 +3,7 @@
 use crate::block;
 use crate::chain::Chain;
 use crate::compare;
-use crate::damage::{self, Request, DAMAGES};
+use crate::damage::{self, Request, DAMAGES, RECORDS_WRONG};
 use crate::entry::{Pair, ANSWER, BOUNDS, DEFAULT, EXACT};
 use crate::examples::EXAMPLES;
 use crate::file;
@@ -20,13 +20,13 @@ const SEED: u64 = 0x6e69_6768_7463_6861;
 /// How many units each part has.
 const CHAINS: u64 = 2_250 * FAMILIES.len() as u64;
 const ORDERED: u64 = 400;
-const DAMAGED: u64 = 2_200 * DAMAGES.len() as u64;
+const DAMAGED: u64 = 2_000 * DAMAGES.len() as u64;
 const UNITS: u64 = CHAINS + ORDERED + DAMAGED;
 
 /// How many orders each chain of the ordered part is given.
 const ORDERS: usize = 8;
-/// One unit in so many runs the program too. It shares no factor with the numbers of families, so
-/// that chains of every family reach the program.
+/// One unit in so many runs the program too, and each whose family asks for it. It shares no factor
+/// with the numbers of families, so that chains of every family reach the program.
 const REPORT_ONCE_IN: u64 = 23;
 
 /// How many of the units are done: all, or one in so many, which shares no factor with the others.
@@ -150,7 +150,7 @@ fn one_damage(tally: &mut Tally, seed: u64, place: u64, with_report: bool) {
     let case = Case { family: damage.0, seed };
     let request = damage::request(&mut Random::new(seed), damage);
     compare::entry(tally, case, &request, Asked::EntryOnDamage);
-    if with_report {
+    if with_report || damage.0 == RECORDS_WRONG {
         compare::report(tally, case, &request.file);
     }
 }
