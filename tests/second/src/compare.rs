@@ -27,26 +27,21 @@ pub fn entry(tally: &mut Tally, case: Case, request: &Request, asked: Asked) -> 
         expected_memory[start..start + ANSWER].copy_from_slice(&entry::bytes(answer));
     }
     let call = Call { file, mode: *mode, start, answer_length: *answer_length };
-    let Reply { number, file_unchanged } = product::chance(&call, &mut memory);
+    let reply = product::chance(&call, &mut memory);
 
     let expected_number = expected.map_or_else(|refusal| refusal.number, |_| 0);
-    let alike = number == expected_number && memory == expected_memory && file_unchanged;
+    let good = |reply: &Reply| reply.number == expected_number && reply.file_unchanged;
+    let alike = reply.as_ref().is_ok_and(good) && memory == expected_memory;
     tally.check(case, file, alike, || {
-        let told = |number, memory: &[u8]| match number {
-            0 => format!("the answer {:?}", numbers(&memory[start..])),
-            _ => format!("refusal {number}"),
+        let expected = told(expected_number, &expected_memory[start..]);
+        let came = match &reply {
+            Ok(reply) => differences(reply, &memory, &expected_memory, start),
+            Err(error) => format!("nothing: {error}"),
         };
-        let changed = (0..memory.len()).filter(|&at| memory[at] != expected_memory[at]);
-        format!(
-            "entry, mode {mode}, answer of {answer_length}: expected {}, came {}; wrong bytes, \
-             counted from the answer: {:?}; file unchanged: {file_unchanged}",
-            told(expected_number, &expected_memory),
-            told(number, &memory),
-            changed.map(|at| at as isize - start as isize).collect::<Vec<_>>()
-        )
+        format!("entry, mode {mode}, answer of {answer_length}: expected {expected}, came {came}")
     });
     tally.number(asked, expected_number);
-    if number != 0 || *answer_length < ANSWER {
+    if reply.ok()?.number != 0 || *answer_length < ANSWER {
         return None;
     }
     let answer = decode(&memory[start..])?;
@@ -54,6 +49,25 @@ pub fn entry(tally: &mut Tally, case: Case, request: &Request, asked: Asked) -> 
         tally.open_bounds += 1;
     }
     Some(answer)
+}
+
+/// What an entry returned, in words.
+fn told(number: u32, answer: &[u8]) -> String {
+    match number {
+        0 => format!("the answer {:?}", numbers(answer)),
+        _ => format!("refusal {number}"),
+    }
+}
+
+/// A reply in words, with every byte that is not as it was expected.
+fn differences(reply: &Reply, memory: &[u8], expected: &[u8], start: usize) -> String {
+    let changed = (0..memory.len()).filter(|&at| memory[at] != expected[at]);
+    format!(
+        "{}; wrong bytes, counted from the answer: {:?}; file unchanged: {}",
+        told(reply.number, &memory[start..]),
+        changed.map(|at| at as isize - start as isize).collect::<Vec<_>>(),
+        reply.file_unchanged
+    )
 }
 
 /// The four numbers of an answer.

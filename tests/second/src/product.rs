@@ -3,6 +3,7 @@
 
 use std::cell::RefCell;
 use std::io::{self, Read, Write};
+use std::mem;
 use std::path::{Path, PathBuf};
 use std::process::{Child, ChildStdin, ChildStdout, Command, Stdio};
 use std::sync::LazyLock;
@@ -81,6 +82,15 @@ impl Driver {
         let [number, unchanged] = numbers.map(u32::from_ne_bytes);
         Ok(Reply { number, file_unchanged: unchanged == 1 })
     }
+
+    /// How a driver ended on which a call failed with this error.
+    fn ended(mut self, error: io::Error) -> io::Error {
+        drop(self.requests.take());
+        match self.process.wait() {
+            Ok(status) => io::Error::other(format!("the driver ended with {status} ({error})")),
+            Err(_) => error,
+        }
+    }
 }
 
 impl Drop for Driver {
@@ -109,8 +119,11 @@ pub struct Reply {
 }
 
 /// What the C entry returns; `memory` then holds what it left there.
-pub fn chance(call: &Call, memory: &mut [u8]) -> Reply {
-    DRIVER.with_borrow_mut(|driver| driver.call(call, memory)).expect("the driver answers")
+pub fn chance(call: &Call, memory: &mut [u8]) -> io::Result<Reply> {
+    DRIVER.with_borrow_mut(|driver| {
+        // The next call finds a new driver, so that a crash is one failure and the run goes on.
+        driver.call(call, memory).map_err(|error| mem::replace(driver, Driver::new()).ended(error))
+    })
 }
 
 /// What `nightchance` prints for this file on its standard input.
