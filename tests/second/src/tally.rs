@@ -1,5 +1,6 @@
 //! Counts checks and tells of the first that fail.
 
+use std::ops::RangeInclusive;
 use std::{env, fs};
 
 /// How many failures are told in full.
@@ -14,6 +15,12 @@ pub enum Asked {
     EntryOnDamage,
     Report,
 }
+
+/// The numbers that a file's bytes, a mode and an answer's length can give; 0 is an answer. 11 needs
+/// a reward above what two bytes hold, and no well-formed chain comes to 13.
+const GIVEN: [RangeInclusive<usize>; 3] = [0..=10, 12..=12, 20..=24];
+/// Those that need a mode or an answer, which a report does not have.
+const NOT_REPORTED: [usize; 2] = [1, 2];
 
 /// A case: what made it, and the seed that makes it again.
 #[derive(Clone, Copy)]
@@ -63,6 +70,27 @@ impl Tally {
     /// Counts a number that was expected.
     pub fn number(&mut self, asked: Asked, number: u32) {
         self.numbers[asked as usize][number as usize] += 1;
+    }
+
+    /// Fails for each number that nothing expected: then a run of passes says nothing about it.
+    pub fn judge_coverage(&mut self) {
+        for number in GIVEN.into_iter().flatten() {
+            let [chains, damage, reports] = self.numbers.map(|column| column[number]);
+            self.cover(chains + damage > 0, || format!("no call of the entry expects {number}"));
+            if !NOT_REPORTED.contains(&number) {
+                self.cover(reports > 0, || format!("no report expects {number}"));
+            }
+        }
+    }
+
+    /// Counts one check of what the run itself covers; it is told however many others failed.
+    fn cover(&mut self, holds: bool, lacks: impl FnOnce() -> String) {
+        if holds {
+            self.passed += 1;
+        } else {
+            self.failed += 1;
+            self.told.push(format!("the run covers too little: {}", lacks()));
+        }
     }
 
     /// Adds what another thread counted.

@@ -46,6 +46,9 @@ pub fn run(once_in: u64) -> Tally {
             tally.join(worker.join().expect("a thread of this program failed"));
         }
     });
+    if once_in == ALL {
+        tally.judge_coverage();
+    }
     tally
 }
 
