@@ -7,7 +7,7 @@ use crate::random::Random;
 /// A family: a name, and what makes one of its chains.
 pub type Family = (&'static str, fn(&mut Random) -> Chain);
 
-pub const FAMILIES: [Family; 9] = [
+pub const FAMILIES: [Family; 10] = [
     ("tiny", tiny),
     ("walk", walk),
     ("banded", banded),
@@ -17,6 +17,7 @@ pub const FAMILIES: [Family; 9] = [
     ("unreachable", unreachable_states),
     ("near M", near_m),
     ("powers", powers),
+    ("beside a power", beside_a_power),
 ];
 
 /// One to four states, any edges: loops, starts that are goals, goals with edges out.
@@ -185,6 +186,27 @@ fn powers(random: &mut Random) -> Chain {
             }
         }
         draft.edge(from, random.pick(&[trap, trap, goal, 0]), total - 1 - to_next - to_self);
+    }
+    draft.goals[goal] = true;
+    draft.finish(random)
+}
+
+/// Neighbours whose row totals are 2^a − 1 and 2^a + 1. Their product, 2^(2a) − 1, needs one bit
+/// less taken off where it is rounded down than where it is rounded up.
+fn beside_a_power(random: &mut Random) -> Chain {
+    let n = random.pick(&[4, 4, 5, 6]);
+    let (goal, trap) = (n - 1, n - 2);
+    let power = 1 << random.between(16, 30);
+    let mut draft = Draft::new(n);
+    for from in 0..trap {
+        let total = if from % 2 == 0 { power - 1 } else { power + 1 };
+        let next = if from + 1 == trap { goal } else { from + 1 };
+        let most_to_next = random.pick(&[1, power / 2]);
+        let to_next = random.between(1, most_to_next);
+        let to_goal = random.between(1, power / 4);
+        draft.edge(from, next, to_next as u32);
+        draft.edge(from, goal, to_goal as u32);
+        draft.edge(from, random.pick(&[trap, trap, goal]), (total - to_next - to_goal) as u32);
     }
     draft.goals[goal] = true;
     draft.finish(random)

@@ -28,6 +28,7 @@ mod product;
 mod random;
 mod refusal;
 mod report;
+mod sharp;
 mod steps;
 mod tally;
 mod work;
