@@ -2,10 +2,13 @@
 
 use crate::chain::{Chain, M, MOST_STATES};
 use crate::draft::Draft;
+use crate::live::Reach;
 use crate::random::Random;
 
+type Make = fn(&mut Random) -> Chain;
+
 /// A family: a name, and what makes one of its chains.
-pub type Family = (&'static str, fn(&mut Random) -> Chain);
+pub type Family = (&'static str, Make);
 
 pub const FAMILIES: [Family; 10] = [
     ("tiny", tiny),
@@ -19,6 +22,30 @@ pub const FAMILIES: [Family; 10] = [
     ("powers", powers),
     ("beside a power", beside_a_power),
 ];
+
+/// Families whose chance mostly fits, whatever the order.
+const FITTING: [Make; 5] = [walk, banded, retry, traps, unreachable_states];
+
+/// A chain of the family. One whose start is not live has no rows: it is mostly drawn again.
+pub fn draw(random: &mut Random, family: Family) -> Chain {
+    loop {
+        let chain = (family.1)(random);
+        if Reach::of(&chain).live[chain.start()] || random.once_in(4) {
+            return chain;
+        }
+    }
+}
+
+/// A chain with many orders that mostly fit: three live states or more stand beside the start.
+pub fn draw_for_orders(random: &mut Random) -> Chain {
+    loop {
+        let chain = random.pick(&FITTING)(random);
+        let reach = Reach::of(&chain);
+        if reach.live[chain.start()] && reach.live_count() > 3 {
+            return chain;
+        }
+    }
+}
 
 /// One to four states, any edges: loops, starts that are goals, goals with edges out.
 fn tiny(random: &mut Random) -> Chain {

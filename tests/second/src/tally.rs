@@ -1,5 +1,7 @@
 //! Counts checks and tells of the first that fail.
 
+use std::collections::HashSet;
+use std::hash::{DefaultHasher, Hash, Hasher};
 use std::ops::RangeInclusive;
 use std::{env, fs};
 
@@ -21,6 +23,9 @@ pub enum Asked {
 const GIVEN: [RangeInclusive<usize>; 3] = [0..=10, 12..=12, 20..=24];
 /// Those that need a mode or an answer, which a report does not have.
 const NOT_REPORTED: [usize; 2] = [1, 2];
+/// How many different chains a run has at least, and how many that fit in different orders.
+const CHAINS: usize = 20_000;
+const REORDERED: u64 = 300;
 
 /// A case: what made it, and the seed that makes it again.
 #[derive(Clone, Copy)]
@@ -36,6 +41,10 @@ pub struct Tally {
     told: Vec<String>,
     /// How often each number was expected, by `Asked`; 0 is an answer.
     numbers: [[u64; NUMBERS]; 3],
+    /// The generated chains, each by a hash of its file, so that none counts twice.
+    chains: HashSet<u64>,
+    /// Chains whose chance fits in two different orders or more.
+    pub reordered: u64,
     /// Bounds whose lower and upper fraction differ.
     pub open_bounds: u64,
     /// Reports whose reward is a fraction, infinite, and refused.
@@ -67,12 +76,20 @@ impl Tally {
         }
     }
 
+    /// Counts a generated chain.
+    pub fn chain(&mut self, file: &[u8]) {
+        let mut hasher = DefaultHasher::new();
+        file.hash(&mut hasher);
+        self.chains.insert(hasher.finish());
+    }
+
     /// Counts a number that was expected.
     pub fn number(&mut self, asked: Asked, number: u32) {
         self.numbers[asked as usize][number as usize] += 1;
     }
 
-    /// Fails for each number that nothing expected: then a run of passes says nothing about it.
+    /// Fails for each number that nothing expected, because a pass says nothing about it, and where
+    /// chains or orders are too few.
     pub fn judge_coverage(&mut self) {
         for number in GIVEN.into_iter().flatten() {
             let [chains, damage, reports] = self.numbers.map(|column| column[number]);
@@ -81,6 +98,9 @@ impl Tally {
                 self.cover(reports > 0, || format!("no report expects {number}"));
             }
         }
+        let (chains, reordered) = (self.chains.len(), self.reordered);
+        self.cover(chains >= CHAINS, || format!("only {chains} chains differ"));
+        self.cover(reordered >= REORDERED, || format!("only {reordered} chains fit in two orders"));
     }
 
     /// Counts one check of what the run itself covers; it is told however many others failed.
@@ -105,6 +125,8 @@ impl Tally {
         for (mine, theirs) in self.rewards.iter_mut().zip(other.rewards) {
             *mine += theirs;
         }
+        self.chains.extend(other.chains);
+        self.reordered += other.reordered;
         self.open_bounds += other.open_bounds;
     }
 
@@ -121,6 +143,8 @@ impl Tally {
             }
         }
         let [fractions, infinite, refused] = self.rewards;
+        println!("different generated chains: {}", self.chains.len());
+        println!("chains that fit in two orders or more: {}", self.reordered);
         println!("bounds whose fractions differ: {}", self.open_bounds);
         println!("rewards: {fractions} fractions, {infinite} infinite, {refused} refused");
         println!("second: {} passed, {} failed", self.passed, self.failed);

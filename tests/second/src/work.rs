@@ -7,11 +7,13 @@ use crate::damage::{self, Request, DAMAGES, RECORDS_WRONG};
 use crate::entry::{Pair, ANSWER, BOUNDS, DEFAULT, EXACT};
 use crate::examples::EXAMPLES;
 use crate::file;
-use crate::generate::FAMILIES;
+use crate::generate::{self, FAMILIES};
+use crate::live::Reach;
 use crate::random::Random;
 use crate::sharp;
 use crate::tally::{Asked, Case, Tally};
 use crate::worked;
+use std::collections::HashSet;
 use std::sync::atomic::{AtomicU64, Ordering};
 use std::thread;
 
@@ -19,7 +21,7 @@ use std::thread;
 const SEED: u64 = 0x6e69_6768_7463_6861;
 
 /// How many units each part has.
-const CHAINS: u64 = 2_250 * FAMILIES.len() as u64;
+const CHAINS: u64 = 2_300 * FAMILIES.len() as u64;
 const ORDERED: u64 = 400;
 const DAMAGED: u64 = 2_000 * DAMAGES.len() as u64;
 const UNITS: u64 = CHAINS + ORDERED + DAMAGED;
@@ -117,12 +119,14 @@ fn compare_chain(tally: &mut Tally, case: Case, chain: &Chain) -> (Option<Pair>,
 }
 
 fn one_chain(tally: &mut Tally, seed: u64, place: u64, with_report: bool) {
-    let (family, make) = FAMILIES[(place % FAMILIES.len() as u64) as usize];
-    let case = Case { family, seed };
-    let chain = make(&mut Random::new(seed));
+    let family = FAMILIES[(place % FAMILIES.len() as u64) as usize];
+    let case = Case { family: family.0, seed };
+    let chain = generate::draw(&mut Random::new(seed), family);
+    let file = file::write(&chain);
+    tally.chain(&file);
     compare_chain(tally, case, &chain);
     if with_report {
-        compare::report(tally, case, &file::write(&chain));
+        compare::report(tally, case, &file);
     }
 }
 
@@ -130,15 +134,20 @@ fn one_chain(tally: &mut Tally, seed: u64, place: u64, with_report: bool) {
 fn one_chain_in_many_orders(tally: &mut Tally, seed: u64) {
     let case = Case { family: "orders", seed };
     let mut random = Random::new(seed);
-    let mut chain = random.pick(&FAMILIES).1(&mut random);
+    let mut chain = generate::draw_for_orders(&mut random);
     let mut chances = Vec::new();
     let mut all_bounds = Vec::new();
+    let mut turns_that_fit = HashSet::new();
     for _ in 0..ORDERS {
         random.shuffle(&mut chain.order);
         let (exact, bounds) = compare_chain(tally, case, &chain);
-        chances.extend(exact.map(|(chance, _)| chance));
+        if let Some((chance, _)) = exact {
+            chances.push(chance);
+            turns_that_fit.insert(turns(&chain));
+        }
         all_bounds.extend(bounds);
     }
+    tally.reordered += u64::from(turns_that_fit.len() > 1);
     let Some(&chance) = chances.first() else { return };
     let file = file::write(&chain);
     tally.check(case, &file, chances.iter().all(|&other| other == chance), || {
@@ -147,6 +156,13 @@ fn one_chain_in_many_orders(tally: &mut Tally, seed: u64) {
     for bounds in all_bounds {
         compare::enclosure(tally, case, &file, chance, bounds);
     }
+}
+
+/// The states that are removed, in their turn: all that an order decides.
+fn turns(chain: &Chain) -> Vec<u8> {
+    let reach = Reach::of(chain);
+    let removed = |&state: &u8| reach.live[usize::from(state)] && state != chain.start;
+    chain.order.iter().copied().filter(removed).collect()
 }
 
 fn one_damage(tally: &mut Tally, seed: u64, place: u64, with_report: bool) {
