@@ -16,6 +16,34 @@
 #include <string.h>
 #include <sys/mman.h>
 
+/* What document 01 gives for each name of the header. */
+#define IS(name, value) _Static_assert(EGORSTREAM_##name == (value), #name)
+IS(MODE_DEFAULT, 0);
+IS(MODE_EXACT, 1);
+IS(MODE_BOUNDS, 2);
+IS(ANSWER_LENGTH, 16);
+IS(MOST_FILE_LENGTH, 69 * 512);
+IS(ANSWERED, 0);
+IS(MODE_OR_LENGTH_WRONG, 1);
+IS(ANSWER_TOO_SHORT, 2);
+IS(START_WRONG, 3);
+IS(GOALS_WRONG, 4);
+IS(DENOMINATOR_WRONG, 5);
+IS(EDGE_STATE_WRONG, 6);
+IS(WEIGHT_WRONG, 7);
+IS(EDGE_GIVEN_BEFORE, 8);
+IS(ROW_SUM_WRONG, 9);
+IS(ORDER_WRONG, 10);
+IS(REWARD_WRONG, 11);
+IS(NO_FIT, 12);
+IS(DIVISOR_ZERO, 13);
+IS(FILE_LENGTH_WRONG, 20);
+IS(BLOCK_CHECK_WRONG, 21);
+IS(BLOCK_NUMBER_WRONG, 22);
+IS(BLOCK_KIND_WRONG, 23);
+IS(BLOCK_CONTENT_WRONG, 24);
+#undef IS
+
 /* A page, or a multiple of it, on every machine that this runs on. */
 #define PAGE ((size_t)65536)
 
