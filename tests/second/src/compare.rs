@@ -92,10 +92,13 @@ pub fn enclosure(tally: &mut Tally, case: Case, file: &[u8], exact: Fraction, bo
     });
 }
 
-/// Runs `nightchance` and compares its whole report.
-pub fn report(tally: &mut Tally, case: Case, file: &[u8]) {
+/// Runs `nightchance` and compares its whole report, which it hands back.
+pub fn report(tally: &mut Tally, case: Case, file: &[u8]) -> String {
     let expected = report::of_file(file);
-    let came = product_report(file);
+    let came = match product::report(file) {
+        Ok(bytes) => String::from_utf8_lossy(&bytes).into_owned(),
+        Err(error) => format!("nothing: {error}"),
+    };
     tally.check(case, file, came == expected, || {
         format!("report: expected {expected:?}, came {came:?}")
     });
@@ -114,21 +117,15 @@ pub fn report(tally: &mut Tally, case: Case, file: &[u8]) {
             _ => {}
         }
     }
+    came
 }
 
-/// Runs `nightchance` and compares the lines of its report that are known from elsewhere.
+/// Compares a whole report, and those of its lines that are known from elsewhere.
 pub fn report_lines(tally: &mut Tally, case: Case, file: &[u8], expected: &[&str]) {
-    let came = product_report(file);
+    let came = report(tally, case, file);
     for line in expected {
         tally.check(case, file, came.lines().any(|other| other == *line), || {
             format!("report: expected the line {line:?}, came {came:?}")
         });
-    }
-}
-
-fn product_report(file: &[u8]) -> String {
-    match product::report(file) {
-        Ok(bytes) => String::from_utf8_lossy(&bytes).into_owned(),
-        Err(error) => format!("nothing: {error}"),
     }
 }
