@@ -5,7 +5,7 @@ use crate::random::Random;
 
 type Damage = fn(&mut Random, &mut Chain);
 
-/// Those whose place tells where the fault is, each under its number; 6 and 10 have two causes.
+/// Damage whose refusal has a place, one for each number; each fault of it comes in two ways or more.
 const PLACED: [Damage; 6] = [
     denominator_outside,
     edge_names_no_state,
