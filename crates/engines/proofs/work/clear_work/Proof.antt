@@ -1,9 +1,6 @@
-use Prim.Native.Nat.{ℕ, _≤_}
-use mathlib.Core.Path.{_≡_, sym}
-use mathlib.Core.List.{List}
+use mathlib.Core.Path.{sym}
 use native.Mathlib.Nat.{mul-le-mul}
 use native.Mathlib.Omega.{arith}
-use lib.ListN.{length, take}
 use lib.Seq.{length-take-le}
 use borrow.Author.Needs.{needs}
 use Rattle.meaning.specs.Refusal.{workSize}
@@ -13,19 +10,15 @@ use Rattle.engines.proofs.work.clear_work.Tie as tie
 mul-m : tie.Need-mul-m
 mul-m c = let h = c .before .pre in omega (arith, mul-le-mul (h .0) (h .0))
 
--- The part that is lent is as long as the table.
-size : (n : ℕ) (w : List ℕ) → workSize n ≤ length w → length (take (workSize n) w) ≡ workSize n
-size n w = length-take-le (workSize n) w
-
 slice-aggregate-clear : tie.Need-slice-aggregate-clear
 slice-aggregate-clear c =
     let s = c .before .before in
-    sym (size (s .args .n) (s .args .work .now) (s .pre .1))
+    sym (length-take-le _ (s .args .work .now) (omega (arith, s .pre .1)))
 
 returns : tie.Need-returns
 returns c =
     let s = c .before .before .before .before .before in
-    rw (c .before .before .clear .ensures, size (s .args .n) (s .args .work .now) (s .pre .1))
+    rw (c .before .before .clear .ensures, length-take-le (workSize (s .args .n)) (s .args .work .now) (s .pre .1))
 
 pub clear-work-spec : {M : Type 1} → statement M
 clear-work-spec =
