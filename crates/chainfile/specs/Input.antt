@@ -1,4 +1,4 @@
--- What is kept of an input, and the bytes in it.
+-- An input from what is kept of it, and the most blocks that a file has.
 use Prim.Native.Nat.{ℕ, _+_}
 use mathlib.Core.List.{List}
 use Rattle.meaning.specs.Chain.{mostStates, mostEdges}
