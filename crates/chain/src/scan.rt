@@ -14,7 +14,7 @@ pub(crate) enum Place {
 }
 
 // Neither a denominator nor a weight.
-fn outside(x: u64) -> bool
+fn out_of_range(x: u64) -> bool
     ensures { λ r. ⌜ decides (OutOfRange x) r ⌝ }
 {
     if x == 0 {
@@ -29,7 +29,7 @@ pub(crate) fn denominators(n: usize, denominators: &[u64]) -> Place
 {
     let mut i = 0;
     while i < n {
-        if outside(denominators[i]) {
+        if out_of_range(denominators[i]) {
             return Place::At(i);
         }
         i += 1;
@@ -61,7 +61,7 @@ pub(crate) fn weights(edges: &[u64]) -> Place
     let count = edge::count(edges);
     let mut e = 0;
     while e < count {
-        if outside(edge::weight(edges, e)) {
+        if out_of_range(edge::weight(edges, e)) {
             return Place::At(e);
         }
         e += 1;

@@ -1,38 +1,42 @@
--- Fletcher's two sums in one pass.
-use Prim.Native.Nat.{ℕ, _+_, _%_, _≤_, _<_}
-use mathlib.Core.Path.{_≡_, refl, ap, _∙_}
-use native.Mathlib.Nat.{mod-lt}
+-- Fletcher's two sums in one pass, with one remainder at the end.
+use Prim.Native.Nat.{ℕ, _+_, _*_, _%_, _≤_, _<_}
+use mathlib.Core.Path.{_≡_, sym, ap, _∙_}
+use native.Mathlib.Nat.{mod-eq-of-lt, mod-add-mod, add-mod}
 use native.Mathlib.Numerals.{add-one}
 use native.Mathlib.Omega.{arith}
 use Rattle.meaning.specs.Block.{firstSum, secondSum}
+use Rattle.chainfile.specs.Input.{end}
 
--- After i of the bytes: both sums so far.
+-- After i of the bytes: both sums so far, of which only the remainders count, and how large they are.
 pub record Summed (m s : ℕ) (f : ℕ → ℕ) (count i first second : ℕ) : Type 0 where
   pub upto : i ≤ count
-  pub first-is : first ≡ firstSum m s f i
-  pub second-is : second ≡ secondSum m s f i
-  pub first-small : first < m
-  pub second-small : second < m
+  pub first-is : first % m ≡ firstSum m s f i
+  pub second-is : second % m ≡ secondSum m s f i
+  pub first-most : first ≤ 65536 + 255 * i
+  pub second-most : second ≤ 16777216 * (i + 1)
 
 module _ {m s : ℕ} {f : ℕ → ℕ} {count : ℕ} where
-  pub none : s < m → Summed m s f count 0 s s
+  pub none : s < m → m < 65536 → Summed m s f count 0 s s
   unfolding firstSum secondSum
-  none h = record { upto = omega arith; first-is = refl; second-is = refl; first-small = h; second-small = h }
+  none h l = record { upto = omega arith; first-is = mod-eq-of-lt h; second-is = mod-eq-of-lt h; first-most = omega arith; second-most = omega arith }
 
-  pub more : {i first second b : ℕ} → Summed m s f count i first second → i < count → 0 < m → b ≡ f i
-      → Summed m s f count (i + 1) ((first + b) % m) ((second + (first + b) % m) % m)
+  pub more : {i first second b : ℕ} → Summed m s f count i first second → i < count → count ≤ end → b ≡ f i → b < 256
+      → Summed m s f count (i + 1) (first + b) (second + (first + b))
   unfolding firstSum secondSum
-  more {i} {first} {second} {b} g h p e =
+  more {i} {first} {second} {b} g h l e k =
       record {
         upto = omega arith;
-        first-is = rw (add-one, g .first-is, e);
-        second-is = rw (add-one, g .first-is, g .second-is, e);
-        first-small = mod-lt _ p;
-        second-small = mod-lt _ p;
+        first-is = next;
+        second-is = add-mod second (first + b) m ∙ rw (next, g .second-is, add-one);
+        first-most = omega (arith, g .first-most);
+        second-most = omega (arith, g .first-most, g .second-most);
       }
+    where
+      next : (first + b) % m ≡ firstSum m s f (i + 1)
+      next = sym (mod-add-mod first m b) ∙ rw (add-one, g .first-is, e)
 
   pub all : {i first second : ℕ} → Summed m s f count i first second → count ≤ i
-      → (first ≡ firstSum m s f count) × (second ≡ secondSum m s f count)
+      → (first % m ≡ firstSum m s f count) × (second % m ≡ secondSum m s f count)
   all {i} g h =
       let e : i ≡ count = omega (arith, g .upto) in
       (g .first-is ∙ ap (firstSum m s f) e, g .second-is ∙ ap (secondSum m s f) e)

@@ -15,7 +15,8 @@ pub(crate) struct Sums {
     pub(crate) second: u64,
 }
 
-// Of `count` bytes from byte `at` on, modulo `modulus`, both begun at `begin`. The modulus is small, so that no sum wraps.
+// Of `count` bytes from byte `at` on, modulo `modulus`, both begun at `begin`. A file has so few bytes that neither sum wraps: one remainder at
+// the end does for all of them.
 pub(crate) fn fletcher(kept: &[u8], at: usize, count: usize, modulus: u64, begin: u64) -> Sums
     requires { ⌜ (at + count ≤ end) × (0 < modulus) × (modulus < 65536) × (begin < modulus) ⌝ }
     ensures { λ r. ⌜ (r .first ≡ firstSum modulus begin (λ j. byte (input (now (kept .entry)) 0) (at + j)) count) × (r .second ≡ secondSum modulus begin (λ j. byte (input (now (kept .entry)) 0) (at + j)) count) ⌝ }
@@ -24,9 +25,12 @@ pub(crate) fn fletcher(kept: &[u8], at: usize, count: usize, modulus: u64, begin
     let mut second = begin;
     let mut i = 0;
     while i < count {
-        first = (first + bytes::byte(kept, at + i)) % modulus;
-        second = (second + first) % modulus;
+        first += bytes::byte(kept, at + i);
+        second += first;
         i += 1;
     }
-    Sums { first, second }
+    Sums {
+        first: first % modulus,
+        second: second % modulus,
+    }
 }

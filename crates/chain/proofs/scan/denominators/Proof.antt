@@ -12,10 +12,10 @@ abbrev μ-loop : tie.MeasureT-loop
 μ-loop n denominators i₀ i = n - i
 
 returns : tie.Need-returns Inv-loop μ-loop
-returns c = stop (c .before .before .before .before .loop .inv) (search needs, holds _ (c .before .outside .ensures) (c .if1 .taken))
+returns c = stop (c .before .before .before .before .loop .inv) (search needs, holds _ (c .before .out-of-range .ensures) (c .if1 .taken))
 
 loop-again : tie.Need-loop-again Inv-loop μ-loop
-loop-again c = pass (c .before .before .before .before .loop .inv) (search needs) (λ bad. fails _ (c .before .outside .ensures) (c .if1 .left) (bad .1))
+loop-again c = pass (c .before .before .before .before .loop .inv) (search needs) (λ bad. fails _ (c .before .out-of-range .ensures) (c .if1 .left) (bad .1))
 
 returns-2 : tie.Need-returns-2 Inv-loop μ-loop
 returns-2 c = done (c .before .loop .inv) (search needs) (λ k bad. bad .0)

@@ -2,8 +2,8 @@ use mathlib.Core.Logic.{⊎-elim, inl, inr}
 use Rattle.chain.proofs.Law.{compares}
 use Rattle.meaning.specs.Chain.{M}
 use Rattle.meaning.specs.Refusal.{OutOfRange}
-use Rattle.chain.proofs.scan.outside.Statement.{statement}
-use Rattle.chain.proofs.scan.outside.Tie as tie
+use Rattle.chain.proofs.scan.out_of_range.Statement.{statement}
+use Rattle.chain.proofs.scan.out_of_range.Tie as tie
 
 returns : tie.Need-returns
 returns c = inl (c .if1 .taken)
@@ -13,5 +13,5 @@ returns-2 c =
     let x = c .before .args .x in
     compares (OutOfRange x) M x inr (⊎-elim (λ z. absurd (c .if1 .left z)) (λ h. h))
 
-pub outside-spec : {M : Type 1} → statement M
-outside-spec = tie.close (tie.spec returns returns-2)
+pub out-of-range-spec : {M : Type 1} → statement M
+out-of-range-spec = tie.close (tie.spec returns returns-2)
