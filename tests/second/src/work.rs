@@ -21,7 +21,7 @@ use std::thread;
 const SEED: u64 = 0x6e69_6768_7463_6861;
 
 /// How many units each part has.
-const CHAINS: u64 = 2_300 * FAMILIES.len() as u64;
+const CHAINS: u64 = 2_100 * FAMILIES.len() as u64;
 const ORDERED: u64 = 400;
 const DAMAGED: u64 = 2_000 * DAMAGES.len() as u64;
 const UNITS: u64 = CHAINS + ORDERED + DAMAGED;
