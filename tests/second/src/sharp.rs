@@ -74,19 +74,3 @@ fn rewards() -> Vec<Worked> {
         },
     ]
 }
-
-#[cfg(test)]
-mod tests {
-    use super::*;
-    use crate::{file, report};
-
-    #[test]
-    fn every_sharp_chain_has_its_answer() {
-        for case in chains() {
-            let report = report::of_file(&file::write(&case.chain));
-            for line in case.lines {
-                assert!(report.lines().any(|l| l == *line), "{}: {line}\n{report}", case.name);
-            }
-        }
-    }
-}

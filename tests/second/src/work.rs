@@ -10,7 +10,6 @@ use crate::file;
 use crate::generate::{self, FAMILIES};
 use crate::live::Reach;
 use crate::random::Random;
-use crate::sharp;
 use crate::tally::{Asked, Case, Tally};
 use crate::worked;
 use std::collections::HashSet;
@@ -77,7 +76,7 @@ fn worker(next: &AtomicU64, once_in: u64) -> Tally {
 /// The chains worked by hand and the examples: all the product's answers, and the lines that
 /// document 01, our own working and the examples' script give.
 fn known_answers(tally: &mut Tally) {
-    for (place, worked) in worked::chains().into_iter().chain(sharp::chains()).enumerate() {
+    for (place, worked) in worked::all().into_iter().enumerate() {
         let case = Case { family: worked.name, seed: place as u64 };
         compare_chain(tally, case, &worked.chain);
         compare::report_lines(tally, case, &file::write(&worked.chain), worked.lines);

@@ -1,6 +1,7 @@
 //! The chains that document 01 works by hand, with its answers.
 
 use crate::chain::{Chain, Edge, M};
+use crate::sharp;
 
 /// A chain with what its report must say.
 pub struct Worked {
@@ -126,6 +127,13 @@ pub fn chains() -> Vec<Worked> {
     cases
 }
 
+/// The chains of document 01, and those at the edges of its rules.
+pub fn all() -> Vec<Worked> {
+    let mut cases = chains();
+    cases.extend(sharp::chains());
+    cases
+}
+
 #[cfg(test)]
 mod tests {
     use super::*;
@@ -133,7 +141,7 @@ mod tests {
 
     #[test]
     fn every_worked_chain_has_its_answer() {
-        for case in chains() {
+        for case in all() {
             let report = report::of_file(&file::write(&case.chain));
             for line in case.lines {
                 assert!(report.lines().any(|l| l == *line), "{}: {line}\n{report}", case.name);
