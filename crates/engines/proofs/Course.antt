@@ -6,7 +6,7 @@ use mathlib.Core.List.{List, _++_}
 use lib.ListN.{drop, replicate}
 use Rattle.meaning.specs.Step.{Table, row, Sets, goes, first, after}
 use Rattle.meaning.specs.Refusal.{Lent, workSize}
-use Rattle.meaning.specs.Stop.{rewardOf, tableAt, Passed, Stops}
+use Rattle.meaning.specs.Stop.{earns, tableAt, Passed, Stops}
 use Rattle.meaning.specs.Outcome.{cleared}
 use Rattle.engines.specs.Table.{rowAt, tableOf, Kept}
 use Rattle.engines.specs.Turn.{Reached}
@@ -26,7 +26,7 @@ module _ (b : Bool) (l : Lent) (k : Sets) where
   n = l .chain .states
 
   abbrev firstTable : Table
-  firstTable = first b (l .chain) k (rewardOf l) (λ _. 0)
+  firstTable = first b (l .chain) k (earns l) (λ _. 0)
 
   abbrev go : ℕ → Bool
   go = goes (l .chain .start) (k .live)

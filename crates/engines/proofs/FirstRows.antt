@@ -11,20 +11,19 @@ use lib.Seq.{ext-getD, getD-set-same, getD-set-other}
 use borrow.Author.Tests.{eq-eqb, ne-eqb, eqb-true, eqb-false}
 use Rattle.meaning.specs.Number.{sumTo, only, choose, bit}
 use Rattle.meaning.specs.Chain.{mostReward, mostStates, Chain, denominator, edgeCount, from, to, carried, flow, along}
-use Rattle.meaning.specs.Figure.{earned}
 use Rattle.meaning.specs.Row.{cell, total, rounding}
 use Rattle.meaning.specs.Step.{row, Sets, Right, given, firstRow, noRow, first, after}
 use Rattle.meaning.specs.Refusal.{Lent, Entry, WellFormed}
-use Rattle.meaning.specs.Stop.{rewardOf, Stops}
+use Rattle.meaning.specs.Stop.{earns, Stops}
 use Rattle.theory.specs.Sum.{same, below, sum-ext, sum-zero}
 use Rattle.theory.specs.Tab.{tab-ext}
 use Rattle.theory.specs.Flow.{flow-ext}
 use Rattle.theory.specs.Given.{Fate, live, won, lost, Alive, goes-to, given-state, given-goal, given-trap, given-unknown, given-reward, given-length, given-total}
 use Rattle.theory.specs.First.{first-row}
-use Rattle.theory.specs.Formed.{few-states, room, formed-fine, from-in, denominators-length, denominator-small, reward-small, unpaid}
+use Rattle.theory.specs.Formed.{few-states, room, formed-fine, from-in, denominators-length, denominator-small, reward-small, reward-none}
 use Rattle.engines.specs.Table.{rowAt, Renewed}
 use Rattle.engines.specs.Turn.{Unfit}
-use Rattle.engines.specs.First.{columnOf, share, Held, Gatherable, finished, finishedAt, Finishable, Asked, Made}
+use Rattle.engines.specs.First.{columnOf, share, Held, Gatherable, finished, earnedAt, finishedAt, Finishable, Asked, Made}
 use Rattle.engines.proofs.Rows.{noRow-fit}
 use Rattle.engines.proofs.Tables.{kept-more, length-row}
 use Rattle.engines.proofs.Cells.{zero-row, share-dead, share-live}
@@ -84,8 +83,8 @@ module _ (c : Chain) (k : Sets) where
     in-unknown h (lost a b d) = rw (column-lost a d, ne-eqb (n + 1) (n + 2) (omega arith))
 
   module _ (b : Bool) (rewards work : List ℕ) (a : Asked b c k rewards work) where
-    abbrev r : ℕ → ℕ
-    r i = getD rewards i 0
+    abbrev pay : ℕ → ℕ
+    pay = earnedAt (c .denominators) rewards
 
     pub asked-gatherable : Gatherable n (c .edges) work
     asked-gatherable =
@@ -101,32 +100,32 @@ module _ (c : Chain) (k : Sets) where
     module _ (i : ℕ) (q : Alive c k i) where
       by-target : (f g : ℕ → ℕ) → ((t : ℕ) → t < n → Fate c k t → f t ≡ g t) → along c i f ≡ along c i g
       by-target f g h =
-          flow-ext (c .edges) i f g (λ e l p. h (to (c .edges) e) (a .fine .targets e l) (goes-to c k r (a .fine) (a .right) i e q l p))
+          flow-ext (c .edges) i f g (λ e l p. h (to (c .edges) e) (a .fine .targets e l) (goes-to c k pay (a .fine) (a .right) i e q l p))
 
-      flow-state : (j : ℕ) → j < n → along c i (λ t. only (eqb (columnOf n k t) j) 1) ≡ cell (given c k r 0 i) j
+      flow-state : (j : ℕ) → j < n → along c i (λ t. only (eqb (columnOf n k t) j) 1) ≡ cell (given c k pay 0 i) j
       flow-state j h =
           ⊎-elim
           (λ (m : bit (k .live) j ≡ 1).
           by-target _ (λ t. only (eqb t j) 1) (λ t l f. in-live t j l h m f)
-          ∙ sym (given-state c k r 0 i j h ∙ rw (eq-eqb (bit (k .live) j) 1 m)))
+          ∙ sym (given-state c k pay 0 i j h ∙ rw (eq-eqb (bit (k .live) j) 1 m)))
           (λ (m : bit (k .live) j ≡ 1 → ⊥).
           by-target _ (λ _. 0) (λ t l f. in-dead t j l h m f)
           ∙ flow-none (c .edges) i
-          ∙ sym (given-state c k r 0 i j h ∙ rw (ne-eqb (bit (k .live) j) 1 m)))
+          ∙ sym (given-state c k pay 0 i j h ∙ rw (ne-eqb (bit (k .live) j) 1 m)))
           (same (bit (k .live) j) 1)
 
-      pub flow-column : (j : ℕ) → j < n + 3 → along c i (λ t. only (eqb (columnOf n k t) j) 1) ≡ cell (given c k r 0 i) j
+      pub flow-column : (j : ℕ) → j < n + 3 → along c i (λ t. only (eqb (columnOf n k t) j) 1) ≡ cell (given c k pay 0 i) j
       flow-column j h =
           ⊎-elim (λ (s : j < n). flow-state j s)
           (λ (s : n ≤ j).
           ⊎-elim
-          (λ (e : j ≡ n). rw e (by-target _ (bit (c .goals)) (λ t l f. in-goal t l f) ∙ sym (given-goal c k r 0 i)))
+          (λ (e : j ≡ n). rw e (by-target _ (bit (c .goals)) (λ t l f. in-goal t l f) ∙ sym (given-goal c k pay 0 i)))
           (λ (d : j ≡ n → ⊥).
           ⊎-elim
-          (λ (e : j ≡ n + 1). rw e (by-target _ (λ t. 1 - bit (k .good) t) (λ t l f. in-trap t l f) ∙ sym (given-trap c k r 0 i)))
+          (λ (e : j ≡ n + 1). rw e (by-target _ (λ t. 1 - bit (k .good) t) (λ t l f. in-trap t l f) ∙ sym (given-trap c k pay 0 i)))
           (λ (d' : j ≡ n + 1 → ⊥).
           let e : j ≡ n + 2 = omega arith in
-          rw e (by-target _ (λ _. 0) (λ t l f. in-unknown t l f) ∙ flow-none (c .edges) i ∙ sym (given-unknown c k r 0 i)))
+          rw e (by-target _ (λ _. 0) (λ t l f. in-unknown t l f) ∙ flow-none (c .edges) i ∙ sym (given-unknown c k pay 0 i)))
           (same j (n + 1)))
           (same j n))
           (below j n)
@@ -137,7 +136,7 @@ module _ (c : Chain) (k : Sets) where
       space = omega (arith, z .kept .len, a .room)
 
       module _ (i : ℕ) (q : Alive c k i) where
-        live-cell : (j : ℕ) → j < n + 3 → cell (rowAt n v i) j ≡ cell (given c k r 0 i) j
+        live-cell : (j : ℕ) → j < n + 3 → cell (rowAt n v i) j ≡ cell (given c k pay 0 i) j
         unfolding flow
         live-cell j h =
             z .cells i j (q .0) (omega arith)
@@ -147,21 +146,21 @@ module _ (c : Chain) (k : Sets) where
 
         live-total : total n (rowAt n v i) ≡ denominator c i
         live-total =
-            sum-ext (cell (rowAt n v i)) (cell (given c k r 0 i)) (n + 3) live-cell
-            ∙ given-total c k r (a .fine) (a .right) i q
+            sum-ext (cell (rowAt n v i)) (cell (given c k pay 0 i)) (n + 3) live-cell
+            ∙ given-total c k pay (a .fine) (a .right) i q
 
-        live-row : set (rowAt n v i) (n + 3) (earned c r i) ≡ given c k r 0 i
+        live-row : set (rowAt n v i) (n + 3) (pay i) ≡ given c k pay 0 i
         live-row =
-            let g = set (rowAt n v i) (n + 3) (earned c r i) in
+            let g = set (rowAt n v i) (n + 3) (pay i) in
             let l : length (rowAt n v i) ≡ n + 4 = length-row n v space i (q .0) in
-            let w : length (set (rowAt n v i) (n + 3) (earned c r i)) ≡ n + 4 = length-set (rowAt n v i) (n + 3) (earned c r i) ∙ l in
-            ext-getD 0 g (given c k r 0 i) (w ∙ sym (given-length c k r 0 i))
+            let w : length (set (rowAt n v i) (n + 3) (pay i)) ≡ n + 4 = length-set (rowAt n v i) (n + 3) (pay i) ∙ l in
+            ext-getD 0 g (given c k pay 0 i) (w ∙ sym (given-length c k pay 0 i))
             (λ j h.
             ⊎-elim
             (λ (e : j ≡ n + 3).
-            rw e (getD-set-same (rowAt n v i) (n + 3) (earned c r i) 0 (omega arith) ∙ sym (given-reward c k r 0 i)))
+            rw e (getD-set-same (rowAt n v i) (n + 3) (pay i) 0 (omega arith) ∙ sym (given-reward c k pay 0 i)))
             (λ (d : j ≡ n + 3 → ⊥).
-            getD-set-other (rowAt n v i) (n + 3) j (earned c r i) 0 d ∙ live-cell j (omega arith))
+            getD-set-other (rowAt n v i) (n + 3) j (pay i) 0 d ∙ live-cell j (omega arith))
             (same j (n + 3)))
 
       dead-row : (i : ℕ) → i < n → (bit (k .live) i ≡ 1 → ⊥) → rowAt n v i ≡ noRow n
@@ -186,7 +185,7 @@ module _ (c : Chain) (k : Sets) where
           }
 
       first-at : (i : ℕ) → i < n
-          → finishedAt b n (k .live) (c .denominators) rewards v i ≡ choose (eqb (bit (k .live) i) 1) (firstRow b c k r 0 i) (noRow n)
+          → finishedAt b n (k .live) (c .denominators) rewards v i ≡ choose (eqb (bit (k .live) i) 1) (firstRow b c k pay 0 i) (noRow n)
       unfolding finished
       first-at i h =
           ⊎-elim
@@ -194,11 +193,11 @@ module _ (c : Chain) (k : Sets) where
           (λ (d : bit (k .live) i ≡ 1 → ⊥). rw (ne-eqb (bit (k .live) i) 1 d) (dead-row i h d))
           (same (bit (k .live) i) 1)
 
-      first-is : (i : ℕ) → i < n → finishedAt b n (k .live) (c .denominators) rewards v i ≡ row (first b c k r (λ _. 0)) i
-      first-is i h = first-at i h ∙ sym (first-row b c k r i h)
+      first-is : (i : ℕ) → i < n → finishedAt b n (k .live) (c .denominators) rewards v i ≡ row (first b c k pay (λ _. 0)) i
+      first-is i h = first-at i h ∙ sym (first-row b c k pay i h)
 
       pub first-made : {u : List ℕ} {answer : Bool} → Renewed b (finishedAt b n (k .live) (c .denominators) rewards v) n v u answer
-          → Made b n (first b c k r (λ _. 0)) work u answer
+          → Made b n (first b c k pay (λ _. 0)) work u answer
       unfolding first
       first-made {u} y =
           let t = kept-more (z .kept) (y .kept) in
@@ -228,14 +227,14 @@ first-given b x l k formed lent free right =
       small = denominator-small x l formed;
       right = right;
       paid = λ i h. go (x .rewards) refl i h;
-      unpaid = λ e i. unpaid x l formed (free e) i;
+      unpaid = λ e i. reward-none x l formed (free e) i;
     }
   where
     go : (p : Bool) → x .rewards ≡ p → (i : ℕ) → i < l .chain .states → getD (l .rewards) i 0 ≤ mostReward
     go true e i h = reward-small x l formed e i h
-    go false e i h = omega (arith, unpaid x l formed e i)
+    go false e i h = omega (arith, reward-none x l formed e i)
 
 -- A first row that does not fit stops the elimination before the first step.
-pub first-stops : (b : Bool) (l : Lent) (k : Sets) → Unfit b (l .chain .states) (first b (l .chain) k (rewardOf l) (λ _. 0)) → Stops b l k 12 mostStates
+pub first-stops : (b : Bool) (l : Lent) (k : Sets) → Unfit b (l .chain .states) (first b (l .chain) k (earns l) (λ _. 0)) → Stops b l k 12 mostStates
 unfolding after
 first-stops b l k u = Stops.before-steps u

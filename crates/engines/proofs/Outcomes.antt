@@ -13,7 +13,7 @@ use Rattle.meaning.specs.Row.{cell, goalColumn, unknownColumn, exact, rounding}
 use Rattle.meaning.specs.Row.{reward as rewardIn}
 use Rattle.meaning.specs.Step.{row, Sets, outside}
 use Rattle.meaning.specs.Refusal.{Lent, Entry, plain, paid, Applies, Refused, WellFormed}
-use Rattle.meaning.specs.Stop.{rewardOf, tableAt, Stopped}
+use Rattle.meaning.specs.Stop.{earns, tableAt, Stopped}
 use Rattle.meaning.specs.Outcome.{cleared, refused, stopped, answered, refusal, ChanceFigure, ChanceOutcome, RewardFigure, noBounds, between, BoundsFigure, BoundsOutcome}
 use Rattle.theory.specs.Sum.{sum-two}
 use Rattle.theory.specs.Gcd.{reduced-share}
@@ -83,22 +83,22 @@ chance-read l formed {g} {u} {e} {d} (lost h q) =
     rw (eg, ed) (lowest-chance (l .chain) 0 1 _ _ (chance-lost (l .chain) (start-in plain l formed) h) (terms (over 0 1) (omega arith)))
 chance-read l formed {g} {u} {e} {d} (live k right alive z) =
     let ready = formed-ready plain l formed refl k right in
-    let whole = exact-whole (l .chain) k (l .order) ready (rewardOf l) alive in
+    let whole = exact-whole (l .chain) k (l .order) ready (earns l) alive in
     rw (read-goal z, read-outside z)
-    (exact-chance (l .chain) k (l .order) ready (rewardOf l) alive _ _ (terms (over _ _) whole))
+    (exact-chance (l .chain) k (l .order) ready (earns l) alive _ _ (terms (over _ _) whole))
 
 reward-read : (l : Lent) → WellFormed paid l → (Missed (l .chain) → ⊥) → {g u e d : ℕ} → Read exact l g u e d
-    → Expected (l .chain) (rewardOf l) (reduced (over e d) .numerator) (reduced (over e d) .denominator)
+    → Expected (l .chain) (earns l) (reduced (over e d) .numerator) (reduced (over e d) .denominator)
 reward-read l formed sure {g} {u} {e} {d} (won h q) =
     let ee : e ≡ 0 = cc in
     let ed : d ≡ 1 = cc in
-    rw (ee, ed) (lowest-reward (l .chain) (rewardOf l) 0 1 _ _ (reward-won (l .chain) (rewardOf l) h) (terms (over 0 1) (omega arith)))
+    rw (ee, ed) (lowest-reward (l .chain) (earns l) 0 1 _ _ (reward-won (l .chain) (earns l) h) (terms (over 0 1) (omega arith)))
 reward-read l formed sure (lost h q) = absurd (sure (l .chain .start, FromStart.begin, h))
 reward-read l formed sure (live k right alive z) =
     let ready = formed-ready paid l formed refl k right in
-    let whole = exact-whole (l .chain) k (l .order) ready (rewardOf l) alive in
+    let whole = exact-whole (l .chain) k (l .order) ready (earns l) alive in
     rw (read-reward z, read-outside z)
-    (exact-reward (l .chain) k (l .order) ready (rewardOf l) alive sure _ _ (terms (over _ _) whole))
+    (exact-reward (l .chain) k (l .order) ready (earns l) alive sure _ _ (terms (over _ _) whole))
 
 bounds-read : (l : Lent) → WellFormed plain l → {g u e d : ℕ} → Read rounding l g u e d
     → let lower = reduced (over g d) in
@@ -116,7 +116,7 @@ bounds-read l formed {g} {u} {e} {d} (lost h q) =
     let ed : d ≡ 1 = cc in
     rw (eg, eu, ed) (BoundsFigure.lost h refl)
 bounds-read l formed (live k right alive z) =
-    let whole = bounds-whole (l .chain) k (l .order) (formed-ready plain l formed refl k right) (rewardOf l) alive (unpaid plain l formed refl) in
+    let whole = bounds-whole (l .chain) k (l .order) (formed-ready plain l formed refl k right) (earns l) alive (unpaid plain l formed refl) in
     rw (read-goal z, read-unknown z, read-outside z)
     (BoundsFigure.live k right alive _ _ _ _ (terms (over _ _) whole, terms (over _ _) whole) refl)
 
@@ -132,7 +132,7 @@ read-sum l formed (live k right alive z) =
       read-goal z,
       read-unknown z,
       sum-two (cell r) (n + 3) n (n + 2) (omega arith) (omega arith) (omega arith),
-      bounds-fit (l .chain) k (rewardOf l) (l .order) n (l .chain .start) (start-in plain l formed),
+      bounds-fit (l .chain) k (earns l) (l .order) n (l .chain .start) (start-in plain l formed),
     )
 
 pub bounds-sum : (l : Lent) → WellFormed plain l → {r : Course} {g u e d : ℕ} → r ≡ Ends g u e d → figured rounding l r → g + u ≤ M

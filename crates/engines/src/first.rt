@@ -11,7 +11,7 @@ ghost use Rattle.meaning.specs.Step.{first};
 ghost use Rattle.engines.specs.Row.{Tested};
 ghost use Rattle.engines.specs.Table.{rowAt, Put, Renewed};
 ghost use Rattle.engines.specs.Sets.{chainOf, setsOf};
-ghost use Rattle.engines.specs.First.{columnOf, share, Added, Held, Addable, Gatherable, finished, Gathered, finishedAt, Finishable, Asked, Made};
+ghost use Rattle.engines.specs.First.{columnOf, share, Added, Held, Addable, Gatherable, finished, Gathered, earnedAt, finishedAt, Finishable, Asked, Made};
 use crate::row::REWARD;
 use crate::row::TRAP;
 use crate::row::settle;
@@ -138,7 +138,7 @@ pub(crate) fn first_rows(
     rounding: bool,
 ) -> bool
     requires { ⌜ Asked rounding (chainOf c (now denominators) (now edges)) (setsOf sets) (now rewards) (now work) ⌝ }
-    ensures { λ r. ⌜ Made rounding (c .states) (first rounding (chainOf c (now (denominators .entry)) (now (edges .entry))) (setsOf sets) (λ i. getD (now (rewards .entry)) i 0) (λ _. 0)) (now (work .entry)) (now (work .exit)) r ⌝ }
+    ensures { λ r. ⌜ Made rounding (c .states) (first rounding (chainOf c (now (denominators .entry)) (now (edges .entry))) (setsOf sets) (earnedAt (now (denominators .entry)) (now (rewards .entry))) (λ _. 0)) (now (work .entry)) (now (work .exit)) r ⌝ }
 {
     let n = c.states;
     gather(work, n, sets, edges);

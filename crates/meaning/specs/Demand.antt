@@ -6,7 +6,7 @@ use Rattle.meaning.specs.Figure.{Chance}
 use Rattle.meaning.specs.Row.{exact}
 use Rattle.meaning.specs.Step.{Sets, Right, RoundedAt}
 use Rattle.meaning.specs.Refusal.{Lent}
-use Rattle.meaning.specs.Stop.{rewardOf, NoFit}
+use Rattle.meaning.specs.Stop.{earns, NoFit}
 use Rattle.meaning.specs.Outcome.{Bounds}
 
 -- In the exact engine a kept row in lowest terms does not fit, after some of the positions of the order. With the start a goal or not live
@@ -36,4 +36,4 @@ BothChance c a = Chance c (a .lowerNumerator) (a .lowerDenominator) × Chance c 
 
 -- The bounds engine rounds no row.
 abbrev pub Unrounded : Lent → Type 0
-Unrounded l = (k : Sets) → Right (l .chain) k → (p : ℕ) → p ≤ l .chain .states → RoundedAt (l .chain) k (rewardOf l) (l .order) p → ⊥
+Unrounded l = (k : Sets) → Right (l .chain) k → (p : ℕ) → p ≤ l .chain .states → RoundedAt (l .chain) k (earns l) (l .order) p → ⊥

@@ -26,13 +26,13 @@ abbrev pub earned : Chain → (ℕ → ℕ) → ℕ → ℕ
 earned c r i = r i * denominator c i
 
 -- The expected reward at each state that is reached from the start without passing a goal, y i over d: 0 on goals; elsewhere denominator
--- times y equals what is earned plus the sum of weight times y of the target.
-pub record Earns (c : Chain) (r : ℕ → ℕ) (d : ℕ) (y : ℕ → ℕ) : Type 0 where
+-- times y equals what a turn earns, times its denominator, as pay says, plus the sum of weight times y of the target.
+pub record Earns (c : Chain) (pay : ℕ → ℕ) (d : ℕ) (y : ℕ → ℕ) : Type 0 where
   pub whole : 0 < d
   pub won : (i : ℕ) → FromStart c i → Goal c i → y i ≡ 0
-  pub flows : (i : ℕ) → FromStart c i → (Goal c i → ⊥) → denominator c i * y i ≡ earned c r i * d + along c i y
+  pub flows : (i : ℕ) → FromStart c i → (Goal c i → ⊥) → denominator c i * y i ≡ pay i * d + along c i y
 
 -- The expected reward, where it is not infinite, is y at the start: p over q, in lowest terms.
-pub record Expected (c : Chain) (r : ℕ → ℕ) (p q : ℕ) : Type 0 where
+pub record Expected (c : Chain) (pay : ℕ → ℕ) (p q : ℕ) : Type 0 where
   pub lowest : Lowest p q
-  pub share : (d : ℕ) (y : ℕ → ℕ) → Earns c r d y → p * d ≡ y (c .start) * q
+  pub share : (d : ℕ) (y : ℕ → ℕ) → Earns c pay d y → p * d ≡ y (c .start) * q

@@ -9,7 +9,7 @@ use Rattle.meaning.specs.Figure.{Chance, Missed, Expected}
 use Rattle.meaning.specs.Row.{Row, cell, goalColumn, unknownColumn, exact, rounding}
 use Rattle.meaning.specs.Step.{row, Sets, Right, outside}
 use Rattle.meaning.specs.Refusal.{Lent, Entry, plain, paid, workSize, Refused, WellFormed}
-use Rattle.meaning.specs.Stop.{rewardOf, tableAt, Stopped}
+use Rattle.meaning.specs.Stop.{earns, tableAt, Stopped}
 
 -- The work table with its first n × (n + 4) numbers zero and the rest unchanged.
 abbrev pub cleared : Lent → List ℕ
@@ -55,7 +55,7 @@ ChanceOutcome l = Outcome plain l refusal (Stopped exact l) (ChanceFigure l)
 -- The expected reward, or infinite exactly where the goal may be missed.
 pub data RewardFigure (l : Lent) (a : Answer) : Type 0 where
   missed : Missed (l .chain) → a ≡ infinite → RewardFigure l a
-  expected : (Missed (l .chain) → ⊥) → (p q : ℕ) → Expected (l .chain) (rewardOf l) p q → a ≡ fraction p q → RewardFigure l a
+  expected : (Missed (l .chain) → ⊥) → (p q : ℕ) → Expected (l .chain) (earns l) p q → a ≡ fraction p q → RewardFigure l a
 
 -- 12 and 13 stop the exact engine where the reward is not infinite.
 abbrev pub RewardStop : Lent → ℕ → ℕ → Type 0

@@ -9,7 +9,6 @@ use lib.ListN.{length, getD}
 use lib.Dec.{eqb, ltb}
 use Rattle.meaning.specs.Number.{only, choose, bit, tabFrom}
 use Rattle.meaning.specs.Chain.{M, Chain, along, ToGoal, Live}
-use Rattle.meaning.specs.Figure.{earned}
 use Rattle.meaning.specs.Row.{
   Row,
   cell,
@@ -41,18 +40,18 @@ pub record Right (c : Chain) (k : Sets) : Type 0 where
   pub live : (i : ℕ) → (bit (k .live) i ≡ 1) ↔ Live c i
 
 -- The row of a live state as the chain gives it: the weight to each live state, to goals, to states with no path to a goal; u in Unknown;
--- and what the state earns, r being the rewards.
+-- and in Reward what one turn in the state earns, times its denominator, as pay says.
 unfoldable pub given : Chain → Sets → (ℕ → ℕ) → ℕ → ℕ → Row
-given c k r u i =
+given c k pay u i =
     tabFrom 0 (width (c .states))
     (λ j. choose (ltb j (c .states)) (only (eqb (bit (k .live) j) 1) (along c i (λ t. only (eqb t j) 1)))
     (choose (eqb j (goalColumn (c .states))) (along c i (bit (c .goals)))
     (choose (eqb j (trapColumn (c .states))) (along c i (λ t. 1 - bit (k .good) t))
-    (choose (eqb j (unknownColumn (c .states))) u (earned c r i)))))
+    (choose (eqb j (unknownColumn (c .states))) u (pay i)))))
 
 -- The first row of a live state: what the chain gives, divided likewise, and in the bounds engine rounded where its total is above M.
 abbrev pub firstRow : Bool → Chain → Sets → (ℕ → ℕ) → ℕ → ℕ → Row
-firstRow b c k r u i = settled b (c .states) (given c k r u i)
+firstRow b c k pay u i = settled b (c .states) (given c k pay u i)
 
 -- The row of a state that is not kept.
 unfoldable pub noRow : ℕ → Row
@@ -60,8 +59,8 @@ noRow n = tabFrom 0 (width n) (λ _. 0)
 
 -- The first table; u i is Unknown of the first row of i.
 unfoldable pub first : Bool → Chain → Sets → (ℕ → ℕ) → (ℕ → ℕ) → Table
-first b c k r u =
-    tabFrom 0 (c .states) (λ i. choose (eqb (bit (k .live) i) 1) (firstRow b c k r (u i) i) (noRow (c .states)))
+first b c k pay u =
+    tabFrom 0 (c .states) (λ i. choose (eqb (bit (k .live) i) 1) (firstRow b c k pay (u i) i) (noRow (c .states)))
 
 -- D: the total of the row of state s minus its weight to itself.
 abbrev pub outside : ℕ → ℕ → Row → ℕ
@@ -91,19 +90,19 @@ after b n go o t (suc p) = choose (go (getD o p 0)) (removed b n (getD o p 0) (a
 
 -- The table of a chain after the first p positions of the order o: no weight is Unknown at first.
 abbrev pub stage : Bool → Chain → Sets → (ℕ → ℕ) → List ℕ → ℕ → Table
-stage b c k r o p = after b (c .states) (goes (c .start) (k .live)) o (first b c k r (λ _. 0)) p
+stage b c k pay o p = after b (c .states) (goes (c .start) (k .live)) o (first b c k pay (λ _. 0)) p
 
 -- The lowest terms of a new row have a total above M, so that the bounds engine rounds it.
 abbrev pub Rounds : ℕ → Row → Type 0
 Rounds n r = M < total n (lowest r)
 
 -- A row of the bounds engine's table after p positions was rounded when it was made: as a first row, or in the step of position p - 1.
-pub data RoundedAt (c : Chain) (k : Sets) (r : ℕ → ℕ) (o : List ℕ) : ℕ → Type 0 where
-  first-row : (i : ℕ) → i < c .states → bit (k .live) i ≡ 1 → Rounds (c .states) (given c k r 0 i) → RoundedAt c k r o 0
+pub data RoundedAt (c : Chain) (k : Sets) (pay : ℕ → ℕ) (o : List ℕ) : ℕ → Type 0 where
+  first-row : (i : ℕ) → i < c .states → bit (k .live) i ≡ 1 → Rounds (c .states) (given c k pay 0 i) → RoundedAt c k pay o 0
   new-row : (p i : ℕ) → i < c .states
       → (let n = c .states in
       let s = getD o p 0 in
-      let t = stage rounding c k r o p in
+      let t = stage rounding c k pay o p in
       (goes (c .start) (k .live) s ≡ true)
       × ((i ≡ s → ⊥) × ((cell (row t i) s ≡ 0 → ⊥) × Rounds n (combined s (outside n s (row t s)) (row t s) (row t i)))))
-      → RoundedAt c k r o (suc p)
+      → RoundedAt c k pay o (suc p)

@@ -5,6 +5,7 @@ use mathlib.Core.Logic.{_⊎_}
 use mathlib.Core.Bool.{Bool, true}
 use lib.ListN.{getD}
 use Rattle.meaning.specs.Chain.{mostStates, M, Live}
+use Rattle.meaning.specs.Figure.{earned}
 use Rattle.meaning.specs.Row.{Row, total, reward, exact}
 use Rattle.meaning.specs.Step.{Table, row, Sets, Right, outside, goes, stage}
 use Rattle.meaning.specs.Refusal.{Lent}
@@ -13,13 +14,17 @@ use Rattle.meaning.specs.Refusal.{Lent}
 abbrev pub rewardOf : Lent → ℕ → ℕ
 rewardOf l i = getD (l .rewards) i 0
 
+-- What one turn in state i earns, times its denominator.
+abbrev pub earns : Lent → ℕ → ℕ
+earns l = earned (l .chain) (rewardOf l)
+
 -- The state at position p of the order.
 abbrev pub turn : Lent → ℕ → ℕ
 turn l p = getD (l .order) p 0
 
 -- The table after the first p positions of the order.
 abbrev pub tableAt : Bool → Lent → Sets → ℕ → Table
-tableAt b l k p = stage b (l .chain) k (rewardOf l) (l .order) p
+tableAt b l k p = stage b (l .chain) k (earns l) (l .order) p
 
 -- A row has a total above M, or a Reward above M.
 abbrev pub Large : ℕ → Row → Type 0

@@ -35,33 +35,33 @@ pub record Ready (c : Chain) (k : Sets) (o : List ℕ) : Type 0 where
   pub every : (i : ℕ) → i < c .states → (q : ℕ) × (q < c .states) × (getD o q 0 ≡ i)
   pub start : c .start < c .states
 
--- The bounds engine has no rewards.
-module _ (c : Chain) (k : Sets) (o : List ℕ) (ready : Ready c k o) (b : Bool) (r : ℕ → ℕ) (free : b ≡ rounding → (i : ℕ) → r i ≡ 0) where
+-- The bounds engine earns nothing.
+module _ (c : Chain) (k : Sets) (o : List ℕ) (ready : Ready c k o) (b : Bool) (pay : ℕ → ℕ) (free : b ≡ rounding → (i : ℕ) → pay i ≡ 0) where
   abbrev n : ℕ
   n = c .states
 
-  sound : Sound b n (Kept c k o 0) (stage b c k r o 0)
+  sound : Sound b n (Kept c k o 0) (stage b c k pay o 0)
   unfolding Kept after
-  sound = first-sound b c k r (ready .fine) (ready .right) free
+  sound = first-sound b c k pay (ready .fine) (ready .right) free
 
   -- At every stage every kept state has weight outside its own loop.
-  pub kept-loose : (p : ℕ) → p ≤ n → (i : ℕ) → Kept c k o p i → 0 < outside n i (row (stage b c k r o p) i)
-  kept-loose = loose-stage b c k r o (ready .orders) sound
+  pub kept-loose : (p : ℕ) → p ≤ n → (i : ℕ) → Kept c k o p i → 0 < outside n i (row (stage b c k pay o p) i)
+  kept-loose = loose-stage b c k pay o (ready .orders) sound
 
   -- So has a state at its turn.
-  pub turn-loose : (p : ℕ) → p < n → leaving c k o p ≡ true → 0 < outside n (getD o p 0) (row (stage b c k r o p) (getD o p 0))
+  pub turn-loose : (p : ℕ) → p < n → leaving c k o p ≡ true → 0 < outside n (getD o p 0) (row (stage b c k pay o p) (getD o p 0))
   turn-loose p h g = kept-loose p (omega arith) (getD o p 0) (kept-turn c k o p (ready .orders p h) (ready .once p h) g)
 
   -- In the exact engine nothing is Unknown.
-  pub kept-known : b ≡ exact → (p : ℕ) → p ≤ n → (i : ℕ) → Kept c k o p i → cell (row (stage b c k r o p) i) (n + 2) ≡ 0
+  pub kept-known : b ≡ exact → (p : ℕ) → p ≤ n → (i : ℕ) → Kept c k o p i → cell (row (stage b c k pay o p) i) (n + 2) ≡ 0
   unfolding Kept after
   kept-known e =
-      steady-stage b c k r o (ready .orders) sound (λ i z. cell z (n + 2) ≡ 0) (steady-known b n e) (first-known b c k r e)
+      steady-stage b c k pay o (ready .orders) sound (λ i z. cell z (n + 2) ≡ 0) (steady-known b n e) (first-known b c k pay e)
 
   module _ (alive : Live c (c .start)) where
     -- The start's row at the end.
     abbrev last : Row
-    last = row (stage b c k r o n) (c .start)
+    last = row (stage b c k pay o n) (c .start)
 
     abbrev D : ℕ
     D = outside n (c .start) last
@@ -77,7 +77,7 @@ module _ (c : Chain) (k : Sets) (o : List ℕ) (ready : Ready c k o) (b : Bool) 
         absurd
         (d
         (only-start c k o (ready .every) j h
-        (sound-stage b c k r o (ready .orders) sound n (omega arith) .closed (c .start) j kept h (omega arith)))))
+        (sound-stage b c k pay o (ready .orders) sound n (omega arith) .closed (c .start) j kept h (omega arith)))))
         (same (cell last j) 0)
 
     pub last-loose : 0 < D
@@ -87,23 +87,23 @@ module _ (c : Chain) (k : Sets) (o : List ℕ) (ready : Ready c k o) (b : Bool) 
     last-known e = kept-known e n (omega arith) (c .start) kept
 
     last-least : (v : ℕ → ℕ) → (b ≡ rounding → v (n + 2) ≡ 0)
-        → ((i : ℕ) → Alive c k i → AtLeast n (given c k r 0 i) (v i) v) → AtLeast n last (v (c .start)) v
+        → ((i : ℕ) → Alive c k i → AtLeast n (given c k pay 0 i) (v i) v) → AtLeast n last (v (c .start)) v
     unfolding Kept after
     last-least v u h =
-        steady-stage b c k r o (ready .orders) sound (λ i z. AtLeast n z (v i) v) (steady-least b n v u)
-        (first-least b c k r v u h) n (omega arith) (c .start) kept
+        steady-stage b c k pay o (ready .orders) sound (λ i z. AtLeast n z (v i) v) (steady-least b n v u)
+        (first-least b c k pay v u h) n (omega arith) (c .start) kept
 
     last-most : (v : ℕ → ℕ) → b ≡ exact
-        → ((i : ℕ) → Alive c k i → AtMost n (given c k r 0 i) (v i) v) → AtMost n last (v (c .start)) v
+        → ((i : ℕ) → Alive c k i → AtMost n (given c k pay 0 i) (v i) v) → AtMost n last (v (c .start)) v
     unfolding Kept after
     last-most v u h =
-        steady-stage b c k r o (ready .orders) sound (λ i z. AtMost n z (v i) v) (steady-most b n v u)
-        (first-most b c k r v u h) n (omega arith) (c .start) kept
+        steady-stage b c k pay o (ready .orders) sound (λ i z. AtMost n z (v i) v) (steady-most b n v u)
+        (first-most b c k pay v u h) n (omega arith) (c .start) kept
 
     module _ (d : ℕ) (x : ℕ → ℕ) (share : Shares c d x) where
       says : (u : ℕ) (v : ℕ → ℕ) → Columns n x d 0 u 0 v → (i : ℕ) → Alive c k i
-          → worth n (given c k r 0 i) v ≡ total n (given c k r 0 i) * v i
-      says = given-shares c k r (ready .fine) (ready .right) d x share
+          → worth n (given c k pay 0 i) v ≡ total n (given c k pay 0 i) * v i
+      says = given-shares c k pay (ready .fine) (ready .right) d x share
 
       -- The chance is at least what leads to Goal.
       pub chance-least : cell last n * d ≤ x (c .start) * D
@@ -132,7 +132,7 @@ module _ (c : Chain) (k : Sets) (o : List ℕ) (ready : Ready c k o) (b : Bool) 
           let f : Flips n d v w = flipped n d x v w (share-below c (ready .fine) d x share) are be in
           let h =
           last-least w (λ _. be .unknown) (λ i q.
-          flip-most n (given c k r 0 i) d v w f (v i) (w i) (f .both i (omega (arith, q .0)))
+          flip-most n (given c k pay 0 i) d v w f (v i) (w i) (f .both i (omega (arith, q .0)))
           (le-of-eq (sym (says d v are i q)))) in
           upper
           D (x (c .start)) (y (c .start)) d (cell last n) (cell last (n + 1)) (cell last (n + 2))
@@ -141,13 +141,13 @@ module _ (c : Chain) (k : Sets) (o : List ℕ) (ready : Ready c k o) (b : Bool) 
           (omega (arith, lone-least n (c .start) last (ready .start) alone y 0 d 0 0 w be h))
 
     -- The expected reward, where the goal is not missed.
-    module _ (sure : Missed c → ⊥) (d : ℕ) (y : ℕ → ℕ) (earn : Earns c r d y) where
+    module _ (sure : Missed c → ⊥) (d : ℕ) (y : ℕ → ℕ) (earn : Earns c pay d y) where
       pub reward-exact : b ≡ exact → reward n last * d ≡ y (c .start) * D
       reward-exact f =
           let v : ℕ → ℕ = columns n y 0 0 0 d in
           let are : Columns n y 0 0 0 d v = columns-are n y 0 0 0 d in
-          let e : (i : ℕ) → Alive c k i → worth n (given c k r 0 i) v ≡ total n (given c k r 0 i) * v i =
-          given-earns c k r (ready .fine) (ready .right) sure d y earn 0 v are in
+          let e : (i : ℕ) → Alive c k i → worth n (given c k pay 0 i) v ≡ total n (given c k pay 0 i) * v i =
+          given-earns c k pay (ready .fine) (ready .right) sure d y earn 0 v are in
           let l = last-least v (λ _. are .unknown) (λ i q. le-of-eq (e i q)) in
           let m = last-most v f (λ i q. le-of-eq (sym (e i q))) in
           omega (

@@ -11,7 +11,7 @@ use Rattle.meaning.specs.Figure.{Chance}
 use Rattle.meaning.specs.Row.{cell, goalColumn, unknownColumn, exact, rounding}
 use Rattle.meaning.specs.Step.{Sets, Right, outside}
 use Rattle.meaning.specs.Refusal.{Lent, plain, WellFormed}
-use Rattle.meaning.specs.Stop.{rewardOf, Stops, before-steps, in-step, at-turn}
+use Rattle.meaning.specs.Stop.{earns, Stops, before-steps, in-step, at-turn}
 use Rattle.meaning.specs.Outcome.{refused, stopped, answered, Bounds, between, lastRow, BoundsFigure, BoundsOutcome}
 use Rattle.meaning.specs.Demand.{AtMost, ChanceBetween, BothChance, Unrounded}
 use Rattle.theory.specs.Shares.{shares-exist}
@@ -62,7 +62,7 @@ module _ (l : Lent) (formed : WellFormed plain l) where
     where
       whole : 0 < outside (c .states) (c .start) (lastRow l k)
       whole =
-          bounds-whole c k (l .order) (formed-ready plain l formed refl k right) (rewardOf l) alive (unpaid plain l formed refl)
+          bounds-whole c k (l .order) (formed-ready plain l formed refl k right) (earns l) alive (unpaid plain l formed refl)
 
       live-holds : ChanceBetween c (between p q s t)
       live-holds =
@@ -74,17 +74,17 @@ module _ (l : Lent) (formed : WellFormed plain l) where
             upper-lowest = highest .lowest;
             lower = λ u v h.
                 below-share _ _ p q d (x (c .start)) u v whole (share .whole) lowest (h .share d x share)
-                (lower-bound c k (l .order) ready (rewardOf l) alive free d x share);
+                (lower-bound c k (l .order) ready (earns l) alive free d x share);
             upper = λ u v h.
                 above-share _ _ s t d (x (c .start)) u v whole (share .whole) highest (h .share d x share)
-                (upper-bound c k (l .order) ready (rewardOf l) alive free d x share);
+                (upper-bound c k (l .order) ready (earns l) alive free d x share);
           }
 
       live-equal : Unrounded l → Chance c p q × Chance c s t
       live-equal none =
           let ready = formed-ready plain l formed refl k right in (
-            lower-chance c k (l .order) ready (rewardOf l) alive (none k right) p q lowest,
-            upper-chance c k (l .order) ready (rewardOf l) alive (none k right) s t highest,
+            lower-chance c k (l .order) ready (earns l) alive (none k right) p q lowest,
+            upper-chance c k (l .order) ready (earns l) alive (none k right) s t highest,
           )
 
   apart : rounding ≡ exact → ⊥

@@ -11,7 +11,7 @@ use Rattle.meaning.specs.Figure.{Chance, Missed, Expected}
 use Rattle.meaning.specs.Row.{exact, rounding}
 use Rattle.meaning.specs.Step.{Sets, Right}
 use Rattle.meaning.specs.Refusal.{Lent, Entry, plain, paid, WellFormed}
-use Rattle.meaning.specs.Stop.{rewardOf, NoWay, Stops, before-steps, in-step, at-turn, Stopped}
+use Rattle.meaning.specs.Stop.{earns, NoWay, Stops, before-steps, in-step, at-turn, Stopped}
 use Rattle.meaning.specs.Outcome.{refused, stopped, answered, Answer, infinite, ChanceFigure, ChanceOutcome, RewardFigure, RewardOutcome}
 use Rattle.meaning.specs.Demand.{NoFitAnywhere}
 use Rattle.theory.specs.Unique.{chance-one, expected-one}
@@ -122,13 +122,13 @@ module _ (l : Lent) (formed : WellFormed paid l) (a : Answer) (w : List ℕ) whe
 
   -- Otherwise the fraction is the expected reward in lowest terms.
   pub reward-is : RewardOutcome l a w → a .number ≡ 0 → (Missed (l .chain) → ⊥)
-      → Expected (l .chain) (rewardOf l) (a .numerator) (a .denominator)
+      → Expected (l .chain) (earns l) (a .numerator) (a .denominator)
   reward-is (refused n p r e s) z u = absurd (formed .none n p (r .applies))
   reward-is (stopped n p f t e s) z u =
       absurd (nought-and-twelve (a .number) z (number-is e ∙ stopped-twelve paid l formed refl (t .1)))
   reward-is (answered f t (RewardFigure.missed m e) s) z u = absurd (u m)
   reward-is (answered f t (RewardFigure.expected u p q h e) s) z _ =
-      subst (λ (z : Answer). Expected (l .chain) (rewardOf l) (z .numerator) (z .denominator)) (sym e) h
+      subst (λ (z : Answer). Expected (l .chain) (earns l) (z .numerator) (z .denominator)) (sym e) h
 
   -- It refuses exactly when the goal is not missed and a kept row in lowest terms does not fit.
   pub reward-refuses : RewardOutcome l a w → (a .number ≡ 12) ↔ ((Missed (l .chain) → ⊥) × NoFitAnywhere l)

@@ -21,13 +21,13 @@ module _ (x : Entry) (l : Lent) (formed : WellFormed x l) where
   pub chance-is-there : (p : ℕ) × (q : ℕ) × Chance (l .chain) p q
   chance-is-there = chance-exists (formed-fine x l formed) (start-in x l formed)
 
-  module _ (sure : Missed (l .chain) → ⊥) (r : ℕ → ℕ) where
-    pub rewards-exist : (d : ℕ) × (y : ℕ → ℕ) × Earns (l .chain) r d y
-    rewards-exist = earns-exist (formed-fine x l formed) (start-in x l formed) sure r
+  module _ (sure : Missed (l .chain) → ⊥) (pay : ℕ → ℕ) where
+    pub rewards-exist : (d : ℕ) × (y : ℕ → ℕ) × Earns (l .chain) pay d y
+    rewards-exist = earns-exist (formed-fine x l formed) (start-in x l formed) sure pay
 
-    pub rewards-agree : {d e : ℕ} {y z : ℕ → ℕ} → Earns (l .chain) r d y → Earns (l .chain) r e z → (i : ℕ) → FromStart (l .chain) i
+    pub rewards-agree : {d e : ℕ} {y z : ℕ → ℕ} → Earns (l .chain) pay d y → Earns (l .chain) pay e z → (i : ℕ) → FromStart (l .chain) i
         → y i * e ≡ z i * d
-    rewards-agree = earns-agree (formed-fine x l formed) (start-in x l formed) sure r
+    rewards-agree = earns-agree (formed-fine x l formed) (start-in x l formed) sure pay
 
-    pub reward-is-there : (p : ℕ) × (q : ℕ) × Expected (l .chain) r p q
-    reward-is-there = expected-exists (formed-fine x l formed) (start-in x l formed) sure r
+    pub reward-is-there : (p : ℕ) × (q : ℕ) × Expected (l .chain) pay p q
+    reward-is-there = expected-exists (formed-fine x l formed) (start-in x l formed) sure pay

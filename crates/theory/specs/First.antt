@@ -23,52 +23,52 @@ use Rattle.theory.specs.Given.{Fate, live, won, lost, given-state, given
 
 -- No weight is Unknown at first.
 abbrev pub begin : Bool → Chain → Sets → (ℕ → ℕ) → Table
-begin b c k r = first b c k r (λ _. 0)
+begin b c k pay = first b c k pay (λ _. 0)
 
-pub first-row : (b : Bool) (c : Chain) (k : Sets) (r : ℕ → ℕ) (i : ℕ) → i < c .states
-    → row (begin b c k r) i ≡ choose (eqb (bit (k .live) i) 1) (firstRow b c k r 0 i) (noRow (c .states))
+pub first-row : (b : Bool) (c : Chain) (k : Sets) (pay : ℕ → ℕ) (i : ℕ) → i < c .states
+    → row (begin b c k pay) i ≡ choose (eqb (bit (k .live) i) 1) (firstRow b c k pay 0 i) (noRow (c .states))
 unfolding first
-first-row b c k r i h = tab-at (c .states) _ [] i h
+first-row b c k pay i h = tab-at (c .states) _ [] i h
 
-module _ (b : Bool) (c : Chain) (k : Sets) (r : ℕ → ℕ) where
+module _ (b : Bool) (c : Chain) (k : Sets) (pay : ℕ → ℕ) where
   abbrev n : ℕ
   n = c .states
 
   abbrev t : Table
-  t = begin b c k r
+  t = begin b c k pay
 
-  wide : (i : ℕ) → length (given c k r 0 i) ≡ n + 4
-  wide i = given-length c k r 0 i
+  wide : (i : ℕ) → length (given c k pay 0 i) ≡ n + 4
+  wide i = given-length c k pay 0 i
 
   -- The row of a live state is the settled row that the chain gives.
-  firsts : (P : Row → Type 0) (i : ℕ) → Alive c k i → P (settled b n (given c k r 0 i)) → P (row t i)
-  firsts P i q p = rw (first-row b c k r i (q .0), eq-eqb (bit (k .live) i) 1 (q .1)) p
+  firsts : (P : Row → Type 0) (i : ℕ) → Alive c k i → P (settled b n (given c k pay 0 i)) → P (row t i)
+  firsts P i q p = rw (first-row b c k pay i (q .0), eq-eqb (bit (k .live) i) 1 (q .1)) p
 
-  pub first-least : (v : ℕ → ℕ) → (b ≡ rounding → v (n + 2) ≡ 0) → ((i : ℕ) → Alive c k i → AtLeast n (given c k r 0 i) (v i) v)
+  pub first-least : (v : ℕ → ℕ) → (b ≡ rounding → v (n + 2) ≡ 0) → ((i : ℕ) → Alive c k i → AtLeast n (given c k pay 0 i) (v i) v)
       → (i : ℕ) → Alive c k i → AtLeast n (row t i) (v i) v
   first-least v u h i q =
-      firsts (λ z. AtLeast n z (v i) v) i q (settled-least b n (given c k r 0 i) (wide i) (v i) v u (h i q))
+      firsts (λ z. AtLeast n z (v i) v) i q (settled-least b n (given c k pay 0 i) (wide i) (v i) v u (h i q))
 
-  pub first-most : (v : ℕ → ℕ) → b ≡ exact → ((i : ℕ) → Alive c k i → AtMost n (given c k r 0 i) (v i) v)
+  pub first-most : (v : ℕ → ℕ) → b ≡ exact → ((i : ℕ) → Alive c k i → AtMost n (given c k pay 0 i) (v i) v)
       → (i : ℕ) → Alive c k i → AtMost n (row t i) (v i) v
   first-most v u h i q =
-      firsts (λ z. AtMost n z (v i) v) i q (settled-most b n (given c k r 0 i) (wide i) (v i) v u (h i q))
+      firsts (λ z. AtMost n z (v i) v) i q (settled-most b n (given c k pay 0 i) (wide i) (v i) v u (h i q))
 
   pub first-known : b ≡ exact → (i : ℕ) → Alive c k i → cell (row t i) (n + 2) ≡ 0
   first-known e i q =
       firsts (λ z. cell z (n + 2) ≡ 0) i q
-      (settled-zero b n (given c k r 0 i) (wide i) (n + 2) (λ f. not-both b e f) (given-unknown c k r 0 i))
+      (settled-zero b n (given c k pay 0 i) (wide i) (n + 2) (λ f. not-both b e f) (given-unknown c k pay 0 i))
 
-  -- The bounds engine has no rewards.
-  module _ (fine : Fine c) (ok : Right c k) (free : b ≡ rounding → (i : ℕ) → r i ≡ 0) where
-    unpaid : (i : ℕ) → b ≡ rounding → reward n (given c k r 0 i) ≡ 0
-    unpaid i e = given-reward c k r 0 i ∙ rw (free e i) (omega arith)
+  -- The bounds engine earns nothing.
+  module _ (fine : Fine c) (ok : Right c k) (free : b ≡ rounding → (i : ℕ) → pay i ≡ 0) where
+    unpaid : (i : ℕ) → b ≡ rounding → reward n (given c k pay 0 i) ≡ 0
+    unpaid i e = given-reward c k pay 0 i ∙ free e i
 
     -- A weight of the first row leads on, settled or not.
-    given-way : (i j : ℕ) → Alive c k i → 0 < cell (given c k r 0 i) j → (0 < cell (row t i) j) ⊎ (0 < cell (row t i) (n + 2))
+    given-way : (i j : ℕ) → Alive c k i → 0 < cell (given c k pay 0 i) j → (0 < cell (row t i) j) ⊎ (0 < cell (row t i) (n + 2))
     given-way i j q p =
         firsts (λ z. (0 < cell z j) ⊎ (0 < cell z (n + 2))) i q
-        (settled-left b n (given c k r 0 i) (wide i) j (unpaid i) p)
+        (settled-left b n (given c k pay 0 i) (wide i) j (unpaid i) p)
 
     -- An edge has weight in the column of its target.
     edge-weighs : (e : ℕ) → e < edgeCount (c .edges) → (f : ℕ → ℕ) → f (to (c .edges) e) ≡ 1 → 0 < along c (from (c .edges) e) f
@@ -88,13 +88,13 @@ module _ (b : Bool) (c : Chain) (k : Sets) (r : ℕ → ℕ) where
       lead-step g (live a o d) rec =
           let s : j < n = fine .targets e h in
           let z : 0 < along c i (λ t. only (eqb t j) 1) = edge-weighs e h (λ t. only (eqb t j) 1) (rw (eq-eqb j j refl)) in
-          let p : 0 < cell (given c k r 0 i) j = rw (given-state c k r 0 i j s, eq-eqb (bit (k .live) j) 1 a) z in
+          let p : 0 < cell (given c k pay 0 i) j = rw (given-state c k pay 0 i j s, eq-eqb (bit (k .live) j) 1 a) z in
           ⊎-elim
           (λ w. passes j s w (rec (s, a)))
           (λ w. leaves (n + 2) (omega arith) (omega arith) w)
           (given-way i j q p)
       lead-step g (won a o d) rec =
-          let p : 0 < cell (given c k r 0 i) n = rw (given-goal c k r 0 i) (edge-weighs e h (bit (c .goals)) o) in
+          let p : 0 < cell (given c k pay 0 i) n = rw (given-goal c k pay 0 i) (edge-weighs e h (bit (c .goals)) o) in
           ⊎-elim
           (λ w. leaves n (omega arith) (omega arith) w)
           (λ w. leaves (n + 2) (omega arith) (omega arith) w)
@@ -104,13 +104,13 @@ module _ (b : Bool) (c : Chain) (k : Sets) (r : ℕ → ℕ) where
     first-leads : (i : ℕ) → ToGoal c i → Alive c k i → Leads n t i
     first-leads i (PathTo.here j g) q = absurd (ok .live j .0 (q .1) .unwon g)
     first-leads i (PathTo.step e h l) q =
-        lead-step e h q l (goes-to c k r fine ok (from (c .edges) e) e q h refl) (λ w. first-leads (to (c .edges) e) l w)
+        lead-step e h q l (goes-to c k pay fine ok (from (c .edges) e) e q h refl) (λ w. first-leads (to (c .edges) e) l w)
 
     pub first-sound : Sound b n (Alive c k) t
     first-sound =
         record {
           inside = λ i q. q .0;
-          wide = λ i q. firsts (λ z. length z ≡ n + 4) i q (settled-length b n (given c k r 0 i) (wide i));
+          wide = λ i q. firsts (λ z. length z ≡ n + 4) i q (settled-length b n (given c k pay 0 i) (wide i));
           closed = λ i j q h.
               firsts (λ z. 0 < cell z j → Alive c k j) i q
               (λ p.
@@ -118,11 +118,11 @@ module _ (b : Bool) (c : Chain) (k : Sets) (r : ℕ → ℕ) where
               (λ (l : bit (k .live) j ≡ 1). (h, l))
               (λ (l : bit (k .live) j ≡ 1 → ⊥).
               absurd
-              (let z : cell (given c k r 0 i) j ≡ 0 = given-state c k r 0 i j h ∙ rw (ne-eqb (bit (k .live) j) 1 l) in
-              omega (arith, p, settled-zero b n (given c k r 0 i) (wide i) j (λ _. omega arith) z)))
+              (let z : cell (given c k pay 0 i) j ≡ 0 = given-state c k pay 0 i j h ∙ rw (ne-eqb (bit (k .live) j) 1 l) in
+              omega (arith, p, settled-zero b n (given c k pay 0 i) (wide i) j (λ _. omega arith) z)))
               (same (bit (k .live) j) 1));
           leads = λ i q. first-leads i (ok .live i .0 (q .1) .leads) q;
           unpaid = λ i q e.
               firsts (λ z. reward n z ≡ 0) i q
-              (settled-zero b n (given c k r 0 i) (wide i) (n + 3) (λ _. omega arith) (unpaid i e));
+              (settled-zero b n (given c k pay 0 i) (wide i) (n + 3) (λ _. omega arith) (unpaid i e));
         }

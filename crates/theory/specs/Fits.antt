@@ -56,28 +56,28 @@ module _ (b : Bool) (n : ℕ) where
       (λ _. settled-row (step n s t i) (combined-length s (outside n s (row t s)) (row t s) (row t i) ∙ all i h .wide)))
       (same i s)
 
-module _ (c : Chain) (k : Sets) (r : ℕ → ℕ) (o : List ℕ) where
+module _ (c : Chain) (k : Sets) (pay : ℕ → ℕ) (o : List ℕ) where
   abbrev n : ℕ
   n = c .states
 
-  first-all : (b : Bool) → All b n (stage b c k r o 0)
+  first-all : (b : Bool) → All b n (stage b c k pay o 0)
   unfolding after
-  first-all b i h = rw (first-row b c k r i h) (go (eqb (bit (k .live) i) 1))
+  first-all b i h = rw (first-row b c k pay i h) (go (eqb (bit (k .live) i) 1))
     where
-      go : (t : Bool) → Fits b n (choose t (firstRow b c k r 0 i) (noRow n))
-      go true = settled-row b n (given c k r 0 i) (given-length c k r 0 i)
+      go : (t : Bool) → Fits b n (choose t (firstRow b c k pay 0 i) (noRow n))
+      go true = settled-row b n (given c k pay 0 i) (given-length c k pay 0 i)
       go false = no-row b n
 
-  pub stage-fits : (b : Bool) (p i : ℕ) → i < n → Fits b n (row (stage b c k r o p) i)
+  pub stage-fits : (b : Bool) (p i : ℕ) → i < n → Fits b n (row (stage b c k pay o p) i)
   unfolding after
   stage-fits b zero = first-all b
   stage-fits b (suc p) = go (stage-fits b p) (leaving c k o p)
     where
-      go : All b n (stage b c k r o p) → (g : Bool)
-          → All b n (choose g (removed b n (getD o p 0) (stage b c k r o p)) (stage b c k r o p))
-      go rest true = removed-all b n (getD o p 0) (stage b c k r o p) rest
+      go : All b n (stage b c k pay o p) → (g : Bool)
+          → All b n (choose g (removed b n (getD o p 0) (stage b c k pay o p)) (stage b c k pay o p))
+      go rest true = removed-all b n (getD o p 0) (stage b c k pay o p) rest
       go rest false = rest
 
   -- In the bounds engine all fit.
-  pub bounds-fit : (p i : ℕ) → i < n → total n (row (stage rounding c k r o p) i) ≤ M
+  pub bounds-fit : (p i : ℕ) → i < n → total n (row (stage rounding c k pay o p) i) ≤ M
   bounds-fit p i h = stage-fits rounding p i h .small refl

@@ -7,7 +7,7 @@ use native.Mathlib.Omega.{arith}
 use lib.ListN.{length, getD, List·getD-eq-default}
 use Rattle.meaning.specs.Chain.{mostStates, mostEdges, M, mostReward, Chain, denominator, edgeSize, edgeCount, from, to, weight, along}
 use Rattle.meaning.specs.Refusal.{Lent, Entry, workSize, Misshaped, OrderFault, RewardFault, whole, lentFault, WellFormed}
-use Rattle.meaning.specs.Stop.{rewardOf}
+use Rattle.meaning.specs.Stop.{rewardOf, earns}
 use Rattle.theory.specs.Sum.{below}
 use Rattle.theory.specs.Every.{holds-every}
 use Rattle.theory.specs.Fine.{Fine}
@@ -127,7 +127,11 @@ module _ (x : Entry) (l : Lent) (formed : WellFormed x l) where
         atMost _ _ (λ k. formed .none 11 i (lends (x .rewards) (RewardFault (c .states) (l .rewards)) i lent (h, k)))
 
   -- An entry that is not lent rewards has none.
-  pub unpaid : x .rewards ≡ false → (i : ℕ) → rewardOf l i ≡ 0
-  unpaid lent i =
+  pub reward-none : x .rewards ≡ false → (i : ℕ) → rewardOf l i ≡ 0
+  reward-none lent i =
       List·getD-eq-default (l .rewards) 0 {n = i}
       (let e : length (l .rewards) ≡ 0 = equal _ _ (λ f. shape (Misshaped.rewards-length (λ e. f (rw lent at e)))) in omega arith)
+
+  -- So nothing is earned there.
+  pub unpaid : x .rewards ≡ false → (i : ℕ) → earns l i ≡ 0
+  unpaid lent i = rw (reward-none lent i) (omega arith)

@@ -10,7 +10,7 @@ use lib.ListN.{length}
 use borrow.Author.Tests.{eq-eqb, ne-eqb, lt-ltb, le-ltb}
 use Rattle.meaning.specs.Number.{sumTo, only, choose, bit}
 use Rattle.meaning.specs.Chain.{Chain, denominator, edgeCount, from, to, along, Goal, PathTo, FromStart, Live}
-use Rattle.meaning.specs.Figure.{Shares, Missed, Earns, earned}
+use Rattle.meaning.specs.Figure.{Shares, Missed, Earns}
 use Rattle.meaning.specs.Row.{Row, cell, total}
 use Rattle.meaning.specs.Step.{Sets, Right, given}
 use Rattle.theory.specs.Sum.{same, sum-ext, sum-one, sum-next}
@@ -74,37 +74,37 @@ fate c k ok t f =
     (same (bit (c .goals) t) 1))
     (same (bit (k .live) t) 1)
 
-module _ (c : Chain) (k : Sets) (r : ℕ → ℕ) (u i : ℕ) where
+module _ (c : Chain) (k : Sets) (pay : ℕ → ℕ) (u i : ℕ) where
   abbrev n : ℕ
   n = c .states
 
-  pub given-state : (j : ℕ) → j < n → cell (given c k r u i) j ≡ only (eqb (bit (k .live) j) 1) (along c i (λ t. only (eqb t j) 1))
+  pub given-state : (j : ℕ) → j < n → cell (given c k pay u i) j ≡ only (eqb (bit (k .live) j) 1) (along c i (λ t. only (eqb t j) 1))
   unfolding given
   given-state j h = tab-at (n + 4) _ 0 j (omega arith) ∙ rw (lt-ltb j n h)
 
-  pub given-goal : cell (given c k r u i) n ≡ along c i (bit (c .goals))
+  pub given-goal : cell (given c k pay u i) n ≡ along c i (bit (c .goals))
   unfolding given
   given-goal = tab-at (n + 4) _ 0 n (omega arith) ∙ rw (le-ltb n n (omega arith), eq-eqb n n refl)
 
-  pub given-trap : cell (given c k r u i) (n + 1) ≡ along c i (λ t. 1 - bit (k .good) t)
+  pub given-trap : cell (given c k pay u i) (n + 1) ≡ along c i (λ t. 1 - bit (k .good) t)
   unfolding given
   given-trap =
       tab-at (n + 4) _ 0 (n + 1) (omega arith)
       ∙ rw (le-ltb (n + 1) n (omega arith), ne-eqb (n + 1) n (omega arith), eq-eqb (n + 1) (n + 1) refl)
 
-  pub given-unknown : cell (given c k r u i) (n + 2) ≡ u
+  pub given-unknown : cell (given c k pay u i) (n + 2) ≡ u
   unfolding given
   given-unknown =
       tab-at (n + 4) _ 0 (n + 2) (omega arith)
       ∙ rw (le-ltb (n + 2) n (omega arith), ne-eqb (n + 2) n (omega arith), ne-eqb (n + 2) (n + 1) (omega arith), eq-eqb (n + 2) (n + 2) refl)
 
-  pub given-reward : cell (given c k r u i) (n + 3) ≡ earned c r i
+  pub given-reward : cell (given c k pay u i) (n + 3) ≡ pay i
   unfolding given
   given-reward =
       tab-at (n + 4) _ 0 (n + 3) (omega arith)
       ∙ rw (le-ltb (n + 3) n (omega arith), ne-eqb (n + 3) n (omega arith), ne-eqb (n + 3) (n + 1) (omega arith), ne-eqb (n + 3) (n + 2) (omega arith))
 
-  pub given-length : length (given c k r u i) ≡ n + 4
+  pub given-length : length (given c k pay u i) ≡ n + 4
   unfolding given
   given-length = tab-length 0 (n + 4) _
 
@@ -122,9 +122,9 @@ push true v = omega arith
 push false v = omega arith
 
 -- A first row has no Unknown.
-module _ (c : Chain) (k : Sets) (r : ℕ → ℕ) (fine : Fine c) where
+module _ (c : Chain) (k : Sets) (pay : ℕ → ℕ) (fine : Fine c) where
   abbrev begun : ℕ → Row
-  begun i = given c k r 0 i
+  begun i = given c k pay 0 i
 
   one-state : (i : ℕ) (b : Bool) (v j : ℕ) → only b (along c i (λ t. only (eqb t j) 1)) * v ≡ along c i (λ t. only (eqb t j) (only b v))
   one-state i b v j =
@@ -136,7 +136,7 @@ module _ (c : Chain) (k : Sets) (r : ℕ → ℕ) (fine : Fine c) where
       → sumTo (λ j. cell (begun i) j * v j) (c .states) ≡ along c i (λ t. only (eqb (bit (k .live) t) 1) (v t))
   given-states i v =
       sum-ext _ (λ j. along c i (λ t. only (eqb t j) (only (eqb (bit (k .live) j) 1) (v j)))) (c .states)
-      (λ j h. ap (λ z. z * v j) (given-state c k r 0 i j h) ∙ one-state i (eqb (bit (k .live) j) 1) (v j) j)
+      (λ j h. ap (λ z. z * v j) (given-state c k pay 0 i j h) ∙ one-state i (eqb (bit (k .live) j) 1) (v j) j)
       ∙ flow-swap (c .edges) i (λ j t. only (eqb t j) (only (eqb (bit (k .live) j) 1) (v j))) (c .states)
       ∙ flow-ext (c .edges) i _ _ (λ e h q.
       sum-one (λ j. only (eqb (bit (k .live) j) 1) (v j)) (c .states) (to (c .edges) e) (fine .targets e h))
@@ -160,19 +160,19 @@ module _ (c : Chain) (k : Sets) (r : ℕ → ℕ) (fine : Fine c) where
         sum-next f (n + 1) (n + 2) (omega arith),
         sum-next f (n + 2) (n + 3) (omega arith),
         given-states i v,
-        ap (λ z. z * v n) (given-goal c k r 0 i),
-        ap (λ z. z * v (n + 1)) (given-trap c k r 0 i),
-        ap (λ z. z * v (n + 2)) (given-unknown c k r 0 i),
+        ap (λ z. z * v n) (given-goal c k pay 0 i),
+        ap (λ z. z * v (n + 1)) (given-trap c k pay 0 i),
+        ap (λ z. z * v (n + 2)) (given-unknown c k pay 0 i),
       )
 
   given-worth : (i : ℕ) (v : ℕ → ℕ)
-      → worth (c .states) (begun i) v ≡ along c i (fare c k v) + earned c r i * v (c .states + 3)
+      → worth (c .states) (begun i) v ≡ along c i (fare c k v) + pay i * v (c .states + 3)
   given-worth i v =
       omega (
         arith,
         given-sum i v,
         sum-next (λ j. cell (begun i) j * v j) (c .states + 3) (c .states + 4) (omega arith),
-        ap (λ z. z * v (c .states + 3)) (given-reward c k r 0 i),
+        ap (λ z. z * v (c .states + 3)) (given-reward c k pay 0 i),
       )
 
   module _ (ok : Right c k) where
@@ -215,7 +215,7 @@ module _ (c : Chain) (k : Sets) (r : ℕ → ℕ) (fine : Fine c) where
           rw (given-total i q, are .state i (q .0), a, are .paid, b, share .flows i (q .0) (l .unwon) (l .leads)) (omega arith)
 
     -- And of the rewards.
-    module _ (sure : Missed c → ⊥) (d : ℕ) (y : ℕ → ℕ) (earn : Earns c r d y) (u : ℕ) (v : ℕ → ℕ) (are : Columns (c .states) y 0 0 u d v) where
+    module _ (sure : Missed c → ⊥) (d : ℕ) (y : ℕ → ℕ) (earn : Earns c pay d y) (u : ℕ) (v : ℕ → ℕ) (are : Columns (c .states) y 0 0 u d v) where
       earn-each : (t : ℕ) → t < c .states → FromStart c t → Fate c k t → fare c k v t ≡ y t
       earn-each t h f (live a b e) = rw (a, b, e) (omega (arith, are .state t h))
       earn-each t h f (won a b e) = rw (a, b, e) (omega (arith, are .goal, earn .won t f b))

@@ -9,7 +9,7 @@ use Rattle.meaning.specs.Figure.{Chance, Missed, Expected}
 use Rattle.meaning.specs.Row.{Row, cell, goalColumn, unknownColumn, reward, exact, rounding}
 use Rattle.meaning.specs.Step.{row, Sets, Right, outside}
 use Rattle.meaning.specs.Refusal.{Lent, Entry, plain, paid, WellFormed}
-use Rattle.meaning.specs.Stop.{rewardOf, tableAt, Passed, Stopped}
+use Rattle.meaning.specs.Stop.{earns, tableAt, Passed, Stopped}
 use Rattle.meaning.specs.Outcome.{cleared, Outcome, refused, stopped, answered, refusal, fraction, infinite, ChanceFigure, chance, RewardFigure, missed, expected, RewardStop, Bounds, noBounds, between, lastRow, BoundsFigure}
 use Rattle.theory.specs.Gcd.{fraction-reduced}
 use Rattle.theory.specs.Sets.{right-one, right-exists}
@@ -89,21 +89,21 @@ module _ (l : Lent) (k : Sets) (right : Right (l .chain) k) where
         | lost h ↦ (0, (1, chance-lost c (start-in plain l f) h))
         | live a ↦ let g = cell exactRow (goalColumn (c .states)) in
             let ready = formed-ready plain l f refl k right in
-            let h : Reduced g (D exactRow) _ _ = fraction-reduced g (D exactRow) (exact-whole c k (l .order) ready (rewardOf l) a) in
-            (top g (D exactRow), (bottom g (D exactRow), exact-chance c k (l .order) ready (rewardOf l) a _ _ h))
+            let h : Reduced g (D exactRow) _ _ = fraction-reduced g (D exactRow) (exact-whole c k (l .order) ready (earns l) a) in
+            (top g (D exactRow), (bottom g (D exactRow), exact-chance c k (l .order) ready (earns l) a _ _ h))
       ]
 
   -- The expected reward, where it is not infinite.
-  unfoldable pub reward-is : WellFormed paid l → (Missed c → ⊥) → (p : ℕ) × ((q : ℕ) × Expected c (rewardOf l) p q)
+  unfoldable pub reward-is : WellFormed paid l → (Missed c → ⊥) → (p : ℕ) × ((q : ℕ) × Expected c (earns l) p q)
   unfolding begins
   reward-is f m =
       elim (begins c k right) [
-        | won g ↦ (0, (1, reward-won c (rewardOf l) g))
+        | won g ↦ (0, (1, reward-won c (earns l) g))
         | lost h ↦ absurd (m (c .start, begin, h))
         | live a ↦ let r = reward (c .states) exactRow in
             let ready = formed-ready paid l f refl k right in
-            let h : Reduced r (D exactRow) _ _ = fraction-reduced r (D exactRow) (exact-whole c k (l .order) ready (rewardOf l) a) in
-            (top r (D exactRow), (bottom r (D exactRow), exact-reward c k (l .order) ready (rewardOf l) a m _ _ h))
+            let h : Reduced r (D exactRow) _ _ = fraction-reduced r (D exactRow) (exact-whole c k (l .order) ready (earns l) a) in
+            (top r (D exactRow), (bottom r (D exactRow), exact-reward c k (l .order) ready (earns l) a m _ _ h))
       ]
 
   -- The bounds.
@@ -116,7 +116,7 @@ module _ (l : Lent) (k : Sets) (right : Right (l .chain) k) where
         | live a ↦ let z = lastRow l k in
             let g = cell z (goalColumn (c .states)) in
             let u = g + cell z (unknownColumn (c .states)) in
-            let whole : 0 < D z = bounds-whole c k (l .order) (formed-ready plain l f refl k right) (rewardOf l) a (unpaid plain l f refl) in (
+            let whole : 0 < D z = bounds-whole c k (l .order) (formed-ready plain l f refl k right) (earns l) a (unpaid plain l f refl) in (
               between (top g (D z)) (bottom g (D z)) (top u (D z)) (bottom u (D z)),
               BoundsFigure.live k right a _ _ _ _ (fraction-reduced g (D z) whole, fraction-reduced u (D z) whole) refl,
             )

@@ -26,9 +26,9 @@ unfoldable pub Kept : Chain → Sets → List ℕ → ℕ → ℕ → Type 0
 Kept c k o zero i = Alive c k i
 Kept c k o (suc p) i = Kept c k o p i × (leaving c k o p ≡ true → i ≡ getD o p 0 → ⊥)
 
-module _ (b : Bool) (c : Chain) (k : Sets) (r : ℕ → ℕ) (o : List ℕ) (sorted : (p : ℕ) → p < c .states → getD o p 0 < c .states) where
+module _ (b : Bool) (c : Chain) (k : Sets) (pay : ℕ → ℕ) (o : List ℕ) (sorted : (p : ℕ) → p < c .states → getD o p 0 < c .states) where
   abbrev at : ℕ → Table
-  at p = stage b c k r o p
+  at p = stage b c k pay o p
 
   -- One position of the order: the state there is removed, or nothing changes.
   turn : (p : ℕ) (P : (ℕ → Type 0) → Table → Type 0)

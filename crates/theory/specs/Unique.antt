@@ -87,13 +87,13 @@ module _ {c : Chain} (fine : Fine c) where
         (p, q, record { lowest = h; share = f })
 
     module _ (sure : Missed c → ⊥) where
-      pub expected-one : {r : ℕ → ℕ} {p q p' q' : ℕ} → Expected c r p q → Expected c r p' q' → (p ≡ p') × (q ≡ q')
-      expected-one {r} X X' =
-          figure-one (Earns c r) (c .start) (λ d y E. E .whole) (earns-exist fine inside sure r) (X .lowest) (X' .lowest) (X .share) (X' .share)
+      pub expected-one : {pay : ℕ → ℕ} {p q p' q' : ℕ} → Expected c pay p q → Expected c pay p' q' → (p ≡ p') × (q ≡ q')
+      expected-one {pay} X X' =
+          figure-one (Earns c pay) (c .start) (λ d y E. E .whole) (earns-exist fine inside sure pay) (X .lowest) (X' .lowest) (X .share) (X' .share)
 
-      pub expected-exists : (r : ℕ → ℕ) → (p : ℕ) × (q : ℕ) × Expected c r p q
-      expected-exists r =
+      pub expected-exists : (pay : ℕ → ℕ) → (p : ℕ) × (q : ℕ) × Expected c pay p q
+      expected-exists pay =
           let (p, q, h, f) =
-          figure-exists (Earns c r) (c .start) (λ d y E. E .whole) (earns-exist fine inside sure r)
-          (λ d d' y y' E E'. earns-agree fine inside sure r E E' (c .start) FromStart.begin) in
+          figure-exists (Earns c pay) (c .start) (λ d y E. E .whole) (earns-exist fine inside sure pay)
+          (λ d d' y y' E E'. earns-agree fine inside sure pay E E' (c .start) FromStart.begin) in
           (p, q, record { lowest = h; share = f })

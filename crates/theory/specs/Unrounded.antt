@@ -22,24 +22,24 @@ use Rattle.theory.specs.Stage.{leaving}
 alike : (n : ℕ) (r : Row) → (Rounds n r → ⊥) → settled rounding n r ≡ settled exact n r
 alike n r h = settled-same rounding n r (λ _. h) ∙ sym (settled-same exact n r (λ _. h))
 
-module _ (c : Chain) (k : Sets) (r : ℕ → ℕ) (o : List ℕ) where
+module _ (c : Chain) (k : Sets) (pay : ℕ → ℕ) (o : List ℕ) where
   abbrev n : ℕ
   n = c .states
 
   -- The bounds engine's table.
   abbrev at : ℕ → Table
-  at p = stage rounding c k r o p
+  at p = stage rounding c k pay o p
 
-  first-same : (RoundedAt c k r o 0 → ⊥) → first rounding c k r (λ _. 0) ≡ first exact c k r (λ _. 0)
+  first-same : (RoundedAt c k pay o 0 → ⊥) → first rounding c k pay (λ _. 0) ≡ first exact c k pay (λ _. 0)
   unfolding first
   first-same none = tab-ext n _ _ (λ i h. go i h (eqb (bit (k .live) i) 1) refl)
     where
       go : (i : ℕ) → i < n → (t : Bool) → eqb (bit (k .live) i) 1 ≡ t
-          → choose t (firstRow rounding c k r 0 i) (noRow n) ≡ choose t (firstRow exact c k r 0 i) (noRow n)
-      go i h true e = alike n (given c k r 0 i) (λ m. none (RoundedAt.first-row i h (eqb-true (bit (k .live) i) 1 e) m))
+          → choose t (firstRow rounding c k pay 0 i) (noRow n) ≡ choose t (firstRow exact c k pay 0 i) (noRow n)
+      go i h true e = alike n (given c k pay 0 i) (λ m. none (RoundedAt.first-row i h (eqb-true (bit (k .live) i) 1 e) m))
       go i h false e = refl
 
-  removed-same : (p : ℕ) → leaving c k o p ≡ true → (RoundedAt c k r o (suc p) → ⊥)
+  removed-same : (p : ℕ) → leaving c k o p ≡ true → (RoundedAt c k pay o (suc p) → ⊥)
       → removed rounding n (getD o p 0) (at p) ≡ removed exact n (getD o p 0) (at p)
   unfolding removed renewed
   removed-same p g none = tab-ext n _ _ (λ i h. go i h)
@@ -63,13 +63,13 @@ module _ (c : Chain) (k : Sets) (r : ℕ → ℕ) (o : List ℕ) where
           (same (cell (row (at p) i) s) 0)))
           (same i s)
 
-  pub unrounded : (p : ℕ) → ((q : ℕ) → q ≤ p → RoundedAt c k r o q → ⊥) → stage rounding c k r o p ≡ stage exact c k r o p
+  pub unrounded : (p : ℕ) → ((q : ℕ) → q ≤ p → RoundedAt c k pay o q → ⊥) → stage rounding c k pay o p ≡ stage exact c k pay o p
   unfolding after
   unrounded zero none = first-same (none 0 (omega arith))
   unrounded (suc p) none = go (unrounded p (λ q h. none q (omega arith))) (leaving c k o p) refl
     where
-      go : at p ≡ stage exact c k r o p → (g : Bool) → leaving c k o p ≡ g
+      go : at p ≡ stage exact c k pay o p → (g : Bool) → leaving c k o p ≡ g
           → choose g (removed rounding n (getD o p 0) (at p)) (at p)
-          ≡ choose g (removed exact n (getD o p 0) (stage exact c k r o p)) (stage exact c k r o p)
+          ≡ choose g (removed exact n (getD o p 0) (stage exact c k pay o p)) (stage exact c k pay o p)
       go rest true e = removed-same p e (none (suc p) (omega arith)) ∙ ap (removed exact n (getD o p 0)) rest
       go rest false e = rest

@@ -3,7 +3,7 @@ use native.Mathlib.Omega.{arith}
 use borrow.Author.Needs.{needs}
 use borrow.Author.Tests.{not-true, not-false}
 use Rattle.meaning.specs.Step.{Sets, goes, first, after}
-use Rattle.meaning.specs.Stop.{rewardOf}
+use Rattle.meaning.specs.Stop.{earns}
 use Rattle.meaning.specs.Refusal.{Lent}
 use Rattle.chain.specs.Says.{lent as lentTo}
 use Rattle.engines.specs.Sets.{setsOf}
@@ -55,7 +55,7 @@ start-of c = c .before .before .before .before .before .before .before .before .
 
 begins : (c : tie.After-eliminate)
     → let s = start-of c in
-    Reached (s .args .rounding) (s .args .c .states) (first (s .args .rounding) (l s .chain) (k s) (rewardOf (l s)) (λ _. 0)) (s .args .work .now)
+    Reached (s .args .rounding) (s .args .c .states) (first (s .args .rounding) (l s .chain) (k s) (earns (l s)) (λ _. 0)) (s .args .work .now)
     (c .before .before .before .before .before .first-rows .last .0)
 begins c = c .before .before .before .before .before .first-rows .ensures .reached (not-false _ (c .before .before .if1 .left))
 
