@@ -71,7 +71,7 @@ module _ (x : Entry) {n d e o w p q : ℕ} (g : counted (x .order) o n p) (f : c
   lend (Misshaped.no-states h) = Misshaped.no-states h
   lend (Misshaped.many-states h) = Misshaped.many-states h
   lend (Misshaped.denominators-length h) = Misshaped.denominators-length h
-  lend (Misshaped.edges-threes h) = Misshaped.edges-threes h
+  lend (Misshaped.edges-ragged h) = Misshaped.edges-ragged h
   lend (Misshaped.many-edges h) = Misshaped.many-edges h
   lend (Misshaped.order-length h) = Misshaped.order-length (lent-wrong n (x .order) g h)
   lend (Misshaped.rewards-length h) = Misshaped.rewards-length (lent-wrong n (x .rewards) f h)
@@ -80,7 +80,7 @@ module _ (x : Entry) {n d e o w p q : ℕ} (g : counted (x .order) o n p) (f : c
   reclaim (Misshaped.no-states h) = Misshaped.no-states h
   reclaim (Misshaped.many-states h) = Misshaped.many-states h
   reclaim (Misshaped.denominators-length h) = Misshaped.denominators-length h
-  reclaim (Misshaped.edges-threes h) = Misshaped.edges-threes h
+  reclaim (Misshaped.edges-ragged h) = Misshaped.edges-ragged h
   reclaim (Misshaped.many-edges h) = Misshaped.many-edges h
   reclaim (Misshaped.order-length h) = Misshaped.order-length (given-wrong n (x .order) g h)
   reclaim (Misshaped.rewards-length h) = Misshaped.rewards-length (given-wrong n (x .rewards) f h)
@@ -89,13 +89,13 @@ module _ {n d e o w : ℕ} where
   pub shapely : 0 < n → n ≤ mostStates → d ≡ n → (((e % edgeSize ≡ 0 → ⊥) → ⊥)) → e / edgeSize ≤ mostEdges → o ≡ n → w ≡ n
       → Misshaped paid n d e o w
       → ⊥
-  shapely some few p threes edges q r (Misshaped.no-states h) = omega arith
-  shapely some few p threes edges q r (Misshaped.many-states h) = omega arith
-  shapely some few p threes edges q r (Misshaped.denominators-length h) = h p
-  shapely some few p threes edges q r (Misshaped.edges-threes h) = threes h
-  shapely some few p threes edges q r (Misshaped.many-edges h) = omega arith
-  shapely some few p threes edges q r (Misshaped.order-length h) = h q
-  shapely some few p threes edges q r (Misshaped.rewards-length h) = h r
+  shapely some few p full edges q r (Misshaped.no-states h) = omega arith
+  shapely some few p full edges q r (Misshaped.many-states h) = omega arith
+  shapely some few p full edges q r (Misshaped.denominators-length h) = h p
+  shapely some few p full edges q r (Misshaped.edges-ragged h) = full h
+  shapely some few p full edges q r (Misshaped.many-edges h) = omega arith
+  shapely some few p full edges q r (Misshaped.order-length h) = h q
+  shapely some few p full edges q r (Misshaped.rewards-length h) = h r
 
 -- A wrong shape is number 1, and a right one clears it.
 module _ (x : Entry) (l : Lent) (b : Bool) (o w : ℕ)

@@ -1,4 +1,5 @@
 pub mod Reduce
+pub mod Edge
 pub mod Least
 pub mod Says
 pub mod Answer

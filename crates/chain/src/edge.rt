@@ -2,8 +2,9 @@
 ghost use mathlib.Core.Path.{_≡_};
 ghost use Prim.Native.Nat.{_+_, _*_, _%_};
 ghost use lib.ListN.{length, getD};
+ghost use Rattle.chain.specs.Edge.{placed};
 ghost use Rattle.chain.specs.Least.{decides};
-ghost use Rattle.meaning.specs.Chain.{edgeSize, edgeCount, from, to, weight};
+ghost use Rattle.meaning.specs.Chain.{edgeSize, edge, edgeCount, from, to, weight};
 use crate::Chain;
 
 pub const SIZE: usize = 3;
@@ -48,6 +49,19 @@ pub fn weight(edges: &[u64], e: usize) -> u64
     ensures { λ r. ⌜ r ≡ weight (now (edges .entry)) e ⌝ }
 {
     part(edges, e, 2)
+}
+
+// Sets edge e, in a list that has it.
+pub fn put(edges: &mut [u64], e: usize, from: u64, to: u64, weight: u64)
+    ensures { λ _. ⌜ now (edges .exit) ≡ placed (now (edges .entry)) e (edge from to weight) ⌝ }
+{
+    if count(edges) <= e {
+        return;
+    }
+    let begin = SIZE * e;
+    edges[begin] = from;
+    edges[begin + 1] = to;
+    edges[begin + 2] = weight;
 }
 
 // Numbers are left over past the last whole edge.

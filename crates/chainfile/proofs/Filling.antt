@@ -1,18 +1,20 @@
 -- A table that is filled from the front, and the numbers that go into it.
-use Prim.Native.Nat.{ℕ, zero, suc, _+_, _*_, _-_, _/_, _%_, _≤_, _<_}
+use Prim.Native.Nat.{ℕ, zero, suc, _+_, _*_, _-_, _/_, _≤_, _<_}
 use mathlib.Core.Path.{_≡_, refl, sym, ap, _∙_}
 use mathlib.Core.Logic.{⊎-elim, inl, inr}
 use mathlib.Core.List.{List}
 use native.Mathlib.Nat.{add-zero}
 use native.Mathlib.Omega.{arith}
-use lib.ListN.{length, getD, set, drop, length-set, length-append, length-drop, List·getD-append}
+use lib.ListN.{length, getD, set, drop, length-set, length-append, length-drop, List·getD-append, List·getD-eq-default}
 use lib.Seq.{ext-getD, getD-set-same, getD-set-other, getD-append-add, getD-drop}
+use borrow.Author.Tests.{eq-eqb, ne-eqb, lt-ltb}
 use Rattle.meaning.specs.Number.{sumTo, tabFrom, filled}
-use Rattle.meaning.specs.Chain.{mostStates, mostEdges, edgeSize}
-use Rattle.meaning.specs.Block.{Input, byte, numberAt, headStates, stateAt, orderByte, fromIn, toIn, weightIn}
-use Rattle.meaning.specs.File.{Tables, Short, denominatorsIn, ordersIn, edgeNumber}
-use Rattle.theory.specs.Sum.{below, last-or-below}
-use Rattle.theory.specs.Tab.{tab-at, tab-length}
+use Rattle.meaning.specs.Chain.{mostStates, mostEdges, edgeSize, edgeCount, edgeNumber}
+use Rattle.meaning.specs.Block.{Input, byte, numberAt, headStates, stateAt, orderByte}
+use Rattle.meaning.specs.File.{Tables, Short, denominatorsIn, ordersIn}
+use Rattle.theory.specs.Sum.{same, below, last-or-below}
+use Rattle.theory.specs.Tab.{tab-at, tab-past, tab-length}
+use Rattle.chain.specs.Edge.{placed}
 
 -- The entries before k are new, the others as they were.
 pub record Filled (f : ℕ → ℕ) (before : List ℕ) (k : ℕ) (table : List ℕ) : Type 0 where
@@ -66,16 +68,28 @@ unfolding tabFrom
 tab-same i zero f g h = refl
 tab-same i (suc n) f g h = rw (h i, tab-same (suc i) n f g h)
 
--- Numbers 3e, 3e + 1 and 3e + 2 of the edges are from, to and weight of edge e.
-module _ (f : Input) (e : ℕ) where
-  pub number-from : (j : ℕ) → j ≡ 3 * e → edgeNumber f j ≡ fromIn f e
-  number-from j h = let m : j % 3 ≡ 0 = omega arith in let d : j / 3 ≡ e = omega arith in rw (m, d)
-
-  pub number-to : (j : ℕ) → j ≡ 3 * e + 1 → edgeNumber f j ≡ toIn f e
-  number-to j h = let m : j % 3 ≡ 1 = omega arith in let d : j / 3 ≡ e = omega arith in rw (m, d)
-
-  pub number-weight : (j : ℕ) → j ≡ 3 * e + 2 → edgeNumber f j ≡ weightIn f e
-  number-weight j h = let m : j % 3 ≡ 2 = omega arith in let d : j / 3 ≡ e = omega arith in rw (m, d)
+-- An edge more, in a table with room for it.
+module _ (edges : ℕ → List ℕ) (e : ℕ) {before table : List ℕ} (w : Filled (edgeNumber edges) before (edgeSize * e) table) where
+  pub more-edge : edgeSize * (e + 1) ≤ length before → Filled (edgeNumber edges) before (edgeSize * (e + 1)) (placed table e (edges e))
+  unfolding placed
+  more-edge h =
+      rw (lt-ltb e (edgeCount table) (omega (arith, w .size)))
+      (record {
+        size = tab-length 0 (length table) _ ∙ w .size;
+        new =
+            λ j b.
+            tab-at (length table) _ 0 j (omega (arith, w .size))
+            ∙ ⊎-elim
+            (λ (q : j / edgeSize ≡ e). rw (eq-eqb (j / edgeSize) e q, q))
+            (λ (d : j / edgeSize ≡ e → ⊥). rw (ne-eqb (j / edgeSize) e d) (w .new j (omega arith)))
+            (same (j / edgeSize) e);
+        old = λ j b.
+            ⊎-elim
+            (λ (l : j < length table).
+            tab-at (length table) _ 0 j l ∙ rw (ne-eqb (j / edgeSize) e (omega arith)) (w .old j (omega arith)))
+            (λ (l : length table ≤ j). tab-past 0 (length table) _ 0 j l ∙ sym (List·getD-eq-default before 0 (omega (arith, w .size))))
+            (below j (length table));
+      })
 
 -- Tables that are not short have room for the largest chain.
 pub record Room (t : Tables) : Type 0 where

@@ -71,7 +71,7 @@ pub(crate) fn goals(kept: &[u8]) -> u64
     goals
 }
 
-// The edges, three numbers a record.
+// The edges, a record each.
 fn edge_numbers(kept: &[u8], table: &mut [u64])
     requires { ⌜ Within (input (now kept) 0) ⌝ }
     requires { ⌜ edgeSize * headEdges (input (now kept) 0) ≤ length (now table) ⌝ }
@@ -82,10 +82,10 @@ fn edge_numbers(kept: &[u8], table: &mut [u64])
     let mut e = 0;
     while e < count {
         let at = record_at(first, e);
-        let j = edge::SIZE * e;
-        table[j] = bytes::byte(kept, at + layout::FROM);
-        table[j + 1] = bytes::byte(kept, at + layout::TO);
-        table[j + 2] = bytes::number(kept, at + layout::WEIGHT, layout::QUAD);
+        let from = bytes::byte(kept, at + layout::FROM);
+        let to = bytes::byte(kept, at + layout::TO);
+        let weight = bytes::number(kept, at + layout::WEIGHT, layout::QUAD);
+        edge::put(table, e, from, to, weight);
         e += 1;
     }
 }

@@ -9,7 +9,8 @@ use Rattle.meaning.specs.Refusal.{Lent, plain, paid, bare, Refused, WellFormed}
 use Rattle.meaning.specs.Outcome.{Answer, Bounds, Outcome, ChanceOutcome, RewardFigure, RewardOutcome, BoundsOutcome}
 use Rattle.meaning.specs.Survey.{Count}
 use Rattle.meaning.specs.Block.{Input, headEdges}
-use Rattle.meaning.specs.File.{edgeNumber, paidIn, FileRefused, Accepted}
+use Rattle.meaning.specs.Chain.{edgeSize, edgeNumber}
+use Rattle.meaning.specs.File.{edgeIn, paidIn, FileRefused, Accepted}
 use Rattle.meaning.specs.Text.{bytesOf}
 use Rattle.meaning.specs.Report.{refusedText, linesText, Report, printing, TextOutcome, reportRoom}
 use Rattle.theory.specs.Tab.{tab-length}
@@ -108,7 +109,7 @@ lines-report f l e {counts} {chance} {reward} {bounds} =
     → Report f (linesText (counts .states) (counts .edges) (counts .goals) (counts .live) chance reward bounds))
     (sym e)
     (λ a w n c r b.
-    let edges : counts .edges ≡ headEdges f = omega (arith, n .edges, tab-length 0 (3 * headEdges f) (edgeNumber f)) in
+    let edges : counts .edges ≡ headEdges f = omega (arith, n .edges, tab-length 0 (edgeSize * headEdges f) (edgeNumber (edgeIn f))) in
     Report.reported a w (counts .goals) (counts .live) (n .goals) (n .live) chance reward bounds (c .work) (r .work) (b .work)
     (c .outcome) (r .outcome) (b .outcome)
     (ap₂ (λ s k. linesText s k (counts .goals) (counts .live) chance reward bounds) (n .states) edges))

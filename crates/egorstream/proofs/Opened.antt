@@ -7,10 +7,10 @@ use native.Mathlib.Omega.{arith}
 use lib.ListN.{length, take, drop, replicate, length-append, length-replicate}
 use lib.Seq.{take-at}
 use Rattle.meaning.specs.Number.{tabFrom, filled}
-use Rattle.meaning.specs.Chain.{mostStates, mostEdges, edgeSize}
+use Rattle.meaning.specs.Chain.{mostStates, mostEdges, edgeSize, edgeNumber}
 use Rattle.meaning.specs.Refusal.{workSize}
 use Rattle.meaning.specs.Block.{Input, headEdges, denominatorIn, rewardIn, orderIn}
-use Rattle.meaning.specs.File.{FileRefused, edgeNumber, Tables, Short, Reading as Numbers, reading, ReadOutcome}
+use Rattle.meaning.specs.File.{FileRefused, edgeIn, Tables, Short, Reading as Numbers, reading, ReadOutcome}
 use Rattle.theory.specs.FileOne.{file-numbers}
 use Rattle.theory.specs.Tab.{tab-length}
 use Rattle.chain.specs.declared.Chain.{Chain as Frame}
@@ -80,7 +80,7 @@ module _ {f : Input} {t after : Tables} (room : Short t → ⊥) where
       let do′ = ap (λ (t : Tables). t .order) d in
       let dr = ap (λ (t : Tables). t .rewards) d in
       let fd = at (denominatorIn f) _ _ sn dd in
-      let fe = at (edgeNumber f) _ _ (ap (λ k. edgeSize * k) en) de in
+      let fe = at (edgeNumber (edgeIn f)) _ _ (ap (λ k. edgeSize * k) en) de in
       let fo = at (orderIn f) _ _ sn do′ in
       let fr = at (rewardIn f) _ _ sn dr in
       record {

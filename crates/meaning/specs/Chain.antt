@@ -1,7 +1,7 @@
 -- The chain: its limits, its states and edges, and the paths along them.
-use Prim.Native.Nat.{ℕ, _+_, _*_, _/_, _<_}
+use Prim.Native.Nat.{ℕ, _+_, _*_, _/_, _%_, _<_}
 use mathlib.Core.Path.{_≡_}
-use mathlib.Core.List.{List}
+use mathlib.Core.List.{List, [], _∷_}
 use lib.ListN.{length, getD}
 use lib.Dec.{eqb}
 use Rattle.meaning.specs.Number.{sumTo, only, bit}
@@ -38,7 +38,14 @@ denominator c i = getD (c .denominators) i 0
 abbrev pub edgeSize : ℕ
 edgeSize = 3
 
--- How many edges a list holds, and the three numbers of edge e, counted from 0.
+abbrev pub edge : ℕ → ℕ → ℕ → List ℕ
+edge source target weight = source ∷ target ∷ weight ∷ []
+
+-- Number j of the list of edges whose edge e is edges e.
+abbrev pub edgeNumber : (ℕ → List ℕ) → ℕ → ℕ
+edgeNumber edges j = getD (edges (j / edgeSize)) (j % edgeSize) 0
+
+-- How many edges a list holds, and the numbers of edge e, counted from 0.
 abbrev pub edgeCount : List ℕ → ℕ
 edgeCount edges = length edges / edgeSize
 

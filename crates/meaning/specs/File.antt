@@ -6,7 +6,7 @@ use mathlib.Core.List.{List, []}
 use lib.ListN.{length, replicate}
 use lib.Dec.{eqb, leb}
 use Rattle.meaning.specs.Number.{sumTo, choose, tabFrom, filled}
-use Rattle.meaning.specs.Chain.{mostStates, mostEdges, Chain, edgeSize}
+use Rattle.meaning.specs.Chain.{mostStates, mostEdges, Chain, edgeSize, edge, edgeNumber}
 use Rattle.meaning.specs.Refusal.{Lent, workSize}
 use Rattle.meaning.specs.Block.{
   Input,
@@ -147,14 +147,11 @@ rewardsIn f = tabFrom 0 (headStates f) (rewardIn f)
 abbrev pub ordersIn : Input → List ℕ
 ordersIn f = tabFrom 0 (headStates f) (orderIn f)
 
--- Number j of the list of edges: from, to and weight of each edge in turn.
-abbrev pub edgeNumber : Input → ℕ → ℕ
-edgeNumber f j =
-    choose (eqb (j % edgeSize) 0) (fromIn f (j / edgeSize))
-    (choose (eqb (j % edgeSize) 1) (toIn f (j / edgeSize)) (weightIn f (j / edgeSize)))
+abbrev pub edgeIn : Input → ℕ → List ℕ
+edgeIn f e = edge (fromIn f e) (toIn f e) (weightIn f e)
 
 abbrev pub edgesIn : Input → List ℕ
-edgesIn f = tabFrom 0 (edgeSize * headEdges f) (edgeNumber f)
+edgesIn f = tabFrom 0 (edgeSize * headEdges f) (edgeNumber (edgeIn f))
 
 abbrev pub chainIn : Input → Chain
 chainIn f =

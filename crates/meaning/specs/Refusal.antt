@@ -50,13 +50,13 @@ bare = record { order = false; rewards = false; work = false }
 abbrev pub workSize : ℕ → ℕ
 workSize n = n * width n
 
--- 1: n is not 1 to 64; a table length is other than n, or than 0 where the entry is not lent that table; the edge numbers are not in threes,
--- or over 4,096 edges.
+-- 1: n is not 1 to 64; a table length is other than n, or than 0 where the entry is not lent that table; numbers are left over past
+-- the last whole edge, or over 4,096 edges.
 pub data Misshaped (x : Entry) (states denominators edges order rewards : ℕ) : Type 0 where
   no-states : states ≡ 0 → Misshaped x states denominators edges order rewards
   many-states : mostStates < states → Misshaped x states denominators edges order rewards
   denominators-length : (denominators ≡ states → ⊥) → Misshaped x states denominators edges order rewards
-  edges-threes : (edges % edgeSize ≡ 0 → ⊥) → Misshaped x states denominators edges order rewards
+  edges-ragged : (edges % edgeSize ≡ 0 → ⊥) → Misshaped x states denominators edges order rewards
   many-edges : mostEdges < edges / edgeSize → Misshaped x states denominators edges order rewards
   order-length : (order ≡ only (x .order) states → ⊥) → Misshaped x states denominators edges order rewards
   rewards-length : (rewards ≡ only (x .rewards) states → ⊥) → Misshaped x states denominators edges order rewards

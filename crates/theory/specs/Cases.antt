@@ -3,7 +3,7 @@ use Prim.Native.Nat.{ℕ, zero, suc, _+_, _-_, _^_}
 use mathlib.Core.List.{List, [], _∷_, _++_}
 use lib.ListN.{replicate}
 use Rattle.meaning.specs.Number.{tabFrom}
-use Rattle.meaning.specs.Chain.{M}
+use Rattle.meaning.specs.Chain.{M, edge}
 use Rattle.meaning.specs.Figure.{Chance}
 use Rattle.meaning.specs.Refusal.{Lent, workSize}
 use Rattle.meaning.specs.Block.{Input, blockSize}
@@ -46,10 +46,6 @@ lend states goals denominators edges rewards =
       rewards = rewards;
       work = replicate (workSize states + 2) 7;
     }
-
--- An edge, among the others.
-abbrev pub edge : ℕ → ℕ → ℕ → List ℕ
-edge source target weight = source ∷ target ∷ weight ∷ []
 
 -- The address chain: 5 is ok, 6 is the error. Then with 5, with 6, and with both as goals.
 abbrev pub address : ℕ → List ℕ → Lent

@@ -46,7 +46,7 @@ module _ (x : Entry) (order rewards : List ℕ) where
   shape (Misshaped.no-states h) = Misshaped.no-states h
   shape (Misshaped.many-states h) = Misshaped.many-states h
   shape (Misshaped.denominators-length h) = Misshaped.denominators-length h
-  shape (Misshaped.edges-threes h) = Misshaped.edges-threes h
+  shape (Misshaped.edges-ragged h) = Misshaped.edges-ragged h
   shape (Misshaped.many-edges h) = Misshaped.many-edges h
   shape {n} (Misshaped.order-length h) = Misshaped.order-length (lent-length (x .order) order n h)
   shape {n} (Misshaped.rewards-length h) = Misshaped.rewards-length (lent-length (x .rewards) rewards n h)

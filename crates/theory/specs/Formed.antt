@@ -48,8 +48,8 @@ module _ (x : Entry) (l : Lent) (formed : WellFormed x l) where
   pub denominators-length : length (c .denominators) ≡ c .states
   denominators-length = equal _ _ (λ f. shape (Misshaped.denominators-length f))
 
-  pub edges-threes : length (c .edges) % edgeSize ≡ 0
-  edges-threes = equal _ _ (λ f. shape (Misshaped.edges-threes f))
+  pub edges-whole : length (c .edges) % edgeSize ≡ 0
+  edges-whole = equal _ _ (λ f. shape (Misshaped.edges-ragged f))
 
   pub few-edges : edgeCount (c .edges) ≤ mostEdges
   few-edges = atMost _ _ (λ h. shape (Misshaped.many-edges h))

@@ -9,7 +9,7 @@ use native.Mathlib.Decide.{ℕ-discrete, decLe, decLt}
 use lib.ListN.{length, getD}
 use Rattle.meaning.specs.Number.{only}
 use Rattle.meaning.specs.Chain.{mostStates, mostEdges, M, mostReward, edgeSize, edgeCount, from, to, weight, rowSum}
-use Rattle.meaning.specs.Refusal.{Lent, Entry, workSize, Misshaped, no-states, many-states, denominators-length, edges-threes, many-edges, order-length, rewards-length, GoalFault, OutOfRange, Same, whole, never, lentFault, faults, Refused, WellFormed}
+use Rattle.meaning.specs.Refusal.{Lent, Entry, workSize, Misshaped, no-states, many-states, denominators-length, edges-ragged, many-edges, order-length, rewards-length, GoalFault, OutOfRange, Same, whole, never, lentFault, faults, Refused, WellFormed}
 use Rattle.theory.specs.Search.{turned, either, Clear, Least, at, nowhere, clear-none, ranged, anywhere}
 
 module _ (x : Entry) (states denominators edges order rewards : ℕ) where
@@ -27,7 +27,7 @@ module _ (x : Entry) (states denominators edges order rewards : ℕ) where
   shapes-in (inl h) = no-states h
   shapes-in (inr (inl h)) = many-states h
   shapes-in (inr (inr (inl h))) = denominators-length h
-  shapes-in (inr (inr (inr (inl h)))) = edges-threes h
+  shapes-in (inr (inr (inr (inl h)))) = edges-ragged h
   shapes-in (inr (inr (inr (inr (inl h))))) = many-edges h
   shapes-in (inr (inr (inr (inr (inr (inl h)))))) = order-length h
   shapes-in (inr (inr (inr (inr (inr (inr h)))))) = rewards-length h
@@ -36,7 +36,7 @@ module _ (x : Entry) (states denominators edges order rewards : ℕ) where
   shapes-out (no-states h) = inl h
   shapes-out (many-states h) = inr (inl h)
   shapes-out (denominators-length h) = inr (inr (inl h))
-  shapes-out (edges-threes h) = inr (inr (inr (inl h)))
+  shapes-out (edges-ragged h) = inr (inr (inr (inl h)))
   shapes-out (many-edges h) = inr (inr (inr (inr (inl h))))
   shapes-out (order-length h) = inr (inr (inr (inr (inr (inl h)))))
   shapes-out (rewards-length h) = inr (inr (inr (inr (inr (inr h)))))

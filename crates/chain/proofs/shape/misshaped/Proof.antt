@@ -16,7 +16,7 @@ returns-3 : tie.Need-returns-3
 returns-3 c = Misshaped.denominators-length (c .if3 .taken)
 
 returns-4 : tie.Need-returns-4
-returns-4 c = Misshaped.edges-threes (holds _ (c .before .ragged .ensures) (c .if4 .taken))
+returns-4 c = Misshaped.edges-ragged (holds _ (c .before .ragged .ensures) (c .if4 .taken))
 
 returns-5 : tie.Need-returns-5
 returns-5 c = Misshaped.many-edges (omega (arith, c .before .count .ensures))
