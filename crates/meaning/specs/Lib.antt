@@ -12,4 +12,5 @@ pub mod File
 pub mod Text
 pub mod Report
 pub mod Call
+pub mod Cases
 pub mod Demand

@@ -45,7 +45,6 @@ pub mod DemandThree
 pub mod Small
 pub mod Fletcher
 pub mod Head
-pub mod Cases
 pub mod Listed
 pub mod FileOne
 pub mod Entails

@@ -17,12 +17,12 @@ use Rattle.meaning.specs.Figure.{Chance}
 use Rattle.meaning.specs.Refusal.{Lent, Entry, plain}
 use Rattle.meaning.specs.Block.{Input}
 use Rattle.meaning.specs.File.{FileRefused}
+use Rattle.meaning.specs.Cases.{Case, chance, reward, bounds, value, file, Claim, cases}
 use Rattle.theory.specs.Look.{refused, formed, look}
 use Rattle.theory.specs.Halt.{alike}
 use Rattle.theory.specs.Marks.{marks, enough, marks-right}
 use Rattle.theory.specs.Outcomes.{Told, chance-is, chance-told, reward-told, bounds-told}
 use Rattle.theory.specs.Head.{headed}
-use Rattle.theory.specs.Cases.{Case, chance, reward, bounds, value, file, Claim, cases}
 
 -- Two lists of numbers, where they are found to be one.
 unfoldable matched : (s t : List ℕ) → Option (s ≡ t)
