@@ -1,16 +1,34 @@
+-- What a reader has to believe, in the order of document 01. Definitions alone.
+
+-- Words for whole numbers, sums, bits and lists.
 pub mod Number
+-- "The chain": limits, states, edges, paths; which states are live.
 pub mod Chain
+-- "What the figures mean": the chance and the expected reward.
 pub mod Figure
+-- "A step": the columns of a row, its lowest terms, its rounding.
 pub mod Row
+-- "A step": the first rows, the removal of a state, the table after each position of the order.
 pub mod Step
+-- "Numbers of refusal": what an entry is lent; 1 to 11, each with its place.
 pub mod Refusal
+-- "Numbers of refusal": 12 and 13, which stop an elimination.
 pub mod Stop
+-- "Numbers of refusal": what each entry answers, and its work table then.
 pub mod Outcome
+-- The counts of goals and of live states, which the report prints.
 pub mod Survey
+-- "Chain files": where each field of a block lies, and the check.
 pub mod Block
+-- "Chain files": 20 to 24, and the tables of an accepted file.
 pub mod File
-pub mod Text
-pub mod Report
+-- "Chain files": the call from C.
 pub mod Call
+-- "The report": numbers as text.
+pub mod Text
+-- "The report": the lines, and what a program's text is.
+pub mod Report
+-- "Chains worked by hand": those marked P, in one list with one claim.
 pub mod Cases
+-- The words of demands 2 and 3.
 pub mod Demand
