@@ -16,8 +16,8 @@ module _ {a b : Printing} (e : a ≡ b) where
   number : a .number ≡ b .number
   number = ap (λ (a : Printing). a .number) e
 
-  size : a .length ≡ b .length
-  size = ap (λ (a : Printing). a .length) e
+  size : a .written ≡ b .written
+  size = ap (λ (a : Printing). a .written) e
 
 -- A text is within the buffer, so that its part of the buffer can be lent on.
 pub within : {most n : ℕ} {Text : List ℕ → Type 0} {before after : List ℕ} (r : Printed) → TextOutcome most Text before (told r) after

@@ -19,7 +19,7 @@ use Rattle.theory.specs.Sum.{sum-two}
 use Rattle.theory.specs.Gcd.{reduced-share}
 use Rattle.theory.specs.Formed.{start-in, unpaid}
 use Rattle.theory.specs.Fits.{bounds-fit}
-use Rattle.theory.specs.Whole.{formed-ready, exact-whole, exact-chance, exact-reward, bounds-whole, chance-won, chance-lost, reward-won}
+use Rattle.theory.specs.Whole.{formed-prepared, exact-whole, exact-chance, exact-reward, bounds-whole, chance-won, chance-lost, reward-won}
 use Rattle.theory.specs.Outcomes.{passed-unstopped}
 use Rattle.theory.specs.DemandTwo.{stopped-twelve}
 use Rattle.chain.specs.Reduce.{reduced}
@@ -82,7 +82,7 @@ chance-read l formed {g} {u} {e} {d} (lost h q) =
     let ed : d ≡ 1 = cc in
     rw (eg, ed) (lowest-chance (l .chain) 0 1 _ _ (chance-lost (l .chain) (start-in plain l formed) h) (terms (over 0 1) (omega arith)))
 chance-read l formed {g} {u} {e} {d} (live k right alive z) =
-    let ready = formed-ready plain l formed refl k right in
+    let ready = formed-prepared plain l formed refl k right in
     let whole = exact-whole (l .chain) k (l .order) ready (earns l) alive in
     rw (read-goal z, read-outside z)
     (exact-chance (l .chain) k (l .order) ready (earns l) alive _ _ (terms (over _ _) whole))
@@ -95,7 +95,7 @@ reward-read l formed sure {g} {u} {e} {d} (won h q) =
     rw (ee, ed) (lowest-reward (l .chain) (earns l) 0 1 _ _ (reward-won (l .chain) (earns l) h) (terms (over 0 1) (omega arith)))
 reward-read l formed sure (lost h q) = absurd (sure (l .chain .start, FromStart.begin, h))
 reward-read l formed sure (live k right alive z) =
-    let ready = formed-ready paid l formed refl k right in
+    let ready = formed-prepared paid l formed refl k right in
     let whole = exact-whole (l .chain) k (l .order) ready (earns l) alive in
     rw (read-reward z, read-outside z)
     (exact-reward (l .chain) k (l .order) ready (earns l) alive sure _ _ (terms (over _ _) whole))
@@ -116,7 +116,7 @@ bounds-read l formed {g} {u} {e} {d} (lost h q) =
     let ed : d ≡ 1 = cc in
     rw (eg, eu, ed) (BoundsFigure.lost h refl)
 bounds-read l formed (live k right alive z) =
-    let whole = bounds-whole (l .chain) k (l .order) (formed-ready plain l formed refl k right) (earns l) alive (unpaid plain l formed refl) in
+    let whole = bounds-whole (l .chain) k (l .order) (formed-prepared plain l formed refl k right) (earns l) alive (unpaid plain l formed refl) in
     rw (read-goal z, read-unknown z, read-outside z)
     (BoundsFigure.live k right alive _ _ _ _ (terms (over _ _) whole, terms (over _ _) whole) refl)
 

@@ -77,8 +77,8 @@ wait = lend 3 (2 ^ 2) (1 ∷ 2 ∷ 1 ∷ []) (edge 0 1 1 ++ edge 1 1 1 ++ edge 1
 abbrev pub astray : List ℕ → Lent
 astray rewards = lend 4 (2 ^ 3) (2 ∷ 1 ∷ 1 ∷ 1 ∷ []) (edge 0 1 1 ++ edge 0 3 1 ++ edge 1 2 1 ++ edge 2 1 1 ++ edge 3 3 1) rewards
 
-abbrev pub unpaid : Lent
-unpaid = astray []
+abbrev pub unrewarded : Lent
+unrewarded = astray []
 
 abbrev pub endless : Lent
 endless = astray (0 ∷ 1 ∷ 1 ∷ 0 ∷ [])
@@ -94,8 +94,8 @@ rare =
     (edge 0 1 1 ++ edge 0 3 (M - 1) ++ edge 1 2 1 ++ edge 1 3 2 ++ edge 2 2 1 ++ edge 3 3 1) []
 
 -- 0 to the goal 1, and to the trap 2 with M - 1.
-abbrev pub least : ℕ → Lent
-least denominator = lend 3 (2 ^ 1) (denominator ∷ 1 ∷ 1 ∷ []) (edge 0 1 1 ++ edge 0 2 (M - 1) ++ edge 1 1 1 ++ edge 2 2 1) []
+abbrev pub slim : ℕ → Lent
+slim denominator = lend 3 (2 ^ 1) (denominator ∷ 1 ∷ 1 ∷ []) (edge 0 1 1 ++ edge 0 2 (M - 1) ++ edge 1 1 1 ++ edge 2 2 1) []
 
 -- The loops of the n states from i on.
 abbrev pub loops : ℕ → ℕ → List ℕ
@@ -120,14 +120,14 @@ cases =
     ∷ reward done (fraction 625 547) (cleared done)
     ∷ chance loop (fraction 1 2) (cleared loop)
     ∷ reward wait (fraction 3 1) (cleared wait)
-    ∷ chance unpaid (fraction 1 2) (cleared unpaid)
+    ∷ chance unrewarded (fraction 1 2) (cleared unrewarded)
     ∷ reward endless infinite (cleared endless)
     ∷ chance back (fraction 1 1) (cleared back)
     ∷ chance rare (refusal 12 1) (cleared rare)
     ∷ bounds rare (between 0 1 1 1610612736) (cleared rare)
     ∷ value rare 1 6442450941
-    ∷ chance (least M) (fraction 1 2147483647) (cleared (least M))
-    ∷ chance (least 2147483648) (refusal 5 0) (least 2147483648 .work)
+    ∷ chance (slim M) (fraction 1 2147483647) (cleared (slim M))
+    ∷ chance (slim 2147483648) (refusal 5 0) (slim 2147483648 .work)
     ∷ chance goalless (refusal 4 0) (goalless .work)
     ∷ chance full (fraction 1 1) (cleared full)
     ∷ file zeros 23 0

@@ -76,13 +76,13 @@ faceText face chance = lineText (bytesOf "face " ++ decimal face ++ bytesOf " ")
 pub record Printing : Type 0 where
   pub number : ℕ
   pub place : ℕ
-  pub length : ℕ
+  pub written : ℕ
 
 abbrev pub noPrinting : ℕ → ℕ → Printing
-noPrinting number place = record { number = number; place = place; length = 0 }
+noPrinting number place = record { number = number; place = place; written = 0 }
 
 abbrev pub printing : ℕ → Printing
-printing n = record { number = 0; place = 0; length = n }
+printing n = record { number = 0; place = 0; written = n }
 
 -- A buffer with less than the room for any such text is refused by 2, and stays. Else the text stands at its front, and bytes past the text
 -- stay.

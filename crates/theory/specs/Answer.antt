@@ -12,7 +12,7 @@ use Rattle.meaning.specs.Figure.{Shares, Missed, Earns}
 use Rattle.meaning.specs.Row.{Row, cell, total, reward, exact, rounding}
 use Rattle.meaning.specs.Step.{row, Sets, Right, outside, given, stage, after}
 use Rattle.theory.specs.Sum.{same}
-use Rattle.theory.specs.Relation.{worth, AtMost, AtLeast}
+use Rattle.theory.specs.Relation.{worth, AtMostRow, AtLeastRow}
 use Rattle.theory.specs.Leads.{Sound}
 use Rattle.theory.specs.Removal.{steady-least, steady-most, steady-known}
 use Rattle.theory.specs.Fine.{Fine}
@@ -27,7 +27,7 @@ upper : (D x y d G T U : ℕ) → x + y ≡ d → D ≡ G + T + U → T * d ≤ 
 upper D x y d G T U e f h = omega (arith, ap (λ z. D * z) e, ap (λ z. z * d) f)
 
 -- What the engines are given.
-pub record Ready (c : Chain) (k : Sets) (o : List ℕ) : Type 0 where
+pub record Prepared (c : Chain) (k : Sets) (o : List ℕ) : Type 0 where
   pub fine : Fine c
   pub right : Right c k
   pub orders : (p : ℕ) → p < c .states → getD o p 0 < c .states
@@ -36,7 +36,7 @@ pub record Ready (c : Chain) (k : Sets) (o : List ℕ) : Type 0 where
   pub start : c .start < c .states
 
 -- The bounds engine earns nothing.
-module _ (c : Chain) (k : Sets) (o : List ℕ) (ready : Ready c k o) (b : Bool) (pay : ℕ → ℕ) (free : b ≡ rounding → (i : ℕ) → pay i ≡ 0) where
+module _ (c : Chain) (k : Sets) (o : List ℕ) (ready : Prepared c k o) (b : Bool) (pay : ℕ → ℕ) (free : b ≡ rounding → (i : ℕ) → pay i ≡ 0) where
   abbrev n : ℕ
   n = c .states
 
@@ -87,17 +87,17 @@ module _ (c : Chain) (k : Sets) (o : List ℕ) (ready : Ready c k o) (b : Bool) 
     last-known e = kept-known e n (omega arith) (c .start) kept
 
     last-least : (v : ℕ → ℕ) → (b ≡ rounding → v (n + 2) ≡ 0)
-        → ((i : ℕ) → Alive c k i → AtLeast n (given c k pay 0 i) (v i) v) → AtLeast n last (v (c .start)) v
+        → ((i : ℕ) → Alive c k i → AtLeastRow n (given c k pay 0 i) (v i) v) → AtLeastRow n last (v (c .start)) v
     unfolding Kept after
     last-least v u h =
-        steady-stage b c k pay o (ready .orders) sound (λ i z. AtLeast n z (v i) v) (steady-least b n v u)
+        steady-stage b c k pay o (ready .orders) sound (λ i z. AtLeastRow n z (v i) v) (steady-least b n v u)
         (first-least b c k pay v u h) n (omega arith) (c .start) kept
 
     last-most : (v : ℕ → ℕ) → b ≡ exact
-        → ((i : ℕ) → Alive c k i → AtMost n (given c k pay 0 i) (v i) v) → AtMost n last (v (c .start)) v
+        → ((i : ℕ) → Alive c k i → AtMostRow n (given c k pay 0 i) (v i) v) → AtMostRow n last (v (c .start)) v
     unfolding Kept after
     last-most v u h =
-        steady-stage b c k pay o (ready .orders) sound (λ i z. AtMost n z (v i) v) (steady-most b n v u)
+        steady-stage b c k pay o (ready .orders) sound (λ i z. AtMostRow n z (v i) v) (steady-most b n v u)
         (first-most b c k pay v u h) n (omega arith) (c .start) kept
 
     module _ (d : ℕ) (x : ℕ → ℕ) (share : Shares c d x) where

@@ -10,7 +10,7 @@ use Rattle.meaning.specs.Block.{Input}
 use Rattle.meaning.specs.File.{plainIn}
 use Rattle.meaning.specs.Call.{defaultMode, exactMode, boundsMode, answerBytes, Said, CallOutcome, mode-wrong, answer-short, file-refused, chain-refused, answered}
 use Rattle.theory.specs.Entries.{chance-determined, bounds-determined}
-use Rattle.theory.specs.FileOne.{file-one, not-both}
+use Rattle.theory.specs.FileOne.{file-one, accepted-unrefused}
 
 exact-bytes : Answer → List ℕ
 exact-bytes a = answerBytes (a .numerator) (a .denominator) (a .numerator) (a .denominator)
@@ -50,16 +50,16 @@ call-one (answer-short m l e k) (answered m′ l′ a′ b′ s′ e′ k′) = 
 call-one (file-refused m l n p r e k) (mode-wrong m′ e′ k′) = absurd (omega arith)
 call-one (file-refused m l n p r e k) (answer-short m′ l′ e′ k′) = absurd (omega arith)
 call-one (file-refused m l n p r e k) (file-refused m′ l′ n′ p′ r′ e′ k′) = (e ∙ file-one r r′ .0 ∙ sym e′, k ∙ sym k′)
-call-one (file-refused m l n p r e k) (chain-refused m′ l′ a′ n′ b′ s′ z′ e′ k′) = absurd (not-both a′ r)
-call-one (file-refused m l n p r e k) (answered m′ l′ a′ b′ s′ e′ k′) = absurd (not-both a′ r)
+call-one (file-refused m l n p r e k) (chain-refused m′ l′ a′ n′ b′ s′ z′ e′ k′) = absurd (accepted-unrefused a′ r)
+call-one (file-refused m l n p r e k) (answered m′ l′ a′ b′ s′ e′ k′) = absurd (accepted-unrefused a′ r)
 call-one (chain-refused m l a n b s z e k) (mode-wrong m′ e′ k′) = absurd (omega arith)
 call-one (chain-refused m l a n b s z e k) (answer-short m′ l′ e′ k′) = absurd (omega arith)
-call-one (chain-refused m l a n b s z e k) (file-refused m′ l′ n′ p′ r′ e′ k′) = absurd (not-both a r′)
+call-one (chain-refused m l a n b s z e k) (file-refused m′ l′ n′ p′ r′ e′ k′) = absurd (accepted-unrefused a r′)
 call-one (chain-refused m l a n b s z e k) (chain-refused m′ l′ a′ n′ b′ s′ z′ e′ k′) = (e ∙ said-one s s′ .0 ∙ sym e′, k ∙ sym k′)
 call-one (chain-refused m l a n b s z e k) (answered m′ l′ a′ b′ s′ e′ k′) = absurd (omega (arith, said-one s s′ .0))
 call-one (answered m l a b s e k) (mode-wrong m′ e′ k′) = absurd (omega arith)
 call-one (answered m l a b s e k) (answer-short m′ l′ e′ k′) = absurd (omega arith)
-call-one (answered m l a b s e k) (file-refused m′ l′ n′ p′ r′ e′ k′) = absurd (not-both a r′)
+call-one (answered m l a b s e k) (file-refused m′ l′ n′ p′ r′ e′ k′) = absurd (accepted-unrefused a r′)
 call-one (answered m l a b s e k) (chain-refused m′ l′ a′ n′ b′ s′ z′ e′ k′) = absurd (omega (arith, said-one s s′ .0))
 call-one {before = before} (answered m l a b s e k) (answered m′ l′ a′ b′ s′ e′ k′) =
     (e ∙ sym e′, k ∙ ap (λ b. filled b before) (said-one s s′ .1) ∙ sym k′)

@@ -17,7 +17,7 @@ use Rattle.meaning.specs.Demand.{AtMost, ChanceBetween, BothChance, Unrounded}
 use Rattle.theory.specs.Shares.{shares-exist}
 use Rattle.theory.specs.Formed.{formed-fine, start-in, unpaid}
 use Rattle.theory.specs.Whole.{
-  formed-ready,
+  formed-prepared,
   lower-bound,
   upper-bound,
   lower-chance,
@@ -62,11 +62,11 @@ module _ (l : Lent) (formed : WellFormed plain l) where
     where
       whole : 0 < outside (c .states) (c .start) (lastRow l k)
       whole =
-          bounds-whole c k (l .order) (formed-ready plain l formed refl k right) (earns l) alive (unpaid plain l formed refl)
+          bounds-whole c k (l .order) (formed-prepared plain l formed refl k right) (earns l) alive (unpaid plain l formed refl)
 
       live-holds : ChanceBetween c (between p q s t)
       live-holds =
-          let ready = formed-ready plain l formed refl k right in
+          let ready = formed-prepared plain l formed refl k right in
           let free = unpaid plain l formed refl in
           let (d, x, share) = shares-exist (formed-fine plain l formed) in
           record {
@@ -82,7 +82,7 @@ module _ (l : Lent) (formed : WellFormed plain l) where
 
       live-equal : Unrounded l → Chance c p q × Chance c s t
       live-equal none =
-          let ready = formed-ready plain l formed refl k right in (
+          let ready = formed-prepared plain l formed refl k right in (
             lower-chance c k (l .order) ready (earns l) alive (none k right) p q lowest,
             upper-chance c k (l .order) ready (earns l) alive (none k right) s t highest,
           )

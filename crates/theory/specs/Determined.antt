@@ -44,8 +44,8 @@ module _ {b : Bool} {l : Lent} {k : Sets} where
   stops-one (at-turn p h w d) (in-step q h′ w′ d′ f′) = absurd (crossed q p w′ w d′ f′ d)
   stops-one (at-turn p h w d) (at-turn q h′ w′ d′) = (refl, meet p q (λ z. w′ .turns p z d) (λ z. w .turns q z d′))
 
-not-both : {x : Entry} {l : Lent} {n p : ℕ} → Refused x l n p → WellFormed x l → ⊥
-not-both {n = n} {p} r w = w .none n p (r .applies)
+refused-unformed : {x : Entry} {l : Lent} {n p : ℕ} → Refused x l n p → WellFormed x l → ⊥
+refused-unformed {n = n} {p} r w = w .none n p (r .applies)
 
 -- An entry's outcome is one where what stops it is one, and its figure is.
 module _
@@ -62,12 +62,12 @@ module _
         → (a ≡ a′) × (w ≡ w′)
     outcome-one (refused n p r e s) (refused n′ p′ r′ e′ s′) =
         let o = refused-one r r′ in (e ∙ ap₂ refusal (o .0) (o .1) ∙ sym e′, s ∙ sym s′)
-    outcome-one (refused n p r e s) (stopped n′ p′ f′ t′ e′ s′) = absurd (not-both r f′)
-    outcome-one (refused n p r e s) (answered f′ t′ g′ s′) = absurd (not-both r f′)
-    outcome-one (stopped n p f t e s) (refused n′ p′ r′ e′ s′) = absurd (not-both r′ f)
+    outcome-one (refused n p r e s) (stopped n′ p′ f′ t′ e′ s′) = absurd (refused-unformed r f′)
+    outcome-one (refused n p r e s) (answered f′ t′ g′ s′) = absurd (refused-unformed r f′)
+    outcome-one (stopped n p f t e s) (refused n′ p′ r′ e′ s′) = absurd (refused-unformed r′ f)
     outcome-one (stopped n p f t e s) (stopped n′ p′ f′ t′ e′ s′) =
         let o = stop-one n p n′ p′ t t′ in (e ∙ ap₂ refusal (o .0) (o .1) ∙ sym e′, s ∙ sym s′)
     outcome-one (stopped n p f t e s) (answered f′ t′ g′ s′) = absurd (t′ n p t)
-    outcome-one (answered f t g s) (refused n′ p′ r′ e′ s′) = absurd (not-both r′ f)
+    outcome-one (answered f t g s) (refused n′ p′ r′ e′ s′) = absurd (refused-unformed r′ f)
     outcome-one (answered f t g s) (stopped n′ p′ f′ t′ e′ s′) = absurd (t n′ p′ t′)
     outcome-one {a} {a′} (answered f t g s) (answered f′ t′ g′ s′) = (figure-one f a a′ g g′, s ∙ sym s′)

@@ -13,7 +13,7 @@ use Rattle.meaning.specs.Outcome.{Answer, fraction, ChanceFigure, ChanceOutcome
 use Rattle.theory.specs.Unique.{reduced-one, chance-one, expected-one}
 use Rattle.theory.specs.Sets.{right-one}
 use Rattle.theory.specs.Formed.{formed-fine, start-in, unpaid}
-use Rattle.theory.specs.Whole.{formed-ready, bounds-whole}
+use Rattle.theory.specs.Whole.{formed-prepared, bounds-whole}
 use Rattle.theory.specs.Determined.{stops-one, outcome-one}
 
 -- What stops an engine is one, since the sets are.
@@ -49,7 +49,7 @@ module _ (l : Lent) where
   live-one : WellFormed plain l → (k : Sets) → Right c k → Live c (c .start) → (p q s t p′ q′ s′ t′ : ℕ)
       → Between k p q s t → Between k p′ q′ s′ t′ → between p q s t ≡ between p′ q′ s′ t′
   live-one w k right alive p q s t p′ q′ s′ t′ f f′ =
-      let whole = bounds-whole c k (l .order) (formed-ready plain l w refl k right) (earns l) alive (unpaid plain l w refl) in
+      let whole = bounds-whole c k (l .order) (formed-prepared plain l w refl k right) (earns l) alive (unpaid plain l w refl) in
       let lower = reduced-one whole (f .0) (f′ .0) in
       let upper = reduced-one whole (f .1) (f′ .1) in
       rw (lower .0, lower .1, upper .0, upper .1)

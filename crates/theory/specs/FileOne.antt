@@ -75,11 +75,11 @@ file-one (FileRefused.block-wrong n b l t z m a w) (FileRefused.total-wrong l′
 file-one (FileRefused.block-wrong n b l t z m a w) (FileRefused.block-wrong n′ b′ l′ t′ z′ m′ a′ w′) = first-one a w a′ w′
 
 -- No file is both accepted and refused.
-pub not-both : {f : Input} {n p : ℕ} → Accepted f → FileRefused f n p → ⊥
-not-both a (FileRefused.length-wrong w) = a .whole w
-not-both a (FileRefused.head-wrong n l w) = a .blocks 0 (omega arith) n w
-not-both a (FileRefused.total-wrong l h w) = a .total w
-not-both a (FileRefused.block-wrong n b l t z m e w) = a .blocks b m n w
+pub accepted-unrefused : {f : Input} {n p : ℕ} → Accepted f → FileRefused f n p → ⊥
+accepted-unrefused a (FileRefused.length-wrong w) = a .whole w
+accepted-unrefused a (FileRefused.head-wrong n l w) = a .blocks 0 (omega arith) n w
+accepted-unrefused a (FileRefused.total-wrong l h w) = a .total w
+accepted-unrefused a (FileRefused.block-wrong n b l t z m e w) = a .blocks b m n w
 
 -- One answer, and one set of tables.
 pub read-one : {f : Input} {before : Tables} {a a′ : Reading} {after after′ : Tables} → ReadOutcome f before a after
@@ -90,7 +90,7 @@ read-one (ReadOutcome.short s e t) (ReadOutcome.accepted s′ w′ e′ t′) = 
 read-one (ReadOutcome.refused s n p w e t) (ReadOutcome.short s′ e′ t′) = absurd (s s′)
 read-one (ReadOutcome.refused s n p w e t) (ReadOutcome.refused s′ n′ p′ w′ e′ t′) =
     let o = file-one w w′ in (e ∙ ap₂ noReading (o .0) (o .1) ∙ sym e′, t ∙ sym t′)
-read-one (ReadOutcome.refused s n p w e t) (ReadOutcome.accepted s′ w′ e′ t′) = absurd (not-both w′ w)
+read-one (ReadOutcome.refused s n p w e t) (ReadOutcome.accepted s′ w′ e′ t′) = absurd (accepted-unrefused w′ w)
 read-one (ReadOutcome.accepted s w e t) (ReadOutcome.short s′ e′ t′) = absurd (s s′)
-read-one (ReadOutcome.accepted s w e t) (ReadOutcome.refused s′ n′ p′ w′ e′ t′) = absurd (not-both w w′)
+read-one (ReadOutcome.accepted s w e t) (ReadOutcome.refused s′ n′ p′ w′ e′ t′) = absurd (accepted-unrefused w w′)
 read-one (ReadOutcome.accepted s w e t) (ReadOutcome.accepted s′ w′ e′ t′) = (e ∙ sym e′, t ∙ sym t′)

@@ -15,8 +15,8 @@ use Rattle.meaning.specs.Step.{Table, row, Sets, Right, given, firstRow, noRow,
 use Rattle.theory.specs.Sum.{same}
 use Rattle.theory.specs.Tab.{tab-at}
 use Rattle.theory.specs.Flow.{flow-term}
-use Rattle.theory.specs.Relation.{AtMost, AtLeast}
-use Rattle.theory.specs.Settle.{not-both, settled-length, settled-left, settled-zero, settled-least, settled-most}
+use Rattle.theory.specs.Relation.{AtMostRow, AtLeastRow}
+use Rattle.theory.specs.Settle.{one-engine, settled-length, settled-left, settled-zero, settled-least, settled-most}
 use Rattle.theory.specs.Leads.{Leads, leaves, passes, Sound}
 use Rattle.theory.specs.Fine.{Fine}
 use Rattle.theory.specs.Given.{Fate, live, won, lost, given-state, given-goal, given-unknown, given-reward, given-length, Alive, goes-to}
@@ -44,20 +44,20 @@ module _ (b : Bool) (c : Chain) (k : Sets) (pay : ℕ → ℕ) where
   firsts : (P : Row → Type 0) (i : ℕ) → Alive c k i → P (settled b n (given c k pay 0 i)) → P (row t i)
   firsts P i q p = rw (first-row b c k pay i (q .0), eq-eqb (bit (k .live) i) 1 (q .1)) p
 
-  pub first-least : (v : ℕ → ℕ) → (b ≡ rounding → v (n + 2) ≡ 0) → ((i : ℕ) → Alive c k i → AtLeast n (given c k pay 0 i) (v i) v)
-      → (i : ℕ) → Alive c k i → AtLeast n (row t i) (v i) v
+  pub first-least : (v : ℕ → ℕ) → (b ≡ rounding → v (n + 2) ≡ 0) → ((i : ℕ) → Alive c k i → AtLeastRow n (given c k pay 0 i) (v i) v)
+      → (i : ℕ) → Alive c k i → AtLeastRow n (row t i) (v i) v
   first-least v u h i q =
-      firsts (λ z. AtLeast n z (v i) v) i q (settled-least b n (given c k pay 0 i) (wide i) (v i) v u (h i q))
+      firsts (λ z. AtLeastRow n z (v i) v) i q (settled-least b n (given c k pay 0 i) (wide i) (v i) v u (h i q))
 
-  pub first-most : (v : ℕ → ℕ) → b ≡ exact → ((i : ℕ) → Alive c k i → AtMost n (given c k pay 0 i) (v i) v)
-      → (i : ℕ) → Alive c k i → AtMost n (row t i) (v i) v
+  pub first-most : (v : ℕ → ℕ) → b ≡ exact → ((i : ℕ) → Alive c k i → AtMostRow n (given c k pay 0 i) (v i) v)
+      → (i : ℕ) → Alive c k i → AtMostRow n (row t i) (v i) v
   first-most v u h i q =
-      firsts (λ z. AtMost n z (v i) v) i q (settled-most b n (given c k pay 0 i) (wide i) (v i) v u (h i q))
+      firsts (λ z. AtMostRow n z (v i) v) i q (settled-most b n (given c k pay 0 i) (wide i) (v i) v u (h i q))
 
   pub first-known : b ≡ exact → (i : ℕ) → Alive c k i → cell (row t i) (n + 2) ≡ 0
   first-known e i q =
       firsts (λ z. cell z (n + 2) ≡ 0) i q
-      (settled-zero b n (given c k pay 0 i) (wide i) (n + 2) (λ f. not-both b e f) (given-unknown c k pay 0 i))
+      (settled-zero b n (given c k pay 0 i) (wide i) (n + 2) (λ f. one-engine b e f) (given-unknown c k pay 0 i))
 
   -- The bounds engine earns nothing.
   module _ (fine : Fine c) (ok : Right c k) (free : b ≡ rounding → (i : ℕ) → pay i ≡ 0) where

@@ -6,7 +6,7 @@ use native.Mathlib.Omega.{arith}
 use Rattle.meaning.specs.Number.{sumTo}
 use Rattle.meaning.specs.Row.{Row, cell, total}
 use Rattle.theory.specs.Sum.{same, below, sum-ext, sum-add, sum-scale, sum-next}
-use Rattle.theory.specs.Relation.{worth, AtMost, AtLeast}
+use Rattle.theory.specs.Relation.{worth, AtMostRow, AtLeastRow}
 use Rattle.theory.specs.Given.{Columns}
 
 -- Values and what is left of them to d.
@@ -25,7 +25,7 @@ module _ (n : ℕ) (r : Row) (d : ℕ) (v w : ℕ → ℕ) (f : Flips n d v w) w
       let c : cell r (n + 3) * (v (n + 3) + w (n + 3)) ≡ cell r (n + 3) * 0 = rw (f .unpaid, f .unpaid′) in
       omega (arith, a, b, c, sum-next (λ j. cell r j * (v j + w j)) (n + 3) (n + 4) (omega arith), sum-scale d (cell r) (n + 3))
 
-  pub flip-most : (x y : ℕ) → x + y ≡ d → AtMost n r x v → AtLeast n r y w
+  pub flip-most : (x y : ℕ) → x + y ≡ d → AtMostRow n r x v → AtLeastRow n r y w
   flip-most x y e h = omega (arith, flip-worth, ap (λ k. total n r * k) e)
 
 -- The chance to miss, beside the chance.

@@ -21,7 +21,7 @@ use Rattle.meaning.specs.Cases.{Case, chance, reward, bounds, value, file, Clai
 use Rattle.theory.specs.Look.{refused, formed, look}
 use Rattle.theory.specs.Halt.{alike}
 use Rattle.theory.specs.Marks.{marks, enough, marks-right}
-use Rattle.theory.specs.Outcomes.{Told, chance-is, chance-told, reward-told, bounds-told}
+use Rattle.theory.specs.Outcomes.{Computed, chance-is, chance-computed, reward-computed, bounds-computed}
 use Rattle.theory.specs.Head.{headed}
 
 -- Two lists of numbers, where they are found to be one.
@@ -76,7 +76,7 @@ boundsOf s =
 -- An outcome with the answer and the work table that a case has.
 module _ {A : Type 0} (x : Entry) (l : Lent) (refusal : ℕ → ℕ → A) (Stop : ℕ → ℕ → Type 0) (Figure : A → Type 0) where
   unfoldable agreed : (numbers : A → List ℕ) (back : List ℕ → A) → ((a : A) → back (numbers a) ≡ a)
-      → Told x l refusal Stop Figure → (a : A) (w : List ℕ) → Option (Outcome x l refusal Stop Figure a w)
+      → Computed x l refusal Stop Figure → (a : A) (w : List ℕ) → Option (Outcome x l refusal Stop Figure a w)
   unfolding matched
   agreed numbers back same t a w =
       elim (matched (numbers (t .answer)) (numbers a)) [
@@ -95,16 +95,16 @@ module _ (l : Lent) (right : Right (l .chain) (marked (l .chain))) where
   k = marked (l .chain)
 
   unfoldable shows-chance : (a : Answer) (w : List ℕ) → Option (ChanceOutcome l a w)
-  unfolding agreed chance-told
-  shows-chance a w = agreed _ _ _ _ _ answerNumbers answerOf (λ a. refl) (chance-told l k (λ _. right)) a w
+  unfolding agreed chance-computed
+  shows-chance a w = agreed _ _ _ _ _ answerNumbers answerOf (λ a. refl) (chance-computed l k (λ _. right)) a w
 
   unfoldable shows-reward : (a : Answer) (w : List ℕ) → Option (RewardOutcome l a w)
-  unfolding agreed reward-told
-  shows-reward a w = agreed _ _ _ _ _ answerNumbers answerOf (λ a. refl) (reward-told l k (λ _. right)) a w
+  unfolding agreed reward-computed
+  shows-reward a w = agreed _ _ _ _ _ answerNumbers answerOf (λ a. refl) (reward-computed l k (λ _. right)) a w
 
   unfoldable shows-bounds : (a : Bounds) (w : List ℕ) → Option (BoundsOutcome l a w)
-  unfolding agreed bounds-told
-  shows-bounds a w = agreed _ _ _ _ _ boundsNumbers boundsOf (λ a. refl) (bounds-told l k (λ _. right)) a w
+  unfolding agreed bounds-computed
+  shows-bounds a w = agreed _ _ _ _ _ boundsNumbers boundsOf (λ a. refl) (bounds-computed l k (λ _. right)) a w
 
   unfoldable shows-value : (p q : ℕ) → Option (Chance (l .chain) p q)
   unfolding look chance-is matched
@@ -151,13 +151,13 @@ unfoldable found-in : {P : Type 0} → Option P → Bool
 found-in none = false
 found-in (some p) = true
 
-unfoldable pub test : Case → Bool
+unfoldable pub shown : Case → Bool
 unfolding found-in shows
-test x = found-in (shows x)
+shown x = found-in (shows x)
 
-pub test-claim : (x : Case) → test x ≡ true → Claim x
-unfolding found-in test
-test-claim x e = taken (shows x) e
+pub shown-claim : (x : Case) → shown x ≡ true → Claim x
+unfolding found-in shown
+shown-claim x e = taken (shows x) e
   where
     taken : {P : Type 0} (o : Option P) → found-in o ≡ true → P
     taken none e = absurd (let z : _≡_ {A = ℕ} 0 1 = cc in omega arith)
@@ -166,10 +166,10 @@ test-claim x e = taken (shows x) e
 -- Every case of a list passes the test.
 unfoldable pub every : List Case → Bool
 every [] = true
-every (x ∷ s) = let rest = every s in choose (test x) rest false
+every (x ∷ s) = let rest = every s in choose (shown x) rest false
 
 pub cases-pass : every cases ≡ true
-unfolding every test sumTo tabFrom gcdIn gcd carried flow gcdOf divisor over shiftFrom shiftOf roundedBy bounded settled given noRow first combined renewed removed after marks
+unfolding every shown sumTo tabFrom gcdIn gcd carried flow gcdOf divisor over shiftFrom shiftOf roundedBy bounded settled given noRow first combined renewed removed after marks
 cases-pass = refl
 
 both : (a b : Bool) → choose a b false ≡ true → (a ≡ true) × (b ≡ true)
@@ -180,9 +180,9 @@ every-claim : (s : List Case) → every s ≡ true → (x : Case) → List·Mem�
 unfolding every
 every-claim [] e x m = absurd (List·Memᴰ·not-nil m)
 every-claim (y ∷ s) e x m =
-    let t = both (test y) (every s) e in
+    let t = both (shown y) (every s) e in
     ⊎-elim
-    (λ (h : x ≡ y). rw h (test-claim y (t .0)))
+    (λ (h : x ≡ y). rw h (shown-claim y (t .0)))
     (λ (h : List·Memᴰ x s). every-claim s (t .1) x h)
     (List·Memᴰ·cases-cons m)
 

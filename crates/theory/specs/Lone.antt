@@ -5,7 +5,7 @@ use native.Mathlib.Omega.{arith}
 use Rattle.meaning.specs.Row.{Row, cell, total}
 use Rattle.meaning.specs.Step.{outside}
 use Rattle.theory.specs.Sum.{sum-next, sum-alone}
-use Rattle.theory.specs.Relation.{worth, AtMost, AtLeast}
+use Rattle.theory.specs.Relation.{worth, AtMostRow, AtLeastRow}
 use Rattle.theory.specs.Given.{Columns}
 
 -- A row whose weight goes to its own state s, and to no other state.
@@ -40,10 +40,10 @@ module _ (n s : ℕ) (r : Row) (here : s < n) (alone : (j : ℕ) → j < n → (
     lone-sum : worth n r v ≡ cell r s * x s + cell r n * g + cell r (n + 1) * t + cell r (n + 2) * u + cell r (n + 3) * w
     lone-sum = lone-worth v ∙ rw (are .state s here, are .goal, are .trap, are .unknown, are .paid)
 
-    pub lone-least : AtLeast n r (v s) v
+    pub lone-least : AtLeastRow n r (v s) v
         → cell r n * g + cell r (n + 1) * t + cell r (n + 2) * u + cell r (n + 3) * w ≤ outside n s r * x s
     lone-least h = rw lone-outside (omega (arith, lone-sum, ap (λ z. z * x s) lone-total, rw (are .state s here) at h))
 
-    pub lone-most : AtMost n r (v s) v
+    pub lone-most : AtMostRow n r (v s) v
         → outside n s r * x s ≤ cell r n * g + cell r (n + 1) * t + cell r (n + 2) * u + cell r (n + 3) * w
     lone-most h = rw lone-outside (omega (arith, lone-sum, ap (λ z. z * x s) lone-total, rw (are .state s here) at h))

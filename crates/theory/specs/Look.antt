@@ -10,7 +10,7 @@ use lib.ListN.{length, getD}
 use Rattle.meaning.specs.Number.{only}
 use Rattle.meaning.specs.Chain.{mostStates, mostEdges, M, mostReward, edgeSize, edgeCount, from, to, weight, rowSum}
 use Rattle.meaning.specs.Refusal.{Lent, Entry, workSize, Misshaped, no-states, many-states, denominators-length, edges-ragged, many-edges, order-length, rewards-length, GoalFault, OutOfRange, Same, whole, never, lentFault, faults, Refused, WellFormed}
-use Rattle.theory.specs.Search.{turned, either, Clear, Least, at, nowhere, clear-none, ranged, anywhere}
+use Rattle.theory.specs.Search.{turned, either, NoneBefore, LeastPlace, at, nowhere, clear-none, ranged, anywhere}
 
 module _ (x : Entry) (states denominators edges order rewards : ℕ) where
   abbrev pub Shapes : Type 0
@@ -62,18 +62,18 @@ unfolding Dec·and ℕ-discrete
 sames edges d e = Dec·and (ℕ-discrete (from edges d) (from edges e)) (ℕ-discrete (to edges d) (to edges e))
 
 -- A fault of the whole, and one of a table that the entry may not be lent.
-unfoldable pub wholly : (F : Type 0) → Dec F → Least (whole F)
+unfoldable pub wholly : (F : Type 0) → Dec F → LeastPlace (whole F)
 wholly F (yes f) = at 0 (refl, f) (clear-none (whole F))
 wholly F (no h) = nowhere (λ q z. h (z .1))
 
-unfoldable pub lently : (b : Bool) (F : ℕ → Type 0) → Least F → Least (lentFault b F)
+unfoldable pub lently : (b : Bool) (F : ℕ → Type 0) → LeastPlace F → LeastPlace (lentFault b F)
 lently true F s = s
 lently false F s = nowhere (λ q z. z)
 
 -- What was found of each fault of a list.
 pub data Each : List (ℕ → Type 0) → Type 1 where
   none : Each []
-  more : {F : ℕ → Type 0} {fs : List (ℕ → Type 0)} → Least F → Each fs → Each (F ∷ fs)
+  more : {F : ℕ → Type 0} {fs : List (ℕ → Type 0)} → LeastPlace F → Each fs → Each (F ∷ fs)
 
 unfoldable pub sought : (x : Entry) (l : Lent) → Each (faults x l)
 unfolding wholly lently misshaped out-of-range sames ranged anywhere either decLt decLe ℕ-discrete Dec·not
@@ -100,7 +100,7 @@ sought x l =
 -- The least number of a list of faults that applies, with its least place; or that none does.
 pub data First (fs : List (ℕ → Type 0)) : Type 1 where
   first : (number place : ℕ) → getD fs number never place → ((k p : ℕ) → k < number → getD fs k never p → ⊥)
-      → Clear (getD fs number never) place → First fs
+      → NoneBefore (getD fs number never) place → First fs
   clean : ((k p : ℕ) → getD fs k never p → ⊥) → First fs
 
 module _ (F : ℕ → Type 0) (fs : List (ℕ → Type 0)) (h : (p : ℕ) → F p → ⊥) where

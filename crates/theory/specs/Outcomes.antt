@@ -17,10 +17,10 @@ use Rattle.theory.specs.Look.{Looked, look}
 use Rattle.theory.specs.Halt.{stops, runs, halt, runs-unstopped}
 use Rattle.theory.specs.Begin.{won, lost, live, begins, missing}
 use Rattle.theory.specs.Formed.{start-in, goals-in, from-in, unpaid}
-use Rattle.theory.specs.Whole.{formed-ready, exact-whole, exact-chance, exact-reward, bounds-whole, chance-won, chance-lost, reward-won}
+use Rattle.theory.specs.Whole.{formed-prepared, exact-whole, exact-chance, exact-reward, bounds-whole, chance-won, chance-lost, reward-won}
 
 -- What an entry says, and its outcome.
-pub record Told {A : Type 0} (x : Entry) (l : Lent) (refusal : ℕ → ℕ → A) (Stop : ℕ → ℕ → Type 0) (Figure : A → Type 0) : Type 0 where
+pub record Computed {A : Type 0} (x : Entry) (l : Lent) (refusal : ℕ → ℕ → A) (Stop : ℕ → ℕ → Type 0) (Figure : A → Type 0) : Type 0 where
   pub answer : A
   pub work : List ℕ
   pub outcome : Outcome x l refusal Stop Figure answer work
@@ -30,10 +30,10 @@ pub data Result {A : Type 0} (Stop : ℕ → ℕ → Type 0) (Figure : A → Typ
   stop : (number place : ℕ) → Stop number place → Result Stop Figure
   figure : ((number place : ℕ) → Stop number place → ⊥) → (a : A) → Figure a → Result Stop Figure
 
-unfoldable pub told : {A : Type 0} (x : Entry) (l : Lent) (refusal : ℕ → ℕ → A) (Stop : ℕ → ℕ → Type 0) (Figure : A → Type 0)
-    → (WellFormed x l → Result Stop Figure) → Told x l refusal Stop Figure
+unfoldable pub computed : {A : Type 0} (x : Entry) (l : Lent) (refusal : ℕ → ℕ → A) (Stop : ℕ → ℕ → Type 0) (Figure : A → Type 0)
+    → (WellFormed x l → Result Stop Figure) → Computed x l refusal Stop Figure
 unfolding look
-told x l refusal Stop Figure result =
+computed x l refusal Stop Figure result =
     elim (look x l) [
       | Looked.refused number place r ↦ record { answer = refusal number place; work = l .work; outcome = refused number place r refl refl }
       | Looked.formed f ↦ elim (result f) [
@@ -88,7 +88,7 @@ module _ (l : Lent) (k : Sets) (right : Right (l .chain) k) where
         | won g ↦ (1, (1, chance-won c (start-in plain l f) g))
         | lost h ↦ (0, (1, chance-lost c (start-in plain l f) h))
         | live a ↦ let g = cell exactRow (goalColumn (c .states)) in
-            let ready = formed-ready plain l f refl k right in
+            let ready = formed-prepared plain l f refl k right in
             let h : Reduced g (D exactRow) _ _ = fraction-reduced g (D exactRow) (exact-whole c k (l .order) ready (earns l) a) in
             (top g (D exactRow), (bottom g (D exactRow), exact-chance c k (l .order) ready (earns l) a _ _ h))
       ]
@@ -101,7 +101,7 @@ module _ (l : Lent) (k : Sets) (right : Right (l .chain) k) where
         | won g ↦ (0, (1, reward-won c (earns l) g))
         | lost h ↦ absurd (m (c .start, begin, h))
         | live a ↦ let r = reward (c .states) exactRow in
-            let ready = formed-ready paid l f refl k right in
+            let ready = formed-prepared paid l f refl k right in
             let h : Reduced r (D exactRow) _ _ = fraction-reduced r (D exactRow) (exact-whole c k (l .order) ready (earns l) a) in
             (top r (D exactRow), (bottom r (D exactRow), exact-reward c k (l .order) ready (earns l) a m _ _ h))
       ]
@@ -116,7 +116,7 @@ module _ (l : Lent) (k : Sets) (right : Right (l .chain) k) where
         | live a ↦ let z = lastRow l k in
             let g = cell z (goalColumn (c .states)) in
             let u = g + cell z (unknownColumn (c .states)) in
-            let whole : 0 < D z = bounds-whole c k (l .order) (formed-ready plain l f refl k right) (earns l) a (unpaid plain l f refl) in (
+            let whole : 0 < D z = bounds-whole c k (l .order) (formed-prepared plain l f refl k right) (earns l) a (unpaid plain l f refl) in (
               between (top g (D z)) (bottom g (D z)) (top u (D z)) (bottom u (D z)),
               BoundsFigure.live k right a _ _ _ _ (fraction-reduced g (D z) whole, fraction-reduced u (D z) whole) refl,
             )
@@ -124,20 +124,20 @@ module _ (l : Lent) (k : Sets) (right : Right (l .chain) k) where
 
 -- The three entries; the sets need be right only where the input is well formed.
 module _ (l : Lent) (k : Sets) where
-  unfoldable pub chance-told : (WellFormed plain l → Right (l .chain) k) → Told plain l refusal (Stopped exact l) (ChanceFigure l)
-  unfolding told course chance-is
-  chance-told right =
-      told plain l refusal (Stopped exact l) (ChanceFigure l) (λ f.
+  unfoldable pub chance-computed : (WellFormed plain l → Right (l .chain) k) → Computed plain l refusal (Stopped exact l) (ChanceFigure l)
+  unfolding computed course chance-is
+  chance-computed right =
+      computed plain l refusal (Stopped exact l) (ChanceFigure l) (λ f.
       elim (course l k (right f) exact) [
         | halts number place s ↦ stop number place s
         | goes-on u ↦ let v = chance-is l k (right f) f in
             figure u (fraction (v .0) (v .1 .0)) (chance (v .0) (v .1 .0) (v .1 .1) refl)
       ])
 
-  unfoldable pub reward-told : (WellFormed paid l → Right (l .chain) k) → Told paid l refusal (RewardStop l) (RewardFigure l)
-  unfolding told course reward-is missing
-  reward-told right =
-      told paid l refusal (RewardStop l) (RewardFigure l) (λ f.
+  unfoldable pub reward-computed : (WellFormed paid l → Right (l .chain) k) → Computed paid l refusal (RewardStop l) (RewardFigure l)
+  unfolding computed course reward-is missing
+  reward-computed right =
+      computed paid l refusal (RewardStop l) (RewardFigure l) (λ f.
       elim (missing (l .chain) k (right f)) [
         | yes m ↦ figure (λ number place s. s .0 m) infinite (missed m refl)
         | no m ↦ elim (course l k (right f) exact) [
@@ -147,10 +147,10 @@ module _ (l : Lent) (k : Sets) where
         ]
       ])
 
-  unfoldable pub bounds-told : (WellFormed plain l → Right (l .chain) k) → Told plain l noBounds (Stopped rounding l) (BoundsFigure l)
-  unfolding told course bounds-are
-  bounds-told right =
-      told plain l noBounds (Stopped rounding l) (BoundsFigure l) (λ f.
+  unfoldable pub bounds-computed : (WellFormed plain l → Right (l .chain) k) → Computed plain l noBounds (Stopped rounding l) (BoundsFigure l)
+  unfolding computed course bounds-are
+  bounds-computed right =
+      computed plain l noBounds (Stopped rounding l) (BoundsFigure l) (λ f.
       elim (course l k (right f) rounding) [
         | halts number place s ↦ stop number place s
         | goes-on u ↦ let v = bounds-are l k (right f) f in figure u (v .0) (v .1)
@@ -164,11 +164,11 @@ set-in x l t =
       | Looked.formed f ↦ let s = right-exists (l .chain) (goals-in x l f) (from-in x l f) in t (s .0) (λ _. s .1)
     ]
 
-pub chance-outcome : (l : Lent) → Told plain l refusal (Stopped exact l) (ChanceFigure l)
-chance-outcome l = set-in plain l (chance-told l)
+pub chance-outcome : (l : Lent) → Computed plain l refusal (Stopped exact l) (ChanceFigure l)
+chance-outcome l = set-in plain l (chance-computed l)
 
-pub reward-outcome : (l : Lent) → Told paid l refusal (RewardStop l) (RewardFigure l)
-reward-outcome l = set-in paid l (reward-told l)
+pub reward-outcome : (l : Lent) → Computed paid l refusal (RewardStop l) (RewardFigure l)
+reward-outcome l = set-in paid l (reward-computed l)
 
-pub bounds-outcome : (l : Lent) → Told plain l noBounds (Stopped rounding l) (BoundsFigure l)
-bounds-outcome l = set-in plain l (bounds-told l)
+pub bounds-outcome : (l : Lent) → Computed plain l noBounds (Stopped rounding l) (BoundsFigure l)
+bounds-outcome l = set-in plain l (bounds-computed l)

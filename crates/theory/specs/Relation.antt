@@ -19,11 +19,11 @@ abbrev pub worth : ℕ → Row → (ℕ → ℕ) → ℕ
 worth n r v = sumTo (λ j. cell r j * v j) (n + 4)
 
 -- The value x is at most, and at least, what the row says.
-abbrev pub AtMost : ℕ → Row → ℕ → (ℕ → ℕ) → Type 0
-AtMost n r x v = total n r * x ≤ worth n r v
+abbrev pub AtMostRow : ℕ → Row → ℕ → (ℕ → ℕ) → Type 0
+AtMostRow n r x v = total n r * x ≤ worth n r v
 
-abbrev pub AtLeast : ℕ → Row → ℕ → (ℕ → ℕ) → Type 0
-AtLeast n r x v = worth n r v ≤ total n r * x
+abbrev pub AtLeastRow : ℕ → Row → ℕ → (ℕ → ℕ) → Type 0
+AtLeastRow n r x v = worth n r v ≤ total n r * x
 
 -- The total is what the row comes to where each of its weights is worth 1.
 pub ones : (n : ℕ) (r : Row) → sumTo (λ j. cell r j * 1) (n + 3) ≡ total n r
@@ -35,12 +35,12 @@ module _ (n : ℕ) (r : Row) where
       sum-ext _ (λ j. divisor r * (cell (lowest r) j * v j)) (n + 4) (λ j h. rw (lowest-cell r j) (omega arith))
       ∙ sum-scale (divisor r) (λ j. cell (lowest r) j * v j) (n + 4)
 
-  pub lowest-most : (x : ℕ) (v : ℕ → ℕ) → AtMost n r x v → AtMost n (lowest r) x v
+  pub lowest-most : (x : ℕ) (v : ℕ → ℕ) → AtMostRow n r x v → AtMostRow n (lowest r) x v
   lowest-most x v h =
       le-of-mul-le-mul-left
       {k = divisor r} (omega (arith, lowest-worth v, ap (λ k. k * x) (lowest-total r n))) (divisor-whole r)
 
-  pub lowest-least : (x : ℕ) (v : ℕ → ℕ) → AtLeast n r x v → AtLeast n (lowest r) x v
+  pub lowest-least : (x : ℕ) (v : ℕ → ℕ) → AtLeastRow n r x v → AtLeastRow n (lowest r) x v
   lowest-least x v h =
       le-of-mul-le-mul-left
       {k = divisor r} (omega (arith, lowest-worth v, ap (λ k. k * x) (lowest-total r n))) (divisor-whole r)
@@ -115,13 +115,13 @@ module _ (n s : ℕ) (p r : Row) (inside : s < n) (wide : length r ≡ n + 4) wh
       combine-total (total n step) (total n r) (total n p) (outside n s p) (cell r s) (cell p s) total-split
       (rw (ones n step, ones n r, ones n p) at (combined-sum s (outside n s p) p r (λ _. 1) (n + 3) (omega arith) (omega arith)))
 
-  pub combined-most : (x : ℕ) (v : ℕ → ℕ) → AtMost n r x v → AtMost n p (v s) v → AtMost n step x v
+  pub combined-most : (x : ℕ) (v : ℕ → ℕ) → AtMostRow n r x v → AtMostRow n p (v s) v → AtMostRow n step x v
   combined-most x v h k =
       rw combined-total
       (combine-most _ _ _ _ _ (cell p s) (v s) x (total n r) (total n p) total-split
       (combined-sum s (outside n s p) p r v (n + 4) (omega arith) (omega arith)) h k)
 
-  pub combined-least : (x : ℕ) (v : ℕ → ℕ) → AtLeast n r x v → AtLeast n p (v s) v → AtLeast n step x v
+  pub combined-least : (x : ℕ) (v : ℕ → ℕ) → AtLeastRow n r x v → AtLeastRow n p (v s) v → AtLeastRow n step x v
   combined-least x v h k =
       rw combined-total
       (combine-least _ _ _ _ _ (cell p s) (v s) x (total n r) (total n p) total-split

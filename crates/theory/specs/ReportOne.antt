@@ -13,7 +13,7 @@ use Rattle.meaning.specs.Report.{refusedText, linesText, Report, Printing, prin
 use Rattle.theory.specs.Determined.{refused-one}
 use Rattle.theory.specs.Counted.{count-one}
 use Rattle.theory.specs.Entries.{chance-determined, reward-determined, bounds-determined}
-use Rattle.theory.specs.FileOne.{file-one, not-both}
+use Rattle.theory.specs.FileOne.{file-one, accepted-unrefused}
 
 line : {n p n′ p′ : ℕ} {t t′ : List ℕ} → (n ≡ n′) × (p ≡ p′) → t ≡ refusedText n p ++ bytesOf "\n" → t′ ≡ refusedText n′ p′ ++ bytesOf "\n" → t ≡ t′
 line o e e′ = e ∙ ap₂ (λ n p. refusedText n p ++ bytesOf "\n") (o .0) (o .1) ∙ sym e′
@@ -23,12 +23,12 @@ formed-or {n = n} {p} w r = w .none n p (r .applies)
 
 pub report-one : {f : Input} {t t′ : List ℕ} → Report f t → Report f t′ → t ≡ t′
 report-one (Report.file-refused n p r e) (Report.file-refused n′ p′ r′ e′) = line (file-one r r′) e e′
-report-one (Report.file-refused n p r e) (Report.chain-refused n′ p′ a′ r′ e′) = absurd (not-both a′ r)
-report-one (Report.file-refused n p r e) (Report.reported a′ w′ g′ v′ cg′ cv′ c′ r′ b′ x′ y′ z′ oc′ or′ ob′ e′) = absurd (not-both a′ r)
-report-one (Report.chain-refused n p a r e) (Report.file-refused n′ p′ r′ e′) = absurd (not-both a r′)
+report-one (Report.file-refused n p r e) (Report.chain-refused n′ p′ a′ r′ e′) = absurd (accepted-unrefused a′ r)
+report-one (Report.file-refused n p r e) (Report.reported a′ w′ g′ v′ cg′ cv′ c′ r′ b′ x′ y′ z′ oc′ or′ ob′ e′) = absurd (accepted-unrefused a′ r)
+report-one (Report.chain-refused n p a r e) (Report.file-refused n′ p′ r′ e′) = absurd (accepted-unrefused a r′)
 report-one (Report.chain-refused n p a r e) (Report.chain-refused n′ p′ a′ r′ e′) = line (refused-one r r′) e e′
 report-one (Report.chain-refused n p a r e) (Report.reported a′ w′ g′ v′ cg′ cv′ c′ r′ b′ x′ y′ z′ oc′ or′ ob′ e′) = absurd (formed-or w′ r)
-report-one (Report.reported a w g v cg cv c q b x y z oc or ob e) (Report.file-refused n′ p′ r′ e′) = absurd (not-both a r′)
+report-one (Report.reported a w g v cg cv c q b x y z oc or ob e) (Report.file-refused n′ p′ r′ e′) = absurd (accepted-unrefused a r′)
 report-one (Report.reported a w g v cg cv c q b x y z oc or ob e) (Report.chain-refused n′ p′ a′ r′ e′) = absurd (formed-or w r′)
 report-one {f} (Report.reported a w g v cg cv c q b x y z oc or ob e) (Report.reported a′ w′ g′ v′ cg′ cv′ c′ q′ b′ x′ y′ z′ oc′ or′ ob′ e′) =
     let goals = count-one cg cg′ in

@@ -10,7 +10,7 @@ use Rattle.meaning.specs.Number.{sumTo}
 use Rattle.meaning.specs.Row.{Row, cell, total, reward, gcdOf, upTo, over, roundedBy}
 use Rattle.theory.specs.Sum.{same, below, sum-ext, sum-le, sum-scale, sum-next, sum-tight}
 use Rattle.theory.specs.Terms.{gcd-most, over-cell, over-length}
-use Rattle.theory.specs.Relation.{worth, AtLeast}
+use Rattle.theory.specs.Relation.{worth, AtLeastRow}
 use Rattle.theory.specs.Shift.{pow-whole, pow-two, up-above}
 
 -- A row divided by 2 ^ k.
@@ -68,7 +68,7 @@ module _ (k n : ℕ) (r : Row) (wide : length r ≡ n + 4) where
       (λ (d : j ≡ n + 2 → ⊥). rw (rounded-cell j d) (omega (arith, mul-le-mul-right (v j) (floor-under j))))
       (same j (n + 2))
 
-  pub rounded-least : (x : ℕ) (v : ℕ → ℕ) → v (n + 2) ≡ 0 → AtLeast n r x v → AtLeast n made x v
+  pub rounded-least : (x : ℕ) (v : ℕ → ℕ) → v (n + 2) ≡ 0 → AtLeastRow n r x v → AtLeastRow n made x v
   rounded-least x v u h =
       let a : sumTo (λ j. K * (cell made j * v j)) (n + 4) ≤ worth n r v = sum-le _ _ (n + 4) (λ j l. smaller v u j) in
       le-of-mul-le-mul-left

@@ -16,22 +16,22 @@ either (no h) (yes b) = yes (inr b)
 either (no h) (no k) = no (⊎-elim h k)
 
 -- F holds at no place before p.
-abbrev pub Clear : (ℕ → Type 0) → ℕ → Type 0
-Clear F p = (q : ℕ) → q < p → F q → ⊥
+abbrev pub NoneBefore : (ℕ → Type 0) → ℕ → Type 0
+NoneBefore F p = (q : ℕ) → q < p → F q → ⊥
 
 -- The least place at which F holds, or that it holds nowhere.
-pub data Least (F : ℕ → Type 0) : Type 0 where
-  at : (p : ℕ) → F p → Clear F p → Least F
-  nowhere : ((q : ℕ) → F q → ⊥) → Least F
+pub data LeastPlace (F : ℕ → Type 0) : Type 0 where
+  at : (p : ℕ) → F p → NoneBefore F p → LeastPlace F
+  nowhere : ((q : ℕ) → F q → ⊥) → LeastPlace F
 
-pub clear-none : (F : ℕ → Type 0) → Clear F 0
+pub clear-none : (F : ℕ → Type 0) → NoneBefore F 0
 clear-none F q l f = omega arith
 
-pub clear-more : (F : ℕ → Type 0) (i : ℕ) → Clear F i → (F i → ⊥) → Clear F (suc i)
+pub clear-more : (F : ℕ → Type 0) (i : ℕ) → NoneBefore F i → (F i → ⊥) → NoneBefore F (suc i)
 clear-more F i c h q l f = last-or-below l (λ (e : q ≡ i). h (rw e at f)) (λ (m : q < i). c q m f)
 
 module _ (F : ℕ → Type 0) (n : ℕ) (decide : (i : ℕ) → Dec (F i)) (inside : (i : ℕ) → F i → i < n) where
-  unfoldable pub search-from : (k i : ℕ) → n ≤ i + k → Clear F i → Least F
+  unfoldable pub search-from : (k i : ℕ) → n ≤ i + k → NoneBefore F i → LeastPlace F
   search-from zero i l c = nowhere (λ q f. c q (omega (arith, inside q f)) f)
   search-from (suc k) i l c =
       elim (decide i) [
@@ -39,17 +39,17 @@ module _ (F : ℕ → Type 0) (n : ℕ) (decide : (i : ℕ) → Dec (F i)) (insi
         | no h ↦ search-from k (suc i) (omega arith) (clear-more F i c h)
       ]
 
-  unfoldable pub search-least : Least F
+  unfoldable pub search-least : LeastPlace F
   unfolding search-from
   search-least = search-from n 0 (omega arith) (clear-none F)
 
 -- Something of each place below n.
-unfoldable pub ranged : (P : ℕ → Type 0) (n : ℕ) → ((i : ℕ) → Dec (P i)) → Least (λ i. (i < n) × P i)
+unfoldable pub ranged : (P : ℕ → Type 0) (n : ℕ) → ((i : ℕ) → Dec (P i)) → LeastPlace (λ i. (i < n) × P i)
 unfolding search-least Dec·and decLt
 ranged P n decide = search-least (λ i. (i < n) × P i) n (λ i. Dec·and (decLt i n) (decide i)) (λ i f. f .0)
 
 -- Whether a place was found.
-unfoldable pub found : {F : ℕ → Type 0} → Least F → Dec ((p : ℕ) × F p)
+unfoldable pub found : {F : ℕ → Type 0} → LeastPlace F → Dec ((p : ℕ) × F p)
 found (at p f c) = yes (p, f)
 found (nowhere h) = no (λ w. h (w .0) (w .1))
 

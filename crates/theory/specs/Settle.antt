@@ -12,7 +12,7 @@ use Rattle.meaning.specs.Number.{choose}
 use Rattle.meaning.specs.Chain.{M}
 use Rattle.meaning.specs.Row.{Row, cell, total, reward, shiftOf, lowest, rounded, bounded, settled, exact, rounding}
 use Rattle.theory.specs.Terms.{lowest-positive, lowest-zero, lowest-one, lowest-length, over-cell}
-use Rattle.theory.specs.Relation.{AtMost, AtLeast, lowest-most, lowest-least}
+use Rattle.theory.specs.Relation.{AtMostRow, AtLeastRow, lowest-most, lowest-least}
 use Rattle.theory.specs.Shift.{shift-fits, shift-some}
 use Rattle.theory.specs.Round.{rounded-length, rounded-cell, rounded-total, rounded-least, rounded-left}
 
@@ -28,8 +28,8 @@ settle P true n r p q = go (ltb M (total n (lowest r))) refl
     go false e = p (inr (ltb-false M (total n (lowest r)) e))
 
 -- The exact engine does not round.
-pub not-both : {A : Type 0} (b : Bool) → b ≡ exact → b ≡ rounding → A
-not-both b e f = absurd (let z : _≡_ {A = ℕ} 0 1 = cc in omega arith)
+pub one-engine : {A : Type 0} (b : Bool) → b ≡ exact → b ≡ rounding → A
+one-engine b e f = absurd (let z : _≡_ {A = ℕ} 0 1 = cc in omega arith)
 
 -- Where the lowest terms fit, both engines keep them.
 pub settled-same : (b : Bool) (n : ℕ) (r : Row) → (b ≡ rounding → M < total n (lowest r) → ⊥) → settled b n r ≡ lowest r
@@ -49,18 +49,18 @@ module _ (b : Bool) (n : ℕ) (r : Row) (wide : length r ≡ n + 4) where
   pub settled-fits : b ≡ rounding → total n (settled b n r) ≤ M
   settled-fits e =
       settle (λ q. total n q ≤ M) b n r
-      (⊎-elim (λ f. not-both b f e) (λ h. h))
+      (⊎-elim (λ f. one-engine b f e) (λ h. h))
       (λ _ h. rw (rounded-total shift n (lowest r) low-wide) (shift-fits (total n (lowest r))))
 
-  pub settled-least : (x : ℕ) (v : ℕ → ℕ) → (b ≡ rounding → v (n + 2) ≡ 0) → AtLeast n r x v → AtLeast n (settled b n r) x v
+  pub settled-least : (x : ℕ) (v : ℕ → ℕ) → (b ≡ rounding → v (n + 2) ≡ 0) → AtLeastRow n r x v → AtLeastRow n (settled b n r) x v
   settled-least x v u h =
-      let l : AtLeast n (lowest r) x v = lowest-least n r x v h in
-      settle (λ q. AtLeast n q x v) b n r (λ _. l) (λ e _. rounded-least shift n (lowest r) low-wide x v (u e) l)
+      let l : AtLeastRow n (lowest r) x v = lowest-least n r x v h in
+      settle (λ q. AtLeastRow n q x v) b n r (λ _. l) (λ e _. rounded-least shift n (lowest r) low-wide x v (u e) l)
 
-  pub settled-most : (x : ℕ) (v : ℕ → ℕ) → b ≡ exact → AtMost n r x v → AtMost n (settled b n r) x v
+  pub settled-most : (x : ℕ) (v : ℕ → ℕ) → b ≡ exact → AtMostRow n r x v → AtMostRow n (settled b n r) x v
   settled-most x v f h =
-      let l : AtMost n (lowest r) x v = lowest-most n r x v h in
-      settle (λ q. AtMost n q x v) b n r (λ _. l) (λ e _. not-both b f e)
+      let l : AtMostRow n (lowest r) x v = lowest-most n r x v h in
+      settle (λ q. AtMostRow n q x v) b n r (λ _. l) (λ e _. one-engine b f e)
 
   pub settled-zero : (j : ℕ) → (b ≡ rounding → j ≡ n + 2 → ⊥) → cell r j ≡ 0 → cell (settled b n r) j ≡ 0
   settled-zero j d z =

@@ -33,7 +33,7 @@ use Rattle.theory.specs.Unique.{reduced-one, chance-one, expected-one}
 use Rattle.theory.specs.Sets.{right-exists}
 use Rattle.theory.specs.Formed.{formed-fine, start-in, goals-in, from-in, unpaid}
 use Rattle.theory.specs.Fits.{bounds-fit}
-use Rattle.theory.specs.Whole.{formed-ready, exact-whole, exact-chance, exact-reward, bounds-whole, chance-won, chance-lost, reward-won}
+use Rattle.theory.specs.Whole.{formed-prepared, exact-whole, exact-chance, exact-reward, bounds-whole, chance-won, chance-lost, reward-won}
 use Rattle.theory.specs.Halt.{Halted, stops, runs, halt}
 use Rattle.theory.specs.Begin.{Begins, won, lost, live, begins}
 
@@ -91,7 +91,7 @@ module _ (x : Entry) (l : Lent) (formed : WellFormed x l) (none : (number place 
     module _ (ordered : x .order ≡ true) where
       live-chance : (p q : ℕ) → Chance c p q → Small p q
       live-chance p q h =
-          let ready = formed-ready x l formed ordered k right in
+          let ready = formed-prepared x l formed ordered k right in
           let whole = exact-whole c k (l .order) ready (earns l) alive in
           let r = fraction-reduced (cell last (goalColumn n)) (outside n (c .start) last) whole in
           small (chance-one (formed-fine x l formed) (exact-chance c k (l .order) ready (earns l) alive _ _ r) h)
@@ -99,7 +99,7 @@ module _ (x : Entry) (l : Lent) (formed : WellFormed x l) (none : (number place 
 
       live-reward : (Missed c → ⊥) → (p q : ℕ) → Expected c (earns l) p q → Small p q
       live-reward sure p q h =
-          let ready = formed-ready x l formed ordered k right in
+          let ready = formed-prepared x l formed ordered k right in
           let whole = exact-whole c k (l .order) ready (earns l) alive in
           let r = fraction-reduced (reward n last) (outside n (c .start) last) whole in
           small
@@ -161,7 +161,7 @@ bounds-figure l formed a (BoundsFigure.live k right v p q s t f e) =
     let c = l .chain in
     let m = c .states in
     let z = lastRow l k in
-    let whole = bounds-whole c k (l .order) (formed-ready plain l formed refl k right) (earns l) v (unpaid plain l formed refl) in
+    let whole = bounds-whole c k (l .order) (formed-prepared plain l formed refl k right) (earns l) v (unpaid plain l formed refl) in
     let all : total m z ≤ M = bounds-fit c k (earns l) (l .order) m (c .start) (start-in plain l formed) in
     let two : cell z m + cell z (m + 2) ≤ total m z = sum-two (cell z) (m + 3) m (m + 2) (omega arith) (omega arith) (omega arith) in
     rw e

@@ -11,7 +11,7 @@ use Rattle.theory.specs.Sum.{sum-ext, sum-zero}
 use Rattle.theory.specs.Flow.{flow-split, flow-term}
 use Rattle.theory.specs.Fine.{Fine}
 use Rattle.theory.specs.Path.{test, test-yes, test-no}
-use Rattle.theory.specs.System.{System, Solves, Leads, leaves, passes, solution, unique}
+use Rattle.theory.specs.System.{System, Solves, LeadsOut, leaves, passes, solution, unique}
 
 -- x i over d: where i does not flow g i, elsewhere denominator times x is g i, times d, plus the sum of weight times x of the target.
 pub record Fills (c : Chain) (Flows : ℕ → Type 0) (g : ℕ → ℕ) (d : ℕ) (x : ℕ → ℕ) : Type 0 where
@@ -60,14 +60,14 @@ module _ (c : Chain) (fine : Fine c) (Flows : ℕ → Type 0) (dec : (i : ℕ) �
 
   module _ (unwon : (i : ℕ) → Flows i → Goal c i → ⊥) (goal : (i : ℕ) → Flows i → ToGoal c i) where
     -- Only a state that flows does not lead out of the system at once.
-    leads-by : {i : ℕ} → (Flows i → Leads system (c .states) i) → Leads system (c .states) i
+    leads-by : {i : ℕ} → (Flows i → LeadsOut system (c .states) i) → LeadsOut system (c .states) i
     leads-by {i} on = go (dec i)
       where
-        go : Dec (Flows i) → Leads system (c .states) i
+        go : Dec (Flows i) → LeadsOut system (c .states) i
         go (yes f) = on f
         go (no n) = leaves {i = i} (rw (test-no (dec i) n) (omega arith))
 
-    leads : {i : ℕ} → ToGoal c i → Leads system (c .states) i
+    leads : {i : ℕ} → ToGoal c i → LeadsOut system (c .states) i
     leads (PathTo.here i g) = leads-by (λ f. absurd (unwon i f g))
     leads (PathTo.step e l p) =
         let t : ℕ = to (c .edges) e in
@@ -77,7 +77,7 @@ module _ (c : Chain) (fine : Fine c) (Flows : ℕ → Type 0) (dec : (i : ℕ) �
         (rw (test-yes (dec (from (c .edges) e)) f) (omega (arith, fine .weights e l, rw (eq-eqb t t refl) at m)))
         (leads p))
 
-    all-lead : (i : ℕ) → i < c .states → Leads system (c .states) i
+    all-lead : (i : ℕ) → i < c .states → LeadsOut system (c .states) i
     all-lead i h = leads-by (λ f. leads (goal i f))
 
     pub fills-exist : (d : ℕ) × (x : ℕ → ℕ) × Fills c Flows g d x

@@ -22,9 +22,9 @@ pub record Solves (s : System) (n d : ℕ) (x : ℕ → ℕ) : Type 0 where
   pub holds : (i : ℕ) → i < n → total s n i * x i ≡ sumTo (λ j. s .a i j * x j) n + s .g i * d
 
 -- i leads out of the system, perhaps by way of others.
-pub data Leads (s : System) (n : ℕ) : ℕ → Type 0 where
-  leaves : {i : ℕ} → 0 < s .out i → Leads s n i
-  passes : {i : ℕ} (j : ℕ) → j < n → 0 < s .a i j → Leads s n j → Leads s n i
+pub data LeadsOut (s : System) (n : ℕ) : ℕ → Type 0 where
+  leaves : {i : ℕ} → 0 < s .out i → LeadsOut s n i
+  passes : {i : ℕ} (j : ℕ) → j < n → 0 < s .a i j → LeadsOut s n j → LeadsOut s n i
 
 -- The system without its last state n.
 abbrev pub without : System → ℕ → System
@@ -37,14 +37,14 @@ without s n =
 
 module _ (s : System) (n : ℕ) where
   -- A state that leads out has weight outside its own loop.
-  loop-less : {i : ℕ} → Leads s (suc n) i → i ≡ n → 0 < total s n n
+  loop-less : {i : ℕ} → LeadsOut s (suc n) i → i ≡ n → 0 < total s n n
   loop-less (leaves p) e = omega (arith, rw e at p)
   loop-less (passes j h p l) e =
       last-or-below h (loop-less l) (λ (b : j < n). omega (arith, rw e at p, sum-term (s .a n) n j b))
 
   -- What leads out still does without n; and if n does, so does all that has weight towards n.
-  leads-on : 0 < total s n n → {i : ℕ} → Leads s (suc n) i
-      → Leads (without s n) n i × ((k : ℕ) → i ≡ n → 0 < s .a k n → Leads (without s n) n k)
+  leads-on : 0 < total s n n → {i : ℕ} → LeadsOut s (suc n) i
+      → LeadsOut (without s n) n i × ((k : ℕ) → i ≡ n → 0 < s .a k n → LeadsOut (without s n) n k)
   leads-on D {i} (leaves p) =
       (leaves {i = i} (omega (arith, mul-pos p D)), λ k e q. leaves {i = k} (omega (arith, mul-pos q (rw e at p))))
   leads-on D {i} (passes j h p l) =
@@ -131,7 +131,7 @@ module _ (s : System) (n d : ℕ) (x : ℕ → ℕ) where
       }
 
 -- Where every state leads out, there is a solution.
-pub solution : (n : ℕ) (s : System) → ((i : ℕ) → i < n → Leads s n i) → (d : ℕ) × (x : ℕ → ℕ) × Solves s n d x
+pub solution : (n : ℕ) (s : System) → ((i : ℕ) → i < n → LeadsOut s n i) → (d : ℕ) × (x : ℕ → ℕ) × Solves s n d x
 solution zero s l = (1, λ _. 0, record { whole = omega arith; holds = λ i h. omega arith })
 solution (suc n) s l =
     let D : 0 < total s n n = loop-less s n (l n (omega arith)) refl in
@@ -146,7 +146,7 @@ sum-cross u x x' d d' (suc n) h =
     omega (arith, ap (λ (z : ℕ). u n * z) (h n (omega arith)), sum-cross u x x' d d' n (λ j k. h j (omega arith)))
 
 -- And any two are equal, as fractions.
-pub unique : (n : ℕ) (s : System) → ((i : ℕ) → i < n → Leads s n i) → (d d' : ℕ) (x x' : ℕ → ℕ)
+pub unique : (n : ℕ) (s : System) → ((i : ℕ) → i < n → LeadsOut s n i) → (d d' : ℕ) (x x' : ℕ → ℕ)
     → Solves s n d x → Solves s n d' x' → (i : ℕ) → i < n → x i * d' ≡ x' i * d
 unique zero s l d d' x x' S S' i h = omega arith
 unique (suc n) s l d d' x x' S S' i h =

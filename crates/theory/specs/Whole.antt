@@ -13,13 +13,13 @@ use Rattle.meaning.specs.Step.{row, Sets, Right, outside, stage, RoundedAt}
 use Rattle.meaning.specs.Refusal.{Lent, Entry, WellFormed}
 use Rattle.meaning.specs.Stop.{earns, NoWay}
 use Rattle.theory.specs.Gcd.{reduced-share}
-use Rattle.theory.specs.Settle.{not-both}
-use Rattle.theory.specs.Answer.{Ready, turn-loose, last-loose, last-known, chance-least, chance-most, chance-exact, reward-exact}
+use Rattle.theory.specs.Settle.{one-engine}
+use Rattle.theory.specs.Answer.{Prepared, turn-loose, last-loose, last-known, chance-least, chance-most, chance-exact, reward-exact}
 use Rattle.theory.specs.Unrounded.{unrounded}
 use Rattle.theory.specs.Formed.{formed-fine, start-in, order-in, order-new, order-every}
 
-pub formed-ready : (x : Entry) (l : Lent) → WellFormed x l → x .order ≡ true → (k : Sets) → Right (l .chain) k → Ready (l .chain) k (l .order)
-formed-ready x l formed lent k right =
+pub formed-prepared : (x : Entry) (l : Lent) → WellFormed x l → x .order ≡ true → (k : Sets) → Right (l .chain) k → Prepared (l .chain) k (l .order)
+formed-prepared x l formed lent k right =
     record {
       fine = formed-fine x l formed;
       right = right;
@@ -29,7 +29,7 @@ formed-ready x l formed lent k right =
       start = start-in x l formed;
     }
 
-module _ (c : Chain) (k : Sets) (o : List ℕ) (ready : Ready c k o) (pay : ℕ → ℕ) where
+module _ (c : Chain) (k : Sets) (o : List ℕ) (ready : Prepared c k o) (pay : ℕ → ℕ) where
   abbrev n : ℕ
   n = c .states
 
@@ -41,7 +41,7 @@ module _ (c : Chain) (k : Sets) (o : List ℕ) (ready : Ready c k o) (pay : ℕ 
   D b = outside n (c .start) (last b)
 
   free : exact ≡ rounding → (i : ℕ) → pay i ≡ 0
-  free e = not-both exact refl e
+  free e = one-engine exact refl e
 
   module _ (alive : Live c (c .start)) where
     -- The exact engine: D is above 0, so that the figures have lowest terms; Unknown is 0.
@@ -92,7 +92,7 @@ module _ (c : Chain) (k : Sets) (o : List ℕ) (ready : Ready c k o) (pay : ℕ 
 pub no-stuck : (b : Bool) (x : Entry) (l : Lent) → WellFormed x l → x .order ≡ true → (k : Sets) → Right (l .chain) k
     → (b ≡ rounding → (i : ℕ) → earns l i ≡ 0) → (p : ℕ) → p < l .chain .states → NoWay b l k p → ⊥
 no-stuck b x l formed lent k right free p h w =
-    omega (arith, turn-loose (l .chain) k (l .order) (formed-ready x l formed lent k right) b (earns l) free p h (w .0), w .1)
+    omega (arith, turn-loose (l .chain) k (l .order) (formed-prepared x l formed lent k right) b (earns l) free p h (w .0), w .1)
 
 -- Where the start is a goal, or has no path to one.
 one-lowest : (p : ℕ) → Lowest p 1
