@@ -32,11 +32,11 @@ up-least x K y h l =
     omega arith
 
 -- The shift is the least that fits.
-abbrev Fits : ℕ → ℕ → ℕ → Type 0
-Fits x k m = (upTo x m ≤ M) × ((j : ℕ) → k ≤ j → j < m → M < upTo x j)
+abbrev FirstFit : ℕ → ℕ → ℕ → Type 0
+FirstFit x k m = (upTo x m ≤ M) × ((j : ℕ) → k ≤ j → j < m → M < upTo x j)
 
-shift-step : (f k x : ℕ) (b : Bool) → leb (upTo x k) M ≡ b → (upTo x (suc k + f) ≤ M → Fits x (suc k) (shiftFrom f (suc k) x))
-    → upTo x (k + suc f) ≤ M → Fits x k (choose b k (shiftFrom f (suc k) x))
+shift-step : (f k x : ℕ) (b : Bool) → leb (upTo x k) M ≡ b → (upTo x (suc k + f) ≤ M → FirstFit x (suc k) (shiftFrom f (suc k) x))
+    → upTo x (k + suc f) ≤ M → FirstFit x k (choose b k (shiftFrom f (suc k) x))
 shift-step f k x true e ih h = (leb-true (upTo x k) M e, λ j a b. absurd (omega arith))
 shift-step f k x false e ih h =
     let m = ih (subst (λ z. upTo x z ≤ M) (omega arith) h) in (
@@ -48,7 +48,7 @@ shift-step f k x false e ih h =
           (same j k),
     )
 
-shift-from : (f k x : ℕ) → upTo x (k + f) ≤ M → Fits x k (shiftFrom f k x)
+shift-from : (f k x : ℕ) → upTo x (k + f) ≤ M → FirstFit x k (shiftFrom f k x)
 unfolding shiftFrom
 shift-from zero k x h = (rw add-zero at h, λ j a b. absurd (omega arith))
 shift-from (suc f) k x h = shift-step f k x (leb (upTo x k) M) refl (shift-from f (suc k) x) h
