@@ -11,6 +11,7 @@ use lib.Seq.{ext-getD, getD-set-same, getD-set-other}
 use borrow.Author.Tests.{eq-eqb, ne-eqb, eqb-true, eqb-false}
 use Rattle.meaning.specs.Number.{sumTo, only, choose, bit}
 use Rattle.meaning.specs.Chain.{mostReward, mostStates, Chain, denominator, edgeCount, from, to, carried, flow, along}
+use Rattle.meaning.specs.Figure.{earned}
 use Rattle.meaning.specs.Row.{cell, total, rounding}
 use Rattle.meaning.specs.Step.{row, Sets, Right, given, firstRow, noRow, first, after}
 use Rattle.meaning.specs.Refusal.{Lent, Entry, WellFormed}
@@ -23,7 +24,7 @@ use Rattle.theory.specs.First.{first-row}
 use Rattle.theory.specs.Formed.{few-states, room, formed-fine, from-in, denominators-length, denominator-small, reward-small, reward-none}
 use Rattle.engines.specs.Table.{rowAt, Renewed}
 use Rattle.engines.specs.Turn.{Unfit}
-use Rattle.engines.specs.First.{columnOf, share, Held, Gatherable, finished, earnedAt, finishedAt, Finishable, Asked, Made}
+use Rattle.engines.specs.First.{columnOf, share, Held, Gatherable, finished, finishedAt, Finishable, Asked, Made}
 use Rattle.engines.proofs.Rows.{noRow-fit}
 use Rattle.engines.proofs.Tables.{kept-more, length-row}
 use Rattle.engines.proofs.Cells.{zero-row, share-dead, share-live}
@@ -84,7 +85,7 @@ module _ (c : Chain) (k : Sets) where
 
   module _ (b : Bool) (rewards work : List ℕ) (a : Asked b c k rewards work) where
     abbrev pay : ℕ → ℕ
-    pay = earnedAt (c .denominators) rewards
+    pay = earned c (λ i. getD rewards i 0)
 
     pub asked-gatherable : Gatherable n (c .edges) work
     asked-gatherable =

@@ -5,13 +5,14 @@ ghost use lib.Dec.{eqb};
 ghost use lib.ListN.{length, getD, set};
 ghost use Rattle.meaning.specs.Number.{sumTo, bit};
 ghost use Rattle.meaning.specs.Chain.{mostStates, M, edgeCount};
+ghost use Rattle.meaning.specs.Figure.{earned};
 ghost use Rattle.meaning.specs.Row.{cell, width};
 ghost use Rattle.meaning.specs.Refusal.{workSize};
 ghost use Rattle.meaning.specs.Step.{first};
 ghost use Rattle.engines.specs.Row.{Tested};
 ghost use Rattle.engines.specs.Table.{rowAt, Put, Renewed};
 ghost use Rattle.engines.specs.Sets.{chainOf, setsOf};
-ghost use Rattle.engines.specs.First.{columnOf, share, Added, Held, Addable, Gatherable, finished, Gathered, earnedAt, finishedAt, Finishable, Asked, Made};
+ghost use Rattle.engines.specs.First.{columnOf, share, Added, Held, Addable, Gatherable, finished, Gathered, finishedAt, Finishable, Asked, Made};
 use crate::row::REWARD;
 use crate::row::TRAP;
 use crate::row::settle;
@@ -138,7 +139,10 @@ pub(crate) fn first_rows(
     rounding: bool,
 ) -> bool
     requires { ⌜ Asked rounding (chainOf c (now denominators) (now edges)) (setsOf sets) (now rewards) (now work) ⌝ }
-    ensures { λ r. ⌜ Made rounding (c .states) (first rounding (chainOf c (now (denominators .entry)) (now (edges .entry))) (setsOf sets) (earnedAt (now (denominators .entry)) (now (rewards .entry))) (λ _. 0)) (now (work .entry)) (now (work .exit)) r ⌝ }
+    ensures { λ r.
+        let entire = chainOf c (now (denominators .entry)) (now (edges .entry)) in
+        let pay = earned entire (λ i. getD (now (rewards .entry)) i 0) in
+        ⌜ Made rounding (c .states) (first rounding entire (setsOf sets) pay (λ _. 0)) (now (work .entry)) (now (work .exit)) r ⌝ }
 {
     let n = c.states;
     gather(work, n, sets, edges);
