@@ -1,5 +1,5 @@
 -- What rounding, settling and combining do to the total and the Reward of a row.
-use mathlib.Core.Path.{_≡_, refl, sym, ap, _∙_}
+use mathlib.Core.Path.{_≡_, refl, sym, ap, subst, _∙_}
 use mathlib.Core.Logic.{dite, inl, inr}
 use mathlib.Core.Bool.{Bool, true, false}
 use Prim.Native.Nat.{ℕ, _+_, _-_, _*_, _^_, _≤_, _<_}
@@ -32,7 +32,7 @@ use Rattle.meaning.specs.Step.{noRow, combined, renewed}
 use Rattle.theory.specs.Sum.{sum-ext, sum-le, sum-zero, sum-next, sum-up, sum-mix, sum-term}
 use Rattle.theory.specs.Tab.{tab-at, tab-length}
 use Rattle.theory.specs.Shift.{pow-whole, shift-fits}
-use Rattle.engines.specs.Row.{Small, Sized, Fit, Tested}
+use Rattle.engines.specs.Row.{Small, Sized, Fit, Tested, Became}
 use Rattle.engines.proofs.Loop.{zeros, getD-zeros}
 use Rattle.engines.proofs.Lowest.{over-at, over-sum, over-parts}
 
@@ -181,6 +181,10 @@ apart e = let z : _≡_ {A = ℕ} 0 1 = cc in omega arith
 
 pub tested-fit : {b : Bool} {n : ℕ} {r : Row} → Fit b n r → Tested b n r true
 tested-fit f = record { fit = λ _. f; large = λ e. absurd (apart (sym e)) }
+
+-- A row that is known, and whether it fits.
+pub became : {b : Bool} {n : ℕ} {r v : Row} {answer : Bool} → v ≡ r → Tested b n v answer → Became b n r v answer
+became {b} {n} {answer = answer} e t = record { same = e; tested = subst (λ z. Tested b n z answer) e t }
 
 pub tested-total : {n : ℕ} {r : Row} → M < total n r → Tested false n r false
 tested-total h = record { fit = λ e. absurd (apart e); large = λ _. (refl, inl h) }

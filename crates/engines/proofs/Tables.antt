@@ -1,6 +1,7 @@
 -- Rows of a table that lies in one list, and what a row that is lent and comes back leaves.
 use mathlib.Core.Path.{_≡_, refl, sym, ap, _∙_}
 use mathlib.Core.Logic.{dite}
+use mathlib.Core.Bool.{Bool}
 use mathlib.Core.List.{List, _++_}
 use Prim.Native.Nat.{ℕ, _+_, _-_, _*_, _≤_, _<_}
 use native.Mathlib.Nat.{mul-le-mul-right}
@@ -10,7 +11,8 @@ use lib.ListN.{length, getD, take, drop, length-drop, List·getD-append}
 use lib.Seq.{length-take-le, take-at, drop-at, ext-getD, getD-take, getD-drop, drop-drop}
 use borrow.Rule.Slice.PartMut.{putMid, drop-put, same-len-mid}
 use Rattle.meaning.specs.Row.{Row}
-use Rattle.engines.specs.Table.{rowAt, Kept, Put}
+use Rattle.engines.specs.Row.{Became}
+use Rattle.engines.specs.Table.{rowAt, Kept, Put, Placed}
 
 pub kept-same : (n : ℕ) (w : List ℕ) → Kept n w w
 kept-same n w = record { len = refl; past = refl }
@@ -118,7 +120,13 @@ put-with n w room i b r l =
       other = row-other n w room i b r l;
     }
 
--- A row that was lent as `lent` says, changed, and is back.
-pub put-back : (n : ℕ) (w : List ℕ) (room : n * (n + 4) ≤ length w) (i : ℕ) (b : i < n) (a : ℕ) → a ≡ i * (n + 4) → (q r : Row)
-    → length q ≡ n + 4 → q ≡ r → Put n w i r (putMid a (a + n + 4 - a) w q)
-put-back n w room i b a p q r l e = rw (back n i a p w q, ← e) (put-with n w room i b q l)
+-- A row that was lent as `lent` says, has become r, and is back.
+pub placed : (n : ℕ) (w : List ℕ) (room : n * (n + 4) ≤ length w) (i : ℕ) (h : i < n) (a : ℕ) (p : a ≡ i * (n + 4)) {b : Bool} {q r : Row} {answer : Bool}
+    → length q ≡ length (take (a + n + 4 - a) (drop a w)) → Became b n r q answer → Placed b n w i r (putMid a (a + n + 4 - a) w q) answer
+placed n w room i h a p {q = q} l z =
+    record {
+      put =
+          rw (back n i a p w q, ← z .same)
+          (put-with n w room i h q (l ∙ ap length (lent n i a p w) ∙ length-row n w room i h));
+      tested = z .tested;
+    }

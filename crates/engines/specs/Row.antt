@@ -26,3 +26,8 @@ pub record Fit (b : Bool) (n : ℕ) (r : Row) : Type 0 where
 pub record Tested (b : Bool) (n : ℕ) (r : Row) (answer : Bool) : Type 0 where
   pub fit : answer ≡ true → Fit b n r
   pub large : answer ≡ false → (b ≡ exact) × Large n r
+
+-- A row has become r, which is v, and the answer says whether it fits.
+pub record Became (b : Bool) (n : ℕ) (r v : Row) (answer : Bool) : Type 0 where
+  pub same : v ≡ r
+  pub tested : Tested b n r answer

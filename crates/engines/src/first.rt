@@ -8,8 +8,8 @@ ghost use Rattle.meaning.specs.Chain.{mostStates, M, edgeCount};
 ghost use Rattle.meaning.specs.Row.{cell, width};
 ghost use Rattle.meaning.specs.Refusal.{workSize};
 ghost use Rattle.meaning.specs.Step.{first};
-ghost use Rattle.engines.specs.Row.{Tested};
-ghost use Rattle.engines.specs.Table.{rowAt, Put, Renewed};
+ghost use Rattle.engines.specs.Row.{Became};
+ghost use Rattle.engines.specs.Table.{rowAt, Put, Placed, Renewed};
 ghost use Rattle.engines.specs.Sets.{chainOf, setsOf};
 ghost use Rattle.engines.specs.First.{columnOf, share, Added, Held, Addable, Gatherable, finished, Gathered, finishedAt, Finishable, Asked, Made};
 use crate::row::REWARD;
@@ -85,7 +85,7 @@ fn reward_of(rewards: &[u64], i: usize) -> u64
 // Puts what a live state earns into its row, and settles that. Answers whether it fits.
 fn finish(row: &mut [u64], n: usize, alive: bool, earns: u64, rounding: bool) -> bool
     requires { ⌜ (length (now row) ≡ width n) × (n ≤ mostStates) × Gathered rounding n alive earns (now row) ⌝ }
-    ensures { λ r. ⌜ (now (row .exit) ≡ finished rounding n alive earns (now (row .entry))) × Tested rounding n (now (row .exit)) r ⌝ }
+    ensures { λ r. ⌜ Became rounding n (finished rounding n alive earns (now (row .entry))) (now (row .exit)) r ⌝ }
 {
     if alive {
         row[n + REWARD] = earns;
@@ -97,7 +97,9 @@ fn finish(row: &mut [u64], n: usize, alive: bool, earns: u64, rounding: bool) ->
 // Finishes row i of the table. The rest of the work table is as it was.
 fn finish_row(work: &mut [u64], i: usize, n: usize, live: u64, earns: u64, rounding: bool) -> bool
     requires { ⌜ (workSize n ≤ length (now work)) × (n ≤ mostStates) × (i < n) × Gathered rounding n (eqb (bit live i) 1) earns (rowAt n (now work) i) ⌝ }
-    ensures { λ r. ⌜ Put n (now (work .entry)) i (finished rounding n (eqb (bit live i) 1) earns (rowAt n (now (work .entry)) i)) (now (work .exit)) × Tested rounding n (finished rounding n (eqb (bit live i) 1) earns (rowAt n (now (work .entry)) i)) r ⌝ }
+    ensures { λ r.
+        let w = now (work .entry) in
+        ⌜ Placed rounding n w i (finished rounding n (eqb (bit live i) 1) earns (rowAt n w i)) (now (work .exit)) r ⌝ }
 {
     let a = row_start(n, i);
     let e = a + n + Chain::BESIDE;

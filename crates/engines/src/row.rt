@@ -6,7 +6,7 @@ ghost use lib.ListN.{length};
 ghost use Rattle.meaning.specs.Chain.{M};
 ghost use Rattle.meaning.specs.Number.{sumTo};
 ghost use Rattle.meaning.specs.Row.{cell, total, reward, gcdOf, over, lowest, upTo, shiftOf, rounded, bounded, settled};
-ghost use Rattle.engines.specs.Row.{Sized, Tested};
+ghost use Rattle.engines.specs.Row.{Sized, Tested, Became};
 use chain::Chain;
 use chain::fraction::gcd;
 
@@ -139,7 +139,7 @@ fn fits(row: &[u64], n: usize) -> bool
 // Brings a new row to what is kept of it, and says whether it fits. A rounded row always does.
 pub(crate) fn settle(row: &mut [u64], n: usize, rounding: bool) -> bool
     requires { ⌜ Sized n (now row) × (rounding ≡ true → reward n (now row) ≡ 0) ⌝ }
-    ensures { λ r. ⌜ (now (row .exit) ≡ settled rounding n (now (row .entry))) × Tested rounding n (now (row .exit)) r ⌝ }
+    ensures { λ r. ⌜ Became rounding n (settled rounding n (now (row .entry))) (now (row .exit)) r ⌝ }
 {
     reduce(row);
     if rounding {

@@ -8,8 +8,8 @@ ghost use Rattle.meaning.specs.Number.{choose};
 ghost use Rattle.meaning.specs.Row.{width, settled};
 ghost use Rattle.meaning.specs.Refusal.{workSize};
 ghost use Rattle.meaning.specs.Step.{row, combined, renewed, outside, removed};
-ghost use Rattle.engines.specs.Row.{Small, Fit, Tested};
-ghost use Rattle.engines.specs.Table.{rowAt, tableOf, Put, Renewed, Ready};
+ghost use Rattle.engines.specs.Row.{Small, Fit, Became};
+ghost use Rattle.engines.specs.Table.{rowAt, tableOf, Placed, Renewed, Ready};
 ghost use Rattle.engines.specs.Turn.{Turned};
 use crate::row::REWARD;
 use crate::row::settle;
@@ -56,7 +56,7 @@ fn change(
     rounding: bool,
 ) -> bool
     requires { ⌜ (length (now row) ≡ width n) × (n ≤ mostStates) × (s < n) × (d ≤ M) × Fit rounding n (now row) × Fit rounding n (now pivot) ⌝ }
-    ensures { λ r. ⌜ (now (row .exit) ≡ settled rounding n (combined s d (now (pivot .entry)) (now (row .entry)))) × Tested rounding n (now (row .exit)) r ⌝ }
+    ensures { λ r. ⌜ Became rounding n (settled rounding n (combined s d (now (pivot .entry)) (now (row .entry)))) (now (row .exit)) r ⌝ }
 {
     combine(row, pivot, s, d);
     settle(row, n, rounding)
@@ -73,7 +73,7 @@ fn renew(
     rounding: bool,
 ) -> bool
     requires { ⌜ (length (now row) ≡ width n) × (n ≤ mostStates) × (s < n) × (d ≤ M) × Fit rounding n (now row) × Fit rounding n (now pivot) ⌝ }
-    ensures { λ r. ⌜ (now (row .exit) ≡ renewed rounding n s d (now (pivot .entry)) own (now (row .entry))) × Tested rounding n (now (row .exit)) r ⌝ }
+    ensures { λ r. ⌜ Became rounding n (renewed rounding n s d (now (pivot .entry)) own (now (row .entry))) (now (row .exit)) r ⌝ }
 {
     if own {
         clear(row);
@@ -96,7 +96,9 @@ fn renew_row(
     rounding: bool,
 ) -> bool
     requires { ⌜ (workSize n ≤ length (now work)) × (n ≤ mostStates) × (i < n) × (s < n) × (d ≤ M) × Fit rounding n (rowAt n (now work) i) × Fit rounding n (now pivot) ⌝ }
-    ensures { λ r. ⌜ Put n (now (work .entry)) i (renewed rounding n s d (now (pivot .entry)) (eqb i s) (rowAt n (now (work .entry)) i)) (now (work .exit)) × Tested rounding n (renewed rounding n s d (now (pivot .entry)) (eqb i s) (rowAt n (now (work .entry)) i)) r ⌝ }
+    ensures { λ r.
+        let w = now (work .entry) in
+        ⌜ Placed rounding n w i (renewed rounding n s d (now (pivot .entry)) (eqb i s) (rowAt n w i)) (now (work .exit)) r ⌝ }
 {
     let a = row_start(n, i);
     let e = a + n + Chain::BESIDE;

@@ -1,7 +1,5 @@
-use mathlib.Core.Path.{_∙_, ap}
 use native.Mathlib.Omega.{arith}
 use borrow.Author.Needs.{needs}
-use Rattle.meaning.specs.Row.{settled}
 use Rattle.engines.proofs.Rows.{fit-small, combined-sized, combined-unpaid}
 use Rattle.engines.proofs.step.change.Statement.{statement}
 use Rattle.engines.proofs.step.change.Tie as tie
@@ -24,9 +22,7 @@ settle-requires c κs =
 
 returns : tie.Need-returns
 returns c =
-    let p = c .before .before .settle .ensures in
-    let a = c .before .before .before .before .before .before .before .before .before .args in
-    (p .0 ∙ ap (settled (a .rounding) (a .n)) (c .before .before .before .before .before .before .combine .ensures), p .1)
+    rw (c .before .before .before .before .before .before .combine .ensures) at (c .before .before .settle .ensures)
 
 pub change-spec : {M : Type 1} → statement M
 change-spec = tie.close (tie.spec combine-requires settle-requires (λ c. search needs) returns)
