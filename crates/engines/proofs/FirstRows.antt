@@ -10,12 +10,11 @@ use lib.ListN.{length, getD, set, length-set}
 use lib.Seq.{ext-getD, getD-set-same, getD-set-other}
 use borrow.Author.Tests.{eq-eqb, ne-eqb, eqb-true, eqb-false}
 use Rattle.meaning.specs.Number.{sumTo, only, choose, bit}
-use Rattle.meaning.specs.Chain.{mostReward, mostStates, Chain, denominator, edgeCount, from, to, carried, flow, along}
+use Rattle.meaning.specs.Chain.{mostReward, Chain, denominator, edgeCount, from, to, carried, flow, along}
 use Rattle.meaning.specs.Figure.{earned}
 use Rattle.meaning.specs.Row.{cell, total, rounding}
-use Rattle.meaning.specs.Step.{row, Sets, Right, given, firstRow, noRow, first, after}
+use Rattle.meaning.specs.Step.{row, Sets, Right, given, firstRow, noRow, first}
 use Rattle.meaning.specs.Refusal.{Lent, Entry, WellFormed}
-use Rattle.meaning.specs.Stop.{rewardOf, Stops}
 use Rattle.theory.specs.Sum.{same, below, sum-ext, sum-zero}
 use Rattle.theory.specs.Tab.{tab-ext}
 use Rattle.theory.specs.Flow.{flow-ext}
@@ -23,7 +22,6 @@ use Rattle.theory.specs.Given.{Fate, live, won, lost, Alive, goes-to, given-sta
 use Rattle.theory.specs.First.{first-row}
 use Rattle.theory.specs.Formed.{few-states, room, formed-fine, from-in, denominators-length, denominator-small, reward-small, unpaid}
 use Rattle.engines.specs.Table.{rowAt, Renewed}
-use Rattle.engines.specs.Turn.{Unfit}
 use Rattle.engines.specs.First.{columnOf, share, Held, Gatherable, finished, finishedAt, Finishable, Asked, Made}
 use Rattle.engines.proofs.Rows.{noRow-fit}
 use Rattle.engines.proofs.Tables.{kept-more, length-row}
@@ -234,8 +232,3 @@ first-given b x l k formed lent free right =
     go : (p : Bool) → x .rewards ≡ p → (i : ℕ) → i < l .chain .states → getD (l .rewards) i 0 ≤ mostReward
     go true e i h = reward-small x l formed e i h
     go false e i h = omega (arith, unpaid x l formed e i)
-
--- A first row that does not fit stops the elimination before the first step.
-pub first-stops : (b : Bool) (l : Lent) (k : Sets) → Unfit b (l .chain .states) (first b (l .chain) k (rewardOf l) (λ _. 0)) → Stops b l k 12 mostStates
-unfolding after
-first-stops b l k u = Stops.before-steps u

@@ -4,11 +4,16 @@ use mathlib.Core.Bool.{Bool, true}
 use mathlib.Core.List.{List}
 use Prim.Native.Nat.{ℕ, suc, _≤_, _<_}
 use lib.ListN.{getD}
-use Rattle.meaning.specs.Step.{Table, row, outside, after}
+use Rattle.meaning.specs.Step.{Table, row, goes, outside, after}
 use Rattle.engines.specs.Table.{tableOf, Kept}
 use Rattle.engines.specs.Turn.{Unfit, Reached}
+use Rattle.engines.specs.declared.run.Elimination.{Elimination}
 use Rattle.engines.specs.declared.walk.Walk.{Walk}
 use Rattle.engines.specs.declared.walk.Walk.the-variants.{Done, NoFit, NoWay}
+
+-- Which states are removed at their turn.
+abbrev pub going : Elimination → ℕ → Bool
+going e = goes (e .chain .start) (e .sets .live)
 
 -- D is zero at the turn of the state at position p of the order o; t p is the table after the first p positions.
 abbrev pub Stuck : ℕ → (ℕ → Bool) → List ℕ → (ℕ → Table) → ℕ → Type 0

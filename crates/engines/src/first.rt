@@ -15,6 +15,7 @@ ghost use Rattle.engines.specs.First.{columnOf, share, Added, Held, Adda
 use crate::row::REWARD;
 use crate::row::TRAP;
 use crate::row::settle;
+use crate::run::Elimination;
 use crate::sets::Sets;
 use crate::sets::holds;
 use crate::work::clear_work;
@@ -129,20 +130,23 @@ fn finish_all(
     true
 }
 
-// Makes the first rows of the chain c, whose sets are given. Answers whether all fit.
+// Makes the first rows. Answers whether all fit.
 pub(crate) fn first_rows(
     work: &mut [u64],
-    c: Chain,
-    sets: Sets,
+    e: Elimination,
     denominators: &[u64],
     edges: &[u64],
     rewards: &[u64],
-    rounding: bool,
 ) -> bool
-    requires { ⌜ Asked rounding (chainOf c (now denominators) (now edges)) (setsOf sets) (now rewards) (now work) ⌝ }
-    ensures { λ r. ⌜ Made rounding (c .states) (first rounding (chainOf c (now (denominators .entry)) (now (edges .entry))) (setsOf sets) (λ i. getD (now (rewards .entry)) i 0) (λ _. 0)) (now (work .entry)) (now (work .exit)) r ⌝ }
+    requires { ⌜ Asked (e .rounding) (chainOf (e .chain) (now denominators) (now edges)) (setsOf (e .sets)) (now rewards) (now work) ⌝ }
+    ensures { λ r.
+        let c = chainOf (e .chain) (now (denominators .entry)) (now (edges .entry)) in
+        let t = first (e .rounding) c (setsOf (e .sets)) (λ i. getD (now (rewards .entry)) i 0) (λ _. 0) in
+        ⌜ Made (e .rounding) (c .states) t (now (work .entry)) (now (work .exit)) r ⌝ }
 {
+    let c = e.chain;
+    let sets = e.sets;
     let n = c.states;
     gather(work, n, sets, edges);
-    finish_all(work, n, sets.live, denominators, rewards, rounding)
+    finish_all(work, n, sets.live, denominators, rewards, e.rounding)
 }
