@@ -8,10 +8,10 @@ use Rattle.meaning.specs.Number.{bit}
 use Rattle.meaning.specs.Chain.{mostStates, FromStart, Live}
 use Rattle.meaning.specs.Step.{Table, row, Sets, Right, goes, first, after}
 use Rattle.meaning.specs.Refusal.{Lent, workSize}
-use Rattle.meaning.specs.Stop.{rewardOf, tableAt, Passed, Stops, Stopped}
+use Rattle.meaning.specs.Stop.{rewardOf, tableAt, Unfit, Passed, Stops, Stopped}
 use Rattle.meaning.specs.Outcome.{cleared}
 use Rattle.engines.specs.Table.{rowAt, tableOf, Kept}
-use Rattle.engines.specs.Turn.{Unfit, Reached}
+use Rattle.engines.specs.Turn.{Reached}
 use Rattle.engines.specs.Order.{Clear, Finished, walked}
 use Rattle.engines.specs.Run.{endOf, won, lost, live, runs}
 use Rattle.engines.specs.declared.run.Course.{Course}

@@ -11,11 +11,12 @@ use lib.ListN.{length}
 use Rattle.meaning.specs.Number.{choose}
 use Rattle.meaning.specs.Row.{Row, cell}
 use Rattle.meaning.specs.Step.{row, outside, combined, renewed, removed}
+use Rattle.meaning.specs.Stop.{Unfit}
 use Rattle.theory.specs.Sum.{sum-ext}
 use Rattle.theory.specs.Tab.{tab-at, tab-ext}
 use Rattle.engines.specs.Row.{Fit}
 use Rattle.engines.specs.Table.{rowAt, tableOf, Kept, Placed, Renewed}
-use Rattle.engines.specs.Turn.{Unfit, Reached}
+use Rattle.engines.specs.Turn.{Reached}
 use Rattle.engines.proofs.Rows.{apart}
 use Rattle.engines.proofs.Tables.{kept-same, kept-more}
 

@@ -10,11 +10,12 @@ use native.Mathlib.Omega.{arith}
 use lib.ListN.{length, getD}
 use Rattle.meaning.specs.Chain.{mostStates}
 use Rattle.meaning.specs.Number.{choose}
-use Rattle.meaning.specs.Step.{Table, row, outside, removed, after}
+use Rattle.meaning.specs.Step.{Table, row, removed, after}
+use Rattle.meaning.specs.Stop.{Unfit, Stuck}
 use Rattle.engines.specs.Row.{Fit}
 use Rattle.engines.specs.Table.{tableOf, Kept, Ready}
-use Rattle.engines.specs.Turn.{Unfit, Reached, Turned}
-use Rattle.engines.specs.Order.{Stuck, Clear, Finished, Overflown, Blocked}
+use Rattle.engines.specs.Turn.{Reached, Turned}
+use Rattle.engines.specs.Order.{Clear, Finished, Overflown, Blocked}
 use Rattle.engines.specs.declared.step.Turn.{Turn}
 use Rattle.engines.specs.declared.step.Turn.the-variants.{Done, NoFit, NoWay}
 use Rattle.engines.proofs.Rows.{apart}
@@ -117,12 +118,12 @@ module _ {b : Bool} {n : ℕ} {go : ℕ → Bool} {o : List ℕ} {w : List ℕ} 
     -- The turn at position p, which speaks of the table in v.
     module _ (l : p < n) {u : List ℕ} {r : Turn}
         (h : Turned b n
-        ((go (getD o p 0) ≡ true) × (outside n (getD o p 0) (row (tableOf n v) (getD o p 0)) ≡ 0))
+        (Stuck n go (getD o p 0) (tableOf n v))
         (choose (go (getD o p 0)) (removed b n (getD o p 0) (tableOf n v)) (tableOf n v))
         v
         u
         r) where
-      turn-at : Turned b n (Stuck n go o (tables b n go o w) p) (tables b n go o w (suc p)) v u r
+      turn-at : Turned b n (Stuck n go (getD o p 0) (tables b n go o w p)) (tables b n go o w (suc p)) v u r
       unfolding after
       turn-at = rw (z .reached .same) at h
 

@@ -11,10 +11,11 @@ use Rattle.meaning.specs.Figure.{earned}
 use Rattle.meaning.specs.Row.{Row, cell, width, total, goalColumn, trapColumn, rewardColumn, settled, rounding}
 use Rattle.meaning.specs.Step.{Table, Sets, Right}
 use Rattle.meaning.specs.Refusal.{workSize}
+use Rattle.meaning.specs.Stop.{Unfit}
 use Rattle.theory.specs.Fine.{Fine}
 use Rattle.engines.specs.Row.{Fit}
 use Rattle.engines.specs.Table.{rowAt, Kept}
-use Rattle.engines.specs.Turn.{Unfit, Reached}
+use Rattle.engines.specs.Turn.{Reached}
 
 -- The column of a target in the row of a live state: its own where it is live, else Goal where it has a path to a goal, since then it is one,
 -- else Trap.

@@ -1,11 +1,11 @@
 // The walk through the order: each state that goes is removed at its turn.
 ghost use mathlib.Core.Path.{_≡_};
-ghost use mathlib.Core.Bool.{true};
 ghost use Prim.Native.Nat.{ℕ, _<_};
 ghost use lib.ListN.{length, getD};
 ghost use Rattle.meaning.specs.Number.{choose};
 ghost use Rattle.meaning.specs.Chain.{mostStates};
-ghost use Rattle.meaning.specs.Step.{row, outside, removed};
+ghost use Rattle.meaning.specs.Step.{removed};
+ghost use Rattle.meaning.specs.Stop.{Stuck};
 ghost use Rattle.engines.specs.Table.{tableOf, Ready};
 ghost use Rattle.engines.specs.Turn.{Turned};
 ghost use Rattle.engines.specs.Order.{going, walked};
@@ -40,8 +40,7 @@ fn turn(work: &mut [u64], e: Elimination, s: usize) -> Turn
     ensures { λ r.
         let n = e .chain .states in
         let t = tableOf n (now (work .entry)) in
-        let g = going e s in
-        ⌜ Turned (e .rounding) n ((g ≡ true) × (outside n s (row t s) ≡ 0)) (choose g (removed (e .rounding) n s t) t) (now (work .entry)) (now (work .exit)) r ⌝ }
+        ⌜ Turned (e .rounding) n (Stuck n (going e) s t) (choose (going e s) (removed (e .rounding) n s t) t) (now (work .entry)) (now (work .exit)) r ⌝ }
 {
     if goes(s, e) {
         let c = e.chain;
