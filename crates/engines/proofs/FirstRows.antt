@@ -12,7 +12,7 @@ use borrow.Author.Tests.{eq-eqb, ne-eqb, eqb-true, eqb-false}
 use Rattle.meaning.specs.Number.{sumTo, only, choose, bit}
 use Rattle.meaning.specs.Chain.{mostReward, Chain, denominator, edgeCount, from, to, carried, flow, along}
 use Rattle.meaning.specs.Figure.{earned}
-use Rattle.meaning.specs.Row.{cell, total, rounding}
+use Rattle.meaning.specs.Row.{cell, trapColumn, unknownColumn, total, rounding}
 use Rattle.meaning.specs.Step.{row, Sets, Right, given, firstRow, noRow, first}
 use Rattle.meaning.specs.Refusal.{Lent, Entry, WellFormed}
 use Rattle.theory.specs.Sum.{same, below, sum-ext, sum-zero}
@@ -49,7 +49,7 @@ module _ (c : Chain) (k : Sets) where
     unfolding columnOf
     column-won l g = rw (ne-eqb (bit (k .live) t) 1 (omega arith), eq-eqb (bit (k .good) t) 1 g)
 
-    column-lost : bit (k .live) t ≡ 0 → bit (k .good) t ≡ 0 → columnOf n k t ≡ n + 1
+    column-lost : bit (k .live) t ≡ 0 → bit (k .good) t ≡ 0 → columnOf n k t ≡ trapColumn n
     unfolding columnOf
     column-lost l g = rw (ne-eqb (bit (k .live) t) 1 (omega arith), ne-eqb (bit (k .good) t) 1 (omega arith))
 
@@ -59,27 +59,27 @@ module _ (c : Chain) (k : Sets) where
       in-live h m (won a b d) =
           rw (column-won a d, ne-eqb n j (omega arith), ne-eqb t j (λ q. omega (arith, ap (bit (k .live)) q)))
       in-live h m (lost a b d) =
-          rw (column-lost a d, ne-eqb (n + 1) j (omega arith), ne-eqb t j (λ q. omega (arith, ap (bit (k .live)) q)))
+          rw (column-lost a d, ne-eqb (trapColumn n) j (omega arith), ne-eqb t j (λ q. omega (arith, ap (bit (k .live)) q)))
 
       in-dead : j < n → (bit (k .live) j ≡ 1 → ⊥) → Fate c k t → only (eqb (columnOf n k t) j) 1 ≡ 0
       in-dead h m (live a b d) = rw (column-live a, ne-eqb t j (λ q. m (sym (ap (bit (k .live)) q) ∙ a)))
       in-dead h m (won a b d) = rw (column-won a d, ne-eqb n j (omega arith))
-      in-dead h m (lost a b d) = rw (column-lost a d, ne-eqb (n + 1) j (omega arith))
+      in-dead h m (lost a b d) = rw (column-lost a d, ne-eqb (trapColumn n) j (omega arith))
 
     in-goal : t < n → Fate c k t → only (eqb (columnOf n k t) n) 1 ≡ bit (c .goals) t
     in-goal h (live a b d) = rw (column-live a, ne-eqb t n (omega arith), b)
     in-goal h (won a b d) = rw (column-won a d, eq-eqb n n refl, b)
-    in-goal h (lost a b d) = rw (column-lost a d, ne-eqb (n + 1) n (omega arith), b)
+    in-goal h (lost a b d) = rw (column-lost a d, ne-eqb (trapColumn n) n (omega arith), b)
 
-    in-trap : t < n → Fate c k t → only (eqb (columnOf n k t) (n + 1)) 1 ≡ 1 - bit (k .good) t
-    in-trap h (live a b d) = rw (column-live a, ne-eqb t (n + 1) (omega arith), d)
-    in-trap h (won a b d) = rw (column-won a d, ne-eqb n (n + 1) (omega arith), d)
-    in-trap h (lost a b d) = rw (column-lost a d, eq-eqb (n + 1) (n + 1) refl, d)
+    in-trap : t < n → Fate c k t → only (eqb (columnOf n k t) (trapColumn n)) 1 ≡ 1 - bit (k .good) t
+    in-trap h (live a b d) = rw (column-live a, ne-eqb t (trapColumn n) (omega arith), d)
+    in-trap h (won a b d) = rw (column-won a d, ne-eqb n (trapColumn n) (omega arith), d)
+    in-trap h (lost a b d) = rw (column-lost a d, eq-eqb (trapColumn n) (trapColumn n) refl, d)
 
-    in-unknown : t < n → Fate c k t → only (eqb (columnOf n k t) (n + 2)) 1 ≡ 0
-    in-unknown h (live a b d) = rw (column-live a, ne-eqb t (n + 2) (omega arith))
-    in-unknown h (won a b d) = rw (column-won a d, ne-eqb n (n + 2) (omega arith))
-    in-unknown h (lost a b d) = rw (column-lost a d, ne-eqb (n + 1) (n + 2) (omega arith))
+    in-unknown : t < n → Fate c k t → only (eqb (columnOf n k t) (unknownColumn n)) 1 ≡ 0
+    in-unknown h (live a b d) = rw (column-live a, ne-eqb t (unknownColumn n) (omega arith))
+    in-unknown h (won a b d) = rw (column-won a d, ne-eqb n (unknownColumn n) (omega arith))
+    in-unknown h (lost a b d) = rw (column-lost a d, ne-eqb (trapColumn n) (unknownColumn n) (omega arith))
 
   module _ (b : Bool) (rewards work : List ℕ) (a : Asked b c k rewards work) where
     abbrev r : ℕ → ℕ

@@ -9,7 +9,7 @@ use native.Mathlib.Nat.{eq-zero-or-pos}
 use Rattle.meaning.specs.Number.{gcdIn, gcd, Reduced}
 use Rattle.meaning.specs.Chain.{M, Chain, FromStart}
 use Rattle.meaning.specs.Figure.{Chance, Missed, Expected}
-use Rattle.meaning.specs.Row.{cell, goalColumn, unknownColumn, exact, rounding}
+use Rattle.meaning.specs.Row.{cell, goalColumn, unknownColumn, exact, rounding, rewardColumn}
 use Rattle.meaning.specs.Row.{reward as rewardIn}
 use Rattle.meaning.specs.Step.{row, Sets, outside}
 use Rattle.meaning.specs.Refusal.{Lent, Entry, plain, paid, Applies, Refused, WellFormed}
@@ -130,7 +130,7 @@ read-sum l formed (live k right alive z) =
       arith,
       read-goal z,
       read-unknown z,
-      sum-two (cell r) (n + 3) n (n + 2) (omega arith) (omega arith) (omega arith),
+      sum-two (cell r) (rewardColumn n) n (unknownColumn n) (omega arith) (omega arith) (omega arith),
       bounds-fit (l .chain) k (rewardOf l) (l .order) n (l .chain .start) (start-in plain l formed),
     )
 

@@ -9,7 +9,7 @@ use native.Mathlib.Omega.{arith}
 use lib.Dec.{eqb}
 use lib.ListN.{length}
 use Rattle.meaning.specs.Number.{choose}
-use Rattle.meaning.specs.Row.{Row, cell}
+use Rattle.meaning.specs.Row.{Row, cell, rewardColumn}
 use Rattle.meaning.specs.Step.{row, outside, combined, renewed, removed}
 use Rattle.meaning.specs.Stop.{Unfit}
 use Rattle.theory.specs.Sum.{sum-ext}
@@ -87,9 +87,9 @@ renewed-same b n s d p q o r h = rw (combined-same s d p q r h)
 pub fit-same : {b : Bool} (n : ℕ) (p q : Row) → ((j : ℕ) → cell p j ≡ cell q j) → Fit b n q → Fit b n p
 fit-same n p q h f =
     record {
-      weights = rw (sum-ext (cell p) (cell q) (n + 3) (λ j b. h j)) (f .weights);
-      earned = rw (h (n + 3)) (f .earned);
-      unpaid = λ e. h (n + 3) ∙ f .unpaid e;
+      weights = rw (sum-ext (cell p) (cell q) (rewardColumn n) (λ j b. h j)) (f .weights);
+      earned = rw (h (rewardColumn n)) (f .earned);
+      unpaid = λ e. h (rewardColumn n) ∙ f .unpaid e;
     }
 
 pub row-is : (n : ℕ) (w : List ℕ) (i : ℕ) → i < n → row (tableOf n w) i ≡ rowAt n w i

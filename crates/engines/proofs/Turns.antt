@@ -3,13 +3,14 @@ use mathlib.Core.Path.{_≡_, refl, sym, _∙_}
 use mathlib.Core.Logic.{⊎-elim, dite}
 use mathlib.Core.Bool.{Bool, true, false}
 use mathlib.Core.List.{List}
-use Prim.Native.Nat.{ℕ, suc, _+_, _*_, _≤_, _<_, zero-le}
+use Prim.Native.Nat.{ℕ, suc, _+_, _≤_, _<_, zero-le}
 use native.Mathlib.Decide.{decLt}
 use native.Mathlib.Numerals.{add-one}
 use native.Mathlib.Omega.{arith}
 use lib.ListN.{length, getD}
 use Rattle.meaning.specs.Chain.{mostStates}
 use Rattle.meaning.specs.Number.{choose}
+use Rattle.meaning.specs.Refusal.{workSize}
 use Rattle.meaning.specs.Step.{Table, row, removed, after}
 use Rattle.meaning.specs.Stop.{Unfit, Stuck}
 use Rattle.engines.specs.Row.{Fit}
@@ -79,7 +80,7 @@ fit-unfit b n t f u =
     ⊎-elim (λ l. omega (arith, h .weights)) (λ l. omega (arith, h .earned)) (u .1 .1 .1)
 
 -- A table that is reached is ready for the walk.
-pub reached-ready : {b : Bool} {n : ℕ} {t : Table} {w v : List ℕ} → n ≤ mostStates → n * (n + 4) ≤ length w → Reached b n t w v → Ready b n v
+pub reached-ready : {b : Bool} {n : ℕ} {t : Table} {w v : List ℕ} → n ≤ mostStates → workSize n ≤ length w → Reached b n t w v → Ready b n v
 reached-ready {n = n} {v = v} few room z =
     record {
       few = few;

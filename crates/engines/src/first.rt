@@ -40,7 +40,9 @@ fn column(t: usize, n: usize, sets: Sets) -> usize
 // Adds x to the number in column j of row i.
 fn add(work: &mut [u64], n: usize, i: usize, j: usize, x: u64)
     requires { ⌜ (n ≤ mostStates) × (workSize n ≤ length (now work)) × (i < n) × (j < width n) × (cell (rowAt n (now work) i) j + x ≤ M) ⌝ }
-    ensures { λ _. ⌜ Put n (now (work .entry)) i (set (rowAt n (now (work .entry)) i) j (cell (rowAt n (now (work .entry)) i) j + x)) (now (work .exit)) ⌝ }
+    ensures { λ _.
+        let r = rowAt n (now (work .entry)) i in
+        ⌜ Put n (now (work .entry)) i (set r j (cell r j + x)) (now (work .exit)) ⌝ }
 {
     let p = row_start(n, i) + j;
     work[p] += x;
@@ -62,7 +64,9 @@ fn carry(work: &mut [u64], n: usize, sets: Sets, edges: &[u64], e: usize)
 // Gathers the weights of all edges, in one pass.
 fn gather(work: &mut [u64], n: usize, sets: Sets, edges: &[u64])
     requires { ⌜ Gatherable n (now edges) (now work) ⌝ }
-    ensures { λ _. ⌜ Held n (λ i j. sumTo (share n (setsOf sets) (now (edges .entry)) i j) (edgeCount (now (edges .entry)))) (now (work .entry)) (now (work .exit)) ⌝ }
+    ensures { λ _.
+        let es = now (edges .entry) in
+        ⌜ Held n (λ i j. sumTo (share n (setsOf sets) es i j) (edgeCount es)) (now (work .entry)) (now (work .exit)) ⌝ }
 {
     clear_work(work, n);
     let count = edge::count(edges);
@@ -97,7 +101,8 @@ fn finish(row: &mut [u64], n: usize, alive: bool, earns: u64, rounding: bool) ->
 
 // Finishes row i of the table. The rest of the work table is as it was.
 fn finish_row(work: &mut [u64], i: usize, n: usize, live: u64, earns: u64, rounding: bool) -> bool
-    requires { ⌜ (workSize n ≤ length (now work)) × (n ≤ mostStates) × (i < n) × Gathered rounding n (eqb (bit live i) 1) earns (rowAt n (now work) i) ⌝ }
+    requires { let w = now work in
+        ⌜ (workSize n ≤ length w) × (n ≤ mostStates) × (i < n) × Gathered rounding n (eqb (bit live i) 1) earns (rowAt n w i) ⌝ }
     ensures { λ r.
         let w = now (work .entry) in
         ⌜ Placed rounding n w i (finished rounding n (eqb (bit live i) 1) earns (rowAt n w i)) (now (work .exit)) r ⌝ }
@@ -117,7 +122,9 @@ fn finish_all(
     rounding: bool,
 ) -> bool
     requires { ⌜ Finishable rounding n live (now denominators) (now rewards) (now work) ⌝ }
-    ensures { λ r. ⌜ Renewed rounding (finishedAt rounding n live (now (denominators .entry)) (now (rewards .entry)) (now (work .entry))) n (now (work .entry)) (now (work .exit)) r ⌝ }
+    ensures { λ r.
+        let w = now (work .entry) in
+        ⌜ Renewed rounding (finishedAt rounding n live (now (denominators .entry)) (now (rewards .entry)) w) n w (now (work .exit)) r ⌝ }
 {
     let mut i = 0;
     while i < n {

@@ -86,7 +86,8 @@ fn follow(
     rewards: &[u64],
     work: &mut [u64],
 ) -> Course
-    requires { ⌜ Begun (e .rounding) (lent (e .chain) (now denominators) (now edges) (now order) (now rewards) (now work)) (setsOf (e .sets)) ⌝ }
+    requires { let l = lent (e .chain) (now denominators) (now edges) (now order) (now rewards) (now work) in
+        ⌜ Begun (e .rounding) l (setsOf (e .sets)) ⌝ }
     ensures { λ r.
         let l = lent (e .chain) (now (denominators .entry)) (now (edges .entry)) (now (order .entry)) (now (rewards .entry)) (now (work .entry)) in
         ⌜ Kept (e .chain .states) (now (work .entry)) (now (work .exit)) × runs (e .rounding) l r ⌝ }
@@ -132,7 +133,8 @@ pub(crate) fn run(
     rewards: &[u64],
     work: &mut [u64],
 ) -> Course
-    requires { ⌜ Begun (e .rounding) (lent (e .chain) (now denominators) (now edges) (now order) (now rewards) (now work)) (setsOf (e .sets)) ⌝ }
+    requires { let l = lent (e .chain) (now denominators) (now edges) (now order) (now rewards) (now work) in
+        ⌜ Begun (e .rounding) l (setsOf (e .sets)) ⌝ }
     ensures { λ r.
         let l = lent (e .chain) (now (denominators .entry)) (now (edges .entry)) (now (order .entry)) (now (rewards .entry)) (now (work .entry)) in
         ⌜ (now (work .exit) ≡ cleared l) × runs (e .rounding) l r ⌝ }

@@ -35,7 +35,8 @@ fn merge(x: u64, d: u64, w: u64, p: u64, gone: bool) -> u64
 
 // Puts the row of state s, whose D is d, in the place of a row's weight to s.
 pub(crate) fn combine(row: &mut [u64], pivot: &[u64; Chain::WIDTH], s: usize, d: u64)
-    requires { ⌜ (s < length (now row)) × (length (now row) ≤ width mostStates) × (d ≤ M) × Small (length (now row)) (now row) × Small (length (now row)) (now pivot) ⌝ }
+    requires { let m = length (now row) in
+        ⌜ (s < m) × (m ≤ width mostStates) × (d ≤ M) × Small m (now row) × Small m (now pivot) ⌝ }
     ensures { λ _. ⌜ now (row .exit) ≡ combined s d (now (pivot .entry)) (now (row .entry)) ⌝ }
 {
     let w = row[s];
@@ -95,7 +96,8 @@ fn renew_row(
     pivot: &[u64; Chain::WIDTH],
     rounding: bool,
 ) -> bool
-    requires { ⌜ (workSize n ≤ length (now work)) × (n ≤ mostStates) × (i < n) × (s < n) × (d ≤ M) × Fit rounding n (rowAt n (now work) i) × Fit rounding n (now pivot) ⌝ }
+    requires { let w = now work in
+        ⌜ (workSize n ≤ length w) × (n ≤ mostStates) × (i < n) × (s < n) × (d ≤ M) × Fit rounding n (rowAt n w i) × Fit rounding n (now pivot) ⌝ }
     ensures { λ r.
         let w = now (work .entry) in
         ⌜ Placed rounding n w i (renewed rounding n s d (now (pivot .entry)) (eqb i s) (rowAt n w i)) (now (work .exit)) r ⌝ }
@@ -137,7 +139,9 @@ fn renew_all(
     rounding: bool,
 ) -> bool
     requires { ⌜ Ready rounding n (now work) × (s < n) × (d ≤ M) × Fit rounding n (now pivot) ⌝ }
-    ensures { λ r. ⌜ Renewed rounding (λ k. renewed rounding n s d (now (pivot .entry)) (eqb k s) (rowAt n (now (work .entry)) k)) n (now (work .entry)) (now (work .exit)) r ⌝ }
+    ensures { λ r.
+        let w = now (work .entry) in
+        ⌜ Renewed rounding (λ k. renewed rounding n s d (now (pivot .entry)) (eqb k s) (rowAt n w k)) n w (now (work .exit)) r ⌝ }
 {
     let mut i = 0;
     while i < n {
@@ -152,7 +156,10 @@ fn renew_all(
 // Removes the state s from the table.
 pub(crate) fn remove(work: &mut [u64], n: usize, s: usize, rounding: bool) -> Turn
     requires { ⌜ Ready rounding n (now work) × (s < n) ⌝ }
-    ensures { λ r. ⌜ Turned rounding n (outside n s (row (tableOf n (now (work .entry))) s) ≡ 0) (removed rounding n s (tableOf n (now (work .entry)))) (now (work .entry)) (now (work .exit)) r ⌝ }
+    ensures { λ r.
+        let w = now (work .entry) in
+        let t = tableOf n w in
+        ⌜ Turned rounding n (outside n s (row t s) ≡ 0) (removed rounding n s t) w (now (work .exit)) r ⌝ }
 {
     let a = row_start(n, s);
     let e = a + n + Chain::BESIDE;

@@ -39,8 +39,9 @@ fn turn(work: &mut [u64], e: Elimination, s: usize) -> Turn
     requires { ⌜ Ready (e .rounding) (e .chain .states) (now work) × (s < e .chain .states) ⌝ }
     ensures { λ r.
         let n = e .chain .states in
-        let t = tableOf n (now (work .entry)) in
-        ⌜ Turned (e .rounding) n (Stuck n (going e) s t) (choose (going e s) (removed (e .rounding) n s t) t) (now (work .entry)) (now (work .exit)) r ⌝ }
+        let w = now (work .entry) in
+        let t = tableOf n w in
+        ⌜ Turned (e .rounding) n (Stuck n (going e) s t) (choose (going e s) (removed (e .rounding) n s t) t) w (now (work .exit)) r ⌝ }
 {
     if goes(s, e) {
         let c = e.chain;
