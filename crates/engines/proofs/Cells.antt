@@ -19,9 +19,9 @@ use Rattle.meaning.specs.Refusal.{workSize}
 use Rattle.meaning.specs.Step.{Sets, noRow}
 use Rattle.theory.specs.Sum.{same, sum-ext, sum-le, sum-next, sum-up}
 use Rattle.theory.specs.Tab.{tab-of}
-use Rattle.engines.specs.Row.{Sized}
+use Rattle.engines.specs.Row.{Summable}
 use Rattle.engines.specs.Table.{rowAt, Kept, Put}
-use Rattle.engines.specs.First.{columnOf, share, Added, Held, Addable, Gathered}
+use Rattle.engines.specs.First.{columnOf, share, Added, Held, Addable, Unfinished}
 use Rattle.engines.proofs.Tables.{kept-same, kept-more, row-end, row-cell, length-row}
 
 -- The number in column j of row i.
@@ -212,9 +212,9 @@ module _ {n : ℕ} {k : Sets} {edges : List ℕ} {w : List ℕ} where
         }
 
 -- A row with what it earns.
-module _ {b : Bool} {n : ℕ} {alive : Bool} {x : ℕ} {r : Row} (g : Gathered b n alive x r) (l : length r ≡ width n) where
-  pub earned-sized : alive ≡ true → Sized n (set r (rewardColumn n) x)
-  earned-sized e =
+module _ {b : Bool} {n : ℕ} {alive : Bool} {x : ℕ} {r : Row} (g : Unfinished b n alive x r) (l : length r ≡ width n) where
+  pub earned-summable : alive ≡ true → Summable n (set r (rewardColumn n) x)
+  earned-summable e =
       record {
         columns = length-set r (rewardColumn n) x ∙ l;
         bound =

@@ -12,7 +12,7 @@ use Rattle.meaning.specs.Stop.{rewardOf, tableAt, Unfit, Passed, Stops, Stopped
 use Rattle.meaning.specs.Outcome.{cleared}
 use Rattle.engines.specs.Table.{rowAt, tableOf, Kept}
 use Rattle.engines.specs.Turn.{Reached}
-use Rattle.engines.specs.Order.{Clear, Finished, walked}
+use Rattle.engines.specs.Order.{UnstoppedWalk, Finished, walked}
 use Rattle.engines.specs.Run.{endOf, won, lost, live, runs}
 use Rattle.engines.specs.declared.run.Course.{Course}
 use Rattle.engines.specs.declared.run.Course.the-variants.{Ends}
@@ -65,7 +65,7 @@ module _ (b : Bool) (l : Lent) (k : Sets) (right : Right (l .chain) k) where
 
     -- The walk through the order, which begins with the first table, in v.
     module _ (v u : List ℕ) (same : tableOf n v ≡ firstTable) (r : Walk) (z : walked b n go (l .order) v u r) where
-      passed : (p : ℕ) → Clear b n go (l .order) (after b n go (l .order) (tableOf n v)) p → Passed b l k p
+      passed : (p : ℕ) → UnstoppedWalk b n go (l .order) (after b n go (l .order) (tableOf n v)) p → Passed b l k p
       passed p c = record { fits = rw same at (c .fits); turns = rw same at (c .turns) }
 
       pub stops-unfit : (p : ℕ) → r ≡ NoFit p → Stopped b l 12 p

@@ -22,7 +22,7 @@ use Rattle.theory.specs.Given.{Fate, live, won, lost, Alive, goes-to, given-sta
 use Rattle.theory.specs.First.{first-row}
 use Rattle.theory.specs.Formed.{few-states, room, formed-fine, from-in, denominators-length, denominator-small, reward-small, unpaid}
 use Rattle.engines.specs.Table.{rowAt, Renewed}
-use Rattle.engines.specs.First.{columnOf, share, Held, Gatherable, finished, finishedAt, Finishable, Asked, Made}
+use Rattle.engines.specs.First.{columnOf, share, Held, Gatherable, finished, finishedAt, Finishable, Makeable, Made}
 use Rattle.engines.proofs.Rows.{noRow-fit}
 use Rattle.engines.proofs.Tables.{kept-more, length-row}
 use Rattle.engines.proofs.Cells.{zero-row, share-dead, share-live}
@@ -81,12 +81,12 @@ module _ (c : Chain) (k : Sets) where
     in-unknown h (won a b d) = rw (column-won a d, ne-eqb n (unknownColumn n) (omega arith))
     in-unknown h (lost a b d) = rw (column-lost a d, ne-eqb (trapColumn n) (unknownColumn n) (omega arith))
 
-  module _ (b : Bool) (rewards work : List ℕ) (a : Asked b c k rewards work) where
+  module _ (b : Bool) (rewards work : List ℕ) (a : Makeable b c k rewards work) where
     abbrev r : ℕ → ℕ
     r i = getD rewards i 0
 
-    pub asked-gatherable : Gatherable n (c .edges) work
-    asked-gatherable =
+    pub makeable-gatherable : Gatherable n (c .edges) work
+    makeable-gatherable =
         record {
           few = a .few;
           room = a .room;
@@ -167,8 +167,8 @@ module _ (c : Chain) (k : Sets) where
           zero-row n v space i h
           (λ j l. z .cells i j h l ∙ sum-zero (share n k (c .edges) i j) (edgeCount (c .edges)) (λ e _. share-dead n k (c .edges) e i j d))
 
-      pub asked-finishable : Finishable b n (k .live) (c .denominators) rewards v
-      asked-finishable =
+      pub makeable-finishable : Finishable b n (k .live) (c .denominators) rewards v
+      makeable-finishable =
           record {
             few = a .few;
             room = space;
@@ -215,7 +215,7 @@ module _ (c : Chain) (k : Sets) where
 
 -- What a well-formed input has. The bounds engine is lent no rewards.
 pub first-given : (b : Bool) (x : Entry) (l : Lent) (k : Sets) → WellFormed x l → x .work ≡ true → (b ≡ rounding → x .rewards ≡ false) → Right (l .chain) k
-    → Asked b (l .chain) k (l .rewards) (l .work)
+    → Makeable b (l .chain) k (l .rewards) (l .work)
 first-given b x l k formed lent free right =
     record {
       few = few-states x l formed;

@@ -17,7 +17,7 @@ use Rattle.meaning.specs.Step.{noRow, combined, renewed}
 use Rattle.theory.specs.Sum.{sum-ext, sum-le, sum-zero, sum-next, sum-up, sum-mix, sum-term}
 use Rattle.theory.specs.Tab.{tab-at, tab-length}
 use Rattle.theory.specs.Shift.{pow-whole, shift-fits}
-use Rattle.engines.specs.Row.{Small, Sized, Fit, Tested, Became}
+use Rattle.engines.specs.Row.{Small, Summable, Fit, Tested, Became}
 use Rattle.engines.proofs.Loop.{zeros, getD-zeros}
 use Rattle.engines.proofs.Lowest.{over-at, over-sum, over-parts}
 
@@ -108,8 +108,8 @@ module _ (b : Bool) (n s d : ℕ) (p r : Row) (l : length r ≡ width n) (hs : s
   unfolding combined
   combined-length = tab-length 0 (length r) _
 
-  pub combined-sized : d ≤ M → Sized n (combined s d p r)
-  combined-sized hd =
+  pub combined-summable : d ≤ M → Summable n (combined s d p r)
+  combined-summable hd =
       record {
         columns = combined-length ∙ l;
         bound = omega (

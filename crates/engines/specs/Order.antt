@@ -16,19 +16,19 @@ abbrev pub going : Elimination → ℕ → Bool
 going e = goes (e .chain .start) (e .sets .live)
 
 -- Nothing stopped the walk up to the first p positions of the order o; t q is the table after the first q.
-abbrev pub Clear : Bool → ℕ → (ℕ → Bool) → List ℕ → (ℕ → Table) → ℕ → Type 0
-Clear b n go o t = Unstopped (λ q. Unfit b n (t q)) (λ q. Stuck n go (getD o q 0) (t q))
+abbrev pub UnstoppedWalk : Bool → ℕ → (ℕ → Bool) → List ℕ → (ℕ → Table) → ℕ → Type 0
+UnstoppedWalk b n go o t = Unstopped (λ q. Unfit b n (t q)) (λ q. Stuck n go (getD o q 0) (t q))
 
 -- The walk is done: the table in w has become t n, in v.
 pub record Finished (b : Bool) (n : ℕ) (go : ℕ → Bool) (o : List ℕ) (t : ℕ → Table) (w v : List ℕ) : Type 0 where
-  pub clear : Clear b n go o t n
+  pub clear : UnstoppedWalk b n go o t n
   pub reached : Reached b n (t n) w v
 
 -- A row of the table after the step of position p does not fit.
 pub record Overflown (b : Bool) (n : ℕ) (go : ℕ → Bool) (o : List ℕ) (t : ℕ → Table) (w v : List ℕ) (p : ℕ) : Type 0 where
   pub inside : p < n
   pub kept : Kept n w v
-  pub clear : Clear b n go o t p
+  pub clear : UnstoppedWalk b n go o t p
   pub free : Stuck n go (getD o p 0) (t p) → ⊥
   pub unfit : Unfit b n (t (suc p))
 
@@ -36,7 +36,7 @@ pub record Overflown (b : Bool) (n : ℕ) (go : ℕ → Bool) (o : List ℕ) (t 
 pub record Blocked (b : Bool) (n : ℕ) (go : ℕ → Bool) (o : List ℕ) (t : ℕ → Table) (w v : List ℕ) (p : ℕ) : Type 0 where
   pub inside : p < n
   pub kept : Kept n w v
-  pub clear : Clear b n go o t p
+  pub clear : UnstoppedWalk b n go o t p
   pub stuck : Stuck n go (getD o p 0) (t p)
 
 abbrev pub walked : Bool → ℕ → (ℕ → Bool) → List ℕ → List ℕ → List ℕ → Walk → Type 0

@@ -12,7 +12,7 @@ abbrev pub Small : ℕ → Row → Type 0
 Small m r = (j : ℕ) → j < m → cell r j ≤ M
 
 -- A new row, before it is settled: its total can be summed in 64 bits.
-pub record Sized (n : ℕ) (r : Row) : Type 0 where
+pub record Summable (n : ℕ) (r : Row) : Type 0 where
   pub columns : length r ≡ width n
   pub bound : total n r < 2 ^ 63
 

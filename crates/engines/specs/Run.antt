@@ -8,7 +8,7 @@ use Rattle.meaning.specs.Row.{Row, cell, goalColumn, unknownColumn, reward}
 use Rattle.meaning.specs.Step.{row, Sets, Right, outside}
 use Rattle.meaning.specs.Refusal.{Lent}
 use Rattle.meaning.specs.Stop.{turn, tableAt, Passed, Stopped}
-use Rattle.engines.specs.First.{Asked}
+use Rattle.engines.specs.First.{Makeable}
 use Rattle.engines.specs.declared.run.Course.{Course}
 use Rattle.engines.specs.declared.run.Course.the-variants.{Ends, Stops}
 
@@ -18,7 +18,7 @@ endOf n s z = Ends (cell z (goalColumn n)) (cell z (unknownColumn n)) (reward n 
 
 -- What an elimination asks for.
 pub record Begun (b : Bool) (l : Lent) (k : Sets) : Type 0 where
-  pub asked : Asked b (l .chain) k (l .rewards) (l .work)
+  pub asked : Makeable b (l .chain) k (l .rewards) (l .work)
   pub orders : length (l .order) ≡ l .chain .states
   pub inside : (p : ℕ) → p < l .chain .states → turn l p < l .chain .states
   pub start : l .chain .start < l .chain .states

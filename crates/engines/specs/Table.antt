@@ -20,7 +20,7 @@ abbrev pub tableOf : ℕ → List ℕ → Table
 tableOf n w = tabFrom 0 n (rowAt n w)
 
 -- The work table holds n rows, and each of them fits.
-pub record Ready (b : Bool) (n : ℕ) (w : List ℕ) : Type 0 where
+pub record Fitting (b : Bool) (n : ℕ) (w : List ℕ) : Type 0 where
   pub few : n ≤ mostStates
   pub room : workSize n ≤ length w
   pub fit : (i : ℕ) → i < n → Fit b n (rowAt n w i)

@@ -11,7 +11,7 @@ ghost use Rattle.meaning.specs.Step.{first};
 ghost use Rattle.engines.specs.Row.{Became};
 ghost use Rattle.engines.specs.Table.{rowAt, Put, Placed, Renewed};
 ghost use Rattle.engines.specs.Sets.{chainOf, setsOf};
-ghost use Rattle.engines.specs.First.{columnOf, share, Added, Held, Addable, Gatherable, finished, Gathered, finishedAt, Finishable, Asked, Made};
+ghost use Rattle.engines.specs.First.{columnOf, share, Added, Held, Addable, Gatherable, finished, Unfinished, finishedAt, Finishable, Makeable, Made};
 use crate::row::REWARD;
 use crate::row::TRAP;
 use crate::row::settle;
@@ -89,7 +89,7 @@ fn reward_of(rewards: &[u64], i: usize) -> u64
 
 // Puts what a live state earns into its row, and settles that. Answers whether it fits.
 fn finish(row: &mut [u64], n: usize, alive: bool, earns: u64, rounding: bool) -> bool
-    requires { ⌜ (length (now row) ≡ width n) × (n ≤ mostStates) × Gathered rounding n alive earns (now row) ⌝ }
+    requires { ⌜ (length (now row) ≡ width n) × (n ≤ mostStates) × Unfinished rounding n alive earns (now row) ⌝ }
     ensures { λ r. ⌜ Became rounding n (finished rounding n alive earns (now (row .entry))) (now (row .exit)) r ⌝ }
 {
     if alive {
@@ -102,7 +102,7 @@ fn finish(row: &mut [u64], n: usize, alive: bool, earns: u64, rounding: bool) ->
 // Finishes row i of the table. The rest of the work table is as it was.
 fn finish_row(work: &mut [u64], i: usize, n: usize, live: u64, earns: u64, rounding: bool) -> bool
     requires { let w = now work in
-        ⌜ (workSize n ≤ length w) × (n ≤ mostStates) × (i < n) × Gathered rounding n (eqb (bit live i) 1) earns (rowAt n w i) ⌝ }
+        ⌜ (workSize n ≤ length w) × (n ≤ mostStates) × (i < n) × Unfinished rounding n (eqb (bit live i) 1) earns (rowAt n w i) ⌝ }
     ensures { λ r.
         let w = now (work .entry) in
         ⌜ Placed rounding n w i (finished rounding n (eqb (bit live i) 1) earns (rowAt n w i)) (now (work .exit)) r ⌝ }
@@ -145,7 +145,7 @@ pub(crate) fn first_rows(
     edges: &[u64],
     rewards: &[u64],
 ) -> bool
-    requires { ⌜ Asked (e .rounding) (chainOf (e .chain) (now denominators) (now edges)) (setsOf (e .sets)) (now rewards) (now work) ⌝ }
+    requires { ⌜ Makeable (e .rounding) (chainOf (e .chain) (now denominators) (now edges)) (setsOf (e .sets)) (now rewards) (now work) ⌝ }
     ensures { λ r.
         let c = chainOf (e .chain) (now (denominators .entry)) (now (edges .entry)) in
         let t = first (e .rounding) c (setsOf (e .sets)) (λ i. getD (now (rewards .entry)) i 0) (λ _. 0) in

@@ -6,7 +6,7 @@ ghost use Rattle.meaning.specs.Row.{width};
 ghost use Rattle.meaning.specs.Outcome.{cleared};
 ghost use Rattle.chain.specs.Says.{lent};
 ghost use Rattle.engines.specs.Row.{Fit};
-ghost use Rattle.engines.specs.Table.{rowAt, Kept, Ready};
+ghost use Rattle.engines.specs.Table.{rowAt, Kept, Fitting};
 ghost use Rattle.engines.specs.Sets.{setsOf};
 ghost use Rattle.engines.specs.Run.{endOf, Begun, runs};
 use crate::first::first_rows;
@@ -57,7 +57,7 @@ fn last(row: &[u64], n: usize, start: usize, rounding: bool) -> Course
 
 // The same, in the work table.
 fn last_of(work: &[u64], n: usize, start: usize, rounding: bool) -> Course
-    requires { ⌜ Ready rounding n (now work) × (start < n) ⌝ }
+    requires { ⌜ Fitting rounding n (now work) × (start < n) ⌝ }
     ensures { λ r. ⌜ r ≡ endOf n start (rowAt n (now (work .entry)) start) ⌝ }
 {
     let a = row_start(n, start);

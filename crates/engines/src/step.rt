@@ -9,7 +9,7 @@ ghost use Rattle.meaning.specs.Row.{width, settled};
 ghost use Rattle.meaning.specs.Refusal.{workSize};
 ghost use Rattle.meaning.specs.Step.{row, combined, renewed, outside, removed};
 ghost use Rattle.engines.specs.Row.{Small, Fit, Became};
-ghost use Rattle.engines.specs.Table.{rowAt, tableOf, Placed, Renewed, Ready};
+ghost use Rattle.engines.specs.Table.{rowAt, tableOf, Placed, Renewed, Fitting};
 ghost use Rattle.engines.specs.Turn.{Turned};
 use crate::row::REWARD;
 use crate::row::settle;
@@ -138,7 +138,7 @@ fn renew_all(
     pivot: &[u64; Chain::WIDTH],
     rounding: bool,
 ) -> bool
-    requires { ⌜ Ready rounding n (now work) × (s < n) × (d ≤ M) × Fit rounding n (now pivot) ⌝ }
+    requires { ⌜ Fitting rounding n (now work) × (s < n) × (d ≤ M) × Fit rounding n (now pivot) ⌝ }
     ensures { λ r.
         let w = now (work .entry) in
         ⌜ Renewed rounding (λ k. renewed rounding n s d (now (pivot .entry)) (eqb k s) (rowAt n w k)) n w (now (work .exit)) r ⌝ }
@@ -155,7 +155,7 @@ fn renew_all(
 
 // Removes the state s from the table.
 pub(crate) fn remove(work: &mut [u64], n: usize, s: usize, rounding: bool) -> Turn
-    requires { ⌜ Ready rounding n (now work) × (s < n) ⌝ }
+    requires { ⌜ Fitting rounding n (now work) × (s < n) ⌝ }
     ensures { λ r.
         let w = now (work .entry) in
         let t = tableOf n w in

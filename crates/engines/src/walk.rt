@@ -6,7 +6,7 @@ ghost use Rattle.meaning.specs.Number.{choose};
 ghost use Rattle.meaning.specs.Chain.{mostStates};
 ghost use Rattle.meaning.specs.Step.{removed};
 ghost use Rattle.meaning.specs.Stop.{Stuck};
-ghost use Rattle.engines.specs.Table.{tableOf, Ready};
+ghost use Rattle.engines.specs.Table.{tableOf, Fitting};
 ghost use Rattle.engines.specs.Turn.{Turned};
 ghost use Rattle.engines.specs.Order.{going, walked};
 use crate::run::Elimination;
@@ -36,7 +36,7 @@ fn goes(s: usize, e: Elimination) -> bool
 
 // The turn of the state s.
 fn turn(work: &mut [u64], e: Elimination, s: usize) -> Turn
-    requires { ⌜ Ready (e .rounding) (e .chain .states) (now work) × (s < e .chain .states) ⌝ }
+    requires { ⌜ Fitting (e .rounding) (e .chain .states) (now work) × (s < e .chain .states) ⌝ }
     ensures { λ r.
         let n = e .chain .states in
         let w = now (work .entry) in
@@ -52,7 +52,7 @@ fn turn(work: &mut [u64], e: Elimination, s: usize) -> Turn
 
 // Takes the states in their order, up to the first position that stops the elimination.
 pub(crate) fn eliminate(work: &mut [u64], e: Elimination, order: &[u64]) -> Walk
-    requires { ⌜ Ready (e .rounding) (e .chain .states) (now work) × (length (now order) ≡ e .chain .states) ⌝ }
+    requires { ⌜ Fitting (e .rounding) (e .chain .states) (now work) × (length (now order) ≡ e .chain .states) ⌝ }
     requires { ⌜ ((p : ℕ) → p < e .chain .states → getD (now order) p 0 < e .chain .states) ⌝ }
     ensures { λ r. ⌜ walked (e .rounding) (e .chain .states) (going e) (now (order .entry)) (now (work .entry)) (now (work .exit)) r ⌝ }
 {

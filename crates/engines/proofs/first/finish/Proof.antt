@@ -3,14 +3,14 @@ use lib.ListN.{length-set}
 use borrow.Author.Needs.{needs}
 use Rattle.engines.specs.First.{finished}
 use Rattle.engines.proofs.Rows.{tested-fit, became}
-use Rattle.engines.proofs.Cells.{earned-sized, earned-unpaid}
+use Rattle.engines.proofs.Cells.{earned-summable, earned-unpaid}
 use Rattle.engines.proofs.first.finish.Statement.{statement}
 use Rattle.engines.proofs.first.finish.Tie as tie
 
 settle-requires : tie.Need-settle-requires
 settle-requires c κs =
     let h = c .before .before .before .pre in
-    (earned-sized (h .2) (h .0) (c .before .if1 .taken), earned-unpaid (h .2) (h .0))
+    (earned-summable (h .2) (h .0) (c .before .if1 .taken), earned-unpaid (h .2) (h .0))
 
 same-length : tie.Need-same-length
 same-length c = c .before .before .settle .kept .0 ∙ simp length-set

@@ -2,7 +2,7 @@ use borrow.Author.Needs.{needs}
 use Rattle.meaning.specs.Chain.{Chain}
 use Rattle.meaning.specs.Step.{Sets}
 use Rattle.engines.specs.Sets.{chainOf, setsOf}
-use Rattle.engines.proofs.FirstRows.{asked-gatherable, asked-finishable, first-made}
+use Rattle.engines.proofs.FirstRows.{makeable-gatherable, makeable-finishable, first-made}
 use Rattle.engines.proofs.first.first_rows.Statement.{statement}
 use Rattle.engines.proofs.first.first_rows.Tie as tie
 
@@ -17,14 +17,14 @@ gather-requires : tie.Need-gather-requires
 gather-requires c κs =
     let s = c .before .before .before .before .before .before .before in
     let a = s .args in
-    asked-gatherable (chain s) (k s) (a .e .rounding) (a .rewards .now) (a .work .now) (s .pre)
+    makeable-gatherable (chain s) (k s) (a .e .rounding) (a .rewards .now) (a .work .now) (s .pre)
 
 finish-all-requires : tie.Need-finish-all-requires
 finish-all-requires c κs =
     let g = c .before .before .before in
     let s = g .before .before .before .before .before .before .before .before in
     let a = s .args in
-    asked-finishable (chain s) (k s) (a .e .rounding) (a .rewards .now) (a .work .now) (s .pre) _ (g .gather .ensures)
+    makeable-finishable (chain s) (k s) (a .e .rounding) (a .rewards .now) (a .work .now) (s .pre) _ (g .gather .ensures)
 
 returns : tie.Need-returns
 returns c =

@@ -14,7 +14,7 @@ use Rattle.engines.specs.Order.{going, Finished}
 use Rattle.engines.specs.declared.walk.Walk.the-variants.{Done}
 use Rattle.engines.specs.Turn.{Reached}
 use Rattle.engines.proofs.Tables.{kept-same, kept-more}
-use Rattle.engines.proofs.Turns.{reached-ready}
+use Rattle.engines.proofs.Turns.{reached-fitting}
 use Rattle.engines.proofs.Course.{runs-won, runs-lost, start-live, stops-first, stops-unfit, stops-stuck, reads, walk-done, walk-kept}
 use Rattle.engines.proofs.run.follow.Statement.{statement}
 use Rattle.engines.proofs.run.follow.Tie as tie
@@ -74,7 +74,7 @@ eliminate-requires c κs =
     let at = c .before .before .before .before in
     let s = start-of (at .before .before) in
     let z = at .first-rows .ensures .reached (not-false _ (c .before .if3 .left)) in
-    ((reached-ready (begun s .asked .few) (begun s .asked .room) z, begun s .orders), begun s .inside)
+    ((reached-fitting (begun s .asked .few) (begun s .asked .room) z, begun s .orders), begun s .inside)
 
 -- The walk, and what it began with.
 abbrev begun-at : tie.After-eliminate → tie.Else2
@@ -135,7 +135,7 @@ last-of-requires c κs =
     let at = c .before .before .before .before .before in
     let s = from at in
     let z = begins at .kept .len in
-    (reached-ready (begun s .asked .few) (omega (arith, begun s .asked .room)) (done at (c .before .enum-told .given .1) .reached), begun s .start)
+    (reached-fitting (begun s .asked .few) (omega (arith, begun s .asked .room)) (done at (c .before .enum-told .given .1) .reached), begun s .start)
 
 same-length-4 : tie.Need-same-length-4
 same-length-4 c = kept (c .before .before .before .before .before .before) .len

@@ -1,6 +1,6 @@
 use native.Mathlib.Omega.{arith}
 use borrow.Author.Needs.{needs}
-use Rattle.engines.proofs.Rows.{fit-small, combined-sized, combined-unpaid}
+use Rattle.engines.proofs.Rows.{fit-small, combined-summable, combined-unpaid}
 use Rattle.engines.proofs.step.change.Statement.{statement}
 use Rattle.engines.proofs.step.change.Tie as tie
 
@@ -16,7 +16,7 @@ settle-requires c κs =
     let a = p .before .before .before .args in
     let h = p .before .before .before .pre in
     rw (p .combine .ensures) (
-      combined-sized (a .rounding) (a .n) (a .s) (a .d) (a .pivot .now) (a .row .now) (h .0) (h .2) (h .4) (h .5) (h .3),
+      combined-summable (a .rounding) (a .n) (a .s) (a .d) (a .pivot .now) (a .row .now) (h .0) (h .2) (h .4) (h .5) (h .3),
       combined-unpaid (a .rounding) (a .n) (a .s) (a .d) (a .pivot .now) (a .row .now) (h .0) (h .2) (h .4) (h .5),
     )
 

@@ -4,7 +4,7 @@ use borrow.Author.Needs.{needs}
 use Rattle.meaning.specs.Step.{after}
 use Rattle.engines.specs.Table.{tableOf}
 use Rattle.engines.specs.Order.{going}
-use Rattle.engines.proofs.Turns.{Eliminating, eliminating-none, eliminating-ready, eliminating-more, eliminating-overflown, eliminating-blocked, eliminating-all}
+use Rattle.engines.proofs.Turns.{Eliminating, eliminating-none, eliminating-fitting, eliminating-more, eliminating-overflown, eliminating-blocked, eliminating-all}
 use Rattle.engines.proofs.walk.eliminate.Statement.{statement}
 use Rattle.engines.proofs.walk.eliminate.Tie as tie
 
@@ -22,7 +22,7 @@ loop-holds c = eliminating-none (c .before .before .before .pre .0 .0)
 turn-requires : tie.Need-turn-requires Inv-loop μ-loop
 turn-requires c κs =
     let h = c .before .before .before .before .before .before .before .pre in
-    (eliminating-ready (c .before .before .before .loop .inv) (h .0 .0), h .1 _ (c .before .before .loop-test .taken))
+    (eliminating-fitting (c .before .before .before .loop .inv) (h .0 .0), h .1 _ (c .before .before .loop-test .taken))
 
 returns : tie.Need-returns Inv-loop μ-loop
 returns c = eliminating-overflown (c .before .before .before .before .before .before .before .before .loop .inv) (c .before .before .before .before .before .before .before .loop-test .taken) (c .before .before .before .before .turn .ensures) (c .enum-told2 .given .1)
