@@ -2,7 +2,6 @@ use mathlib.Core.Path.{refl}
 use mathlib.Core.List.{[]}
 use native.Mathlib.Omega.{arith}
 use borrow.Author.Needs.{needs}
-use Rattle.meaning.specs.Row.{rounding}
 use Rattle.meaning.specs.Refusal.{Lent, plain, WellFormed}
 use Rattle.meaning.specs.Outcome.{refused}
 use Rattle.chain.specs.Says.{lent}
@@ -30,7 +29,7 @@ of-requires c κs = let m = l (c .before .before) in (start-fits plain m (formed
 run-requires : tie.Need-run-requires
 run-requires c κs =
     let at = c .before .before .before in
-    begun plain (l (at .before .before)) (formed at) rounding _ refl refl (λ _. refl) (c .before .before .of .ensures _ .right)
+    begun plain (l (at .before .before)) (formed at) _ _ refl refl (λ _. refl) (c .before .before .of .ensures _ .right)
 
 add-new : tie.Need-add-new
 add-new c =

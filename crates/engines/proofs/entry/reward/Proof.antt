@@ -33,7 +33,7 @@ clear-work-requires : tie.Need-clear-work-requires
 clear-work-requires c κs =
     let at = c .before .before .before in
     let m = l (at .before .before) in
-    (few-states paid m (formed at), room paid m (formed at) refl)
+    (omega (arith, few-states paid m (formed at)), omega (arith, room paid m (formed at) refl))
 
 returns-2 : tie.Need-returns-2
 returns-2 c =

@@ -10,7 +10,7 @@ clear-work-requires : tie.Need-clear-work-requires
 clear-work-requires c κs =
     let h = c .before .before .before .before .before .before .before .before .before .before .before .pre .asked in
     let k = c .before .before .before .before .follow .ensures .0 .len in
-    (h .few, omega (arith, h .room))
+    (omega (arith, h .few), omega (arith, h .room))
 
 same-length : tie.Need-same-length
 same-length c = c .before .before .clear-work .kept .0 ∙ c .before .before .before .before .before .before .before .follow .ensures .0 .len
