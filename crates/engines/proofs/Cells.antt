@@ -14,69 +14,70 @@ use lib.Seq.{drop-at, getD-set-same, getD-set-other, take-set-le, take-set-lt, d
 use borrow.Author.Tests.{eq-eqb, ne-eqb}
 use Rattle.meaning.specs.Number.{sumTo, only, bit}
 use Rattle.meaning.specs.Chain.{M, edgeCount, from, to, weight, carried, flow, rowSum}
-use Rattle.meaning.specs.Row.{Row, cell, reward, rounding}
+use Rattle.meaning.specs.Row.{Row, cell, reward, rounding, width, rewardColumn}
+use Rattle.meaning.specs.Refusal.{workSize}
 use Rattle.meaning.specs.Step.{Sets, noRow}
 use Rattle.theory.specs.Sum.{same, sum-ext, sum-le, sum-next, sum-up}
 use Rattle.theory.specs.Tab.{tab-of}
-use Rattle.engines.specs.Row.{Sized}
+use Rattle.engines.specs.Row.{Summable}
 use Rattle.engines.specs.Table.{rowAt, Kept, Put}
-use Rattle.engines.specs.First.{columnOf, share, Added, Held, Addable, Gathered}
+use Rattle.engines.specs.First.{columnOf, share, Added, Held, Addable, Unfinished}
 use Rattle.engines.proofs.Tables.{kept-same, kept-more, row-end, row-cell, length-row}
 
 -- The number in column j of row i.
-module _ (n : ℕ) (w : List ℕ) (i : ℕ) (b : i < n) (j : ℕ) (h : j < n + 4) where
-  put-other : (x k : ℕ) → k < n → (k ≡ i → ⊥) → rowAt n (set w (i * (n + 4) + j) x) k ≡ rowAt n w k
+module _ (n : ℕ) (w : List ℕ) (i : ℕ) (b : i < n) (j : ℕ) (h : j < width n) where
+  put-other : (x k : ℕ) → k < n → (k ≡ i → ⊥) → rowAt n (set w (i * width n + j) x) k ≡ rowAt n w k
   unfolding rowAt
   put-other x k l d =
       dite (decLt k i)
       (λ z.
-      let s : ℕ = i * (n + 4) + j - k * (n + 4) in
-      let g : n + 4 ≤ s = omega (arith, row-end k i z, mul-le-mul-right (n + 4) z) in
-      let q : i * (n + 4) + j ≡ k * (n + 4) + s = omega (arith, mul-le-mul-right (n + 4) z) in
-      ap (λ (p : ℕ). take (n + 4) (drop (k * (n + 4)) (set w p x))) q
-      ∙ ap (take (n + 4)) (drop-set-add (k * (n + 4)) w s x)
-      ∙ take-set-le (n + 4) (drop (k * (n + 4)) w) s x g)
+      let s : ℕ = i * width n + j - k * width n in
+      let g : width n ≤ s = omega (arith, row-end k i z, mul-le-mul-right (width n) z) in
+      let q : i * width n + j ≡ k * width n + s = omega (arith, mul-le-mul-right (width n) z) in
+      ap (λ (p : ℕ). take (width n) (drop (k * width n) (set w p x))) q
+      ∙ ap (take (width n)) (drop-set-add (k * width n) w s x)
+      ∙ take-set-le (width n) (drop (k * width n) w) s x g)
       (λ z.
       let z' : i < k = omega arith in
-      ap (take (n + 4)) (drop-set-lt (k * (n + 4)) w (i * (n + 4) + j) x (omega (arith, mul-le-mul-right (n + 4) z'))))
+      ap (take (width n)) (drop-set-lt (k * width n) w (i * width n + j) x (omega (arith, mul-le-mul-right (width n) z'))))
 
-  pub put-cell : (x : ℕ) → Put n w i (set (rowAt n w i) j x) (set w (i * (n + 4) + j) x)
+  pub put-cell : (x : ℕ) → Put n w i (set (rowAt n w i) j x) (set w (i * width n + j) x)
   unfolding rowAt
   put-cell x =
       record {
         kept = record {
-          len = length-set w (i * (n + 4) + j) x;
-          past = drop-set-lt (n * (n + 4)) w (i * (n + 4) + j) x (omega (arith, row-end i n b));
+          len = length-set w (i * width n + j) x;
+          past = drop-set-lt (workSize n) w (i * width n + j) x (omega (arith, row-end i n b));
         };
-        here = ap (take (n + 4)) (drop-set-add (i * (n + 4)) w j x) ∙ take-set-lt (n + 4) (drop (i * (n + 4)) w) j x h;
+        here = ap (take (width n)) (drop-set-add (i * width n) w j x) ∙ take-set-lt (width n) (drop (i * width n) w) j x h;
         other = put-other x;
       }
 
 -- A row of zeros is that of a state that is not kept.
-pub zero-row : (n : ℕ) (w : List ℕ) → n * (n + 4) ≤ length w → (i : ℕ) → i < n → ((j : ℕ) → j < n + 4 → cell (rowAt n w i) j ≡ 0) → rowAt n w i ≡ noRow n
+pub zero-row : (n : ℕ) (w : List ℕ) → workSize n ≤ length w → (i : ℕ) → i < n → ((j : ℕ) → j < width n → cell (rowAt n w i) j ≡ 0) → rowAt n w i ≡ noRow n
 unfolding noRow
-zero-row n w room i b h = tab-of 0 (n + 4) (λ _. 0) (rowAt n w i) (length-row n w room i b) h
+zero-row n w room i b h = tab-of 0 (width n) (λ _. 0) (rowAt n w i) (length-row n w room i b) h
 
 -- The work table w once its table is zero.
-module _ (n : ℕ) (w v : List ℕ) (room : n * (n + 4) ≤ length w) (e : v ≡ replicate (n * (n + 4)) 0 ++ drop (n * (n + 4)) w) where
+module _ (n : ℕ) (w v : List ℕ) (room : workSize n ≤ length w) (e : v ≡ replicate (workSize n) 0 ++ drop (workSize n) w) where
   pub zeros-kept : Kept n w v
   zeros-kept =
-      let size = n * (n + 4) in
+      let size = workSize n in
       let z : length {A = ℕ} (replicate size 0) ≡ size = length-replicate size 0 in
       record {
         len = ap length e ∙ length-append (replicate size 0) (drop size w) ∙ rw (z, length-drop) (omega arith);
         past = ap (drop size) e ∙ drop-at (replicate size 0) (drop size w) size z;
       }
 
-  pub zeros-at : (i j : ℕ) → i < n → j < n + 4 → cell (rowAt n v i) j ≡ 0
+  pub zeros-at : (i j : ℕ) → i < n → j < width n → cell (rowAt n v i) j ≡ 0
   zeros-at i j b h =
-      let size = n * (n + 4) in
-      let l : i * (n + 4) + j < n * (n + 4) = omega (arith, row-end i n b) in
+      let size = workSize n in
+      let l : i * width n + j < workSize n = omega (arith, row-end i n b) in
       let z : length {A = ℕ} (replicate size 0) ≡ size = length-replicate size 0 in
       row-cell n v i j h
-      ∙ ap (λ (x : List ℕ). getD x (i * (n + 4) + j) 0) e
-      ∙ List·getD-append (replicate size 0) (drop size w) 0 (i * (n + 4) + j) (rw z l)
-      ∙ getD-replicate size (i * (n + 4) + j) 0 0 l
+      ∙ ap (λ (x : List ℕ). getD x (i * width n + j) 0) e
+      ∙ List·getD-append (replicate size 0) (drop size w) 0 (i * width n + j) (rw z l)
+      ∙ getD-replicate size (i * width n + j) 0 0 l
 
 only-none : (b : Bool) → only b 0 ≡ 0
 only-none true = refl
@@ -130,9 +131,9 @@ module _ (n : ℕ) (k : Sets) (edges : List ℕ) (e : ℕ) where
             (same (from edges e) i);
       }
 
-  module _ (w v : List ℕ) (room : n * (n + 4) ≤ length w) (i j x : ℕ) (b : i < n) (h : j < n + 4) (l : bit (k .live) i ≡ 1) (fi : i ≡ from edges e)
+  module _ (w v : List ℕ) (room : workSize n ≤ length w) (i j x : ℕ) (b : i < n) (h : j < width n) (l : bit (k .live) i ≡ 1) (fi : i ≡ from edges e)
       (cj : j ≡ columnOf n k (to edges e)) (wx : x ≡ weight edges e) (p : Put n w i (set (rowAt n w i) j (cell (rowAt n w i) j + x)) v) where
-    row-added : (s : ℕ) → s < n + 4 → cell (rowAt n v i) s ≡ cell (rowAt n w i) s + share n k edges i s e
+    row-added : (s : ℕ) → s < width n → cell (rowAt n v i) s ≡ cell (rowAt n w i) s + share n k edges i s e
     row-added s d =
         ap (λ (z : Row). cell z s) (p .here)
         ∙ ⊎-elim
@@ -164,7 +165,7 @@ pub record Gathering (n : ℕ) (k : Sets) (edges w : List ℕ) (e : ℕ) (v : Li
   pub held : Held n (λ i j. sumTo (share n k edges i j) e) w v
 
 module _ {n : ℕ} {k : Sets} {edges : List ℕ} {w : List ℕ} where
-  pub gathering-none : ((i j : ℕ) → i < n → j < n + 4 → cell (rowAt n w i) j ≡ 0) → Gathering n k edges w 0 w
+  pub gathering-none : ((i j : ℕ) → i < n → j < width n → cell (rowAt n w i) j ≡ 0) → Gathering n k edges w 0 w
   unfolding sumTo
   gathering-none h = record { upto = omega arith; held = record { kept = kept-same n w; cells = h } }
 
@@ -188,7 +189,7 @@ module _ {n : ℕ} {k : Sets} {edges : List ℕ} {w : List ℕ} where
         record { kept = g .held .kept; cells = λ i j b h. g .held .cells i j b h ∙ ap (sumTo (share n k edges i j)) q }
 
     -- What is gathered so far and the next weight are part of a row sum.
-    pub gathering-addable : n ≤ 64 → n * (n + 4) ≤ length w → e < edgeCount edges → from edges e < n → to edges e < n → rowSum edges (from edges e) ≤ M
+    pub gathering-addable : n ≤ 64 → workSize n ≤ length w → e < edgeCount edges → from edges e < n → to edges e < n → rowSum edges (from edges e) ≤ M
         → Addable n edges e v
     unfolding flow carried
     gathering-addable few room l s t m =
@@ -211,15 +212,15 @@ module _ {n : ℕ} {k : Sets} {edges : List ℕ} {w : List ℕ} where
         }
 
 -- A row with what it earns.
-module _ {b : Bool} {n : ℕ} {alive : Bool} {x : ℕ} {r : Row} (g : Gathered b n alive x r) (l : length r ≡ n + 4) where
-  pub earned-sized : alive ≡ true → Sized n (set r (n + 3) x)
-  earned-sized e =
+module _ {b : Bool} {n : ℕ} {alive : Bool} {x : ℕ} {r : Row} (g : Unfinished b n alive x r) (l : length r ≡ width n) where
+  pub earned-summable : alive ≡ true → Summable n (set r (rewardColumn n) x)
+  earned-summable e =
       record {
-        columns = length-set r (n + 3) x ∙ l;
+        columns = length-set r (rewardColumn n) x ∙ l;
         bound =
-            rw (sum-ext (cell (set r (n + 3) x)) (cell r) (n + 3) (λ j h. getD-set-other r (n + 3) j x 0 (λ q. omega arith)))
+            rw (sum-ext (cell (set r (rewardColumn n) x)) (cell r) (rewardColumn n) (λ j h. getD-set-other r (rewardColumn n) j x 0 (λ q. omega arith)))
             (g .bound e);
       }
 
-  pub earned-unpaid : b ≡ rounding → reward n (set r (n + 3) x) ≡ 0
-  earned-unpaid e = getD-set-same r (n + 3) x 0 (omega arith) ∙ g .unpaid e
+  pub earned-unpaid : b ≡ rounding → reward n (set r (rewardColumn n) x) ≡ 0
+  earned-unpaid e = getD-set-same r (rewardColumn n) x 0 (omega arith) ∙ g .unpaid e

@@ -4,15 +4,18 @@ use mathlib.Core.Path.{_≡_, refl, sym, ap, subst, _∙_}
 use mathlib.Core.Bool.{Bool}
 use mathlib.Core.List.{List, _++_}
 use lib.ListN.{drop, replicate}
-use Rattle.meaning.specs.Step.{Table, row, Sets, goes, first, after}
+use Rattle.meaning.specs.Number.{bit}
+use Rattle.meaning.specs.Chain.{mostStates, FromStart, Live}
+use Rattle.meaning.specs.Step.{Table, row, Sets, Right, goes, first, after}
 use Rattle.meaning.specs.Refusal.{Lent, workSize}
-use Rattle.meaning.specs.Stop.{earns, tableAt, Passed, Stops}
+use Rattle.meaning.specs.Stop.{earns, tableAt, Unfit, Passed, Stops, Stopped}
 use Rattle.meaning.specs.Outcome.{cleared}
 use Rattle.engines.specs.Table.{rowAt, tableOf, Kept}
 use Rattle.engines.specs.Turn.{Reached}
-use Rattle.engines.specs.Order.{Clear, Finished, walked}
-use Rattle.engines.specs.Run.{endOf, runs}
+use Rattle.engines.specs.Order.{UnstoppedWalk, Finished, walked}
+use Rattle.engines.specs.Run.{endOf, won, lost, live, runs}
 use Rattle.engines.specs.declared.run.Course.{Course}
+use Rattle.engines.specs.declared.run.Course.the-variants.{Ends}
 use Rattle.engines.specs.declared.walk.Walk.{Walk}
 use Rattle.engines.specs.declared.walk.Walk.the-variants.{Done, NoFit, NoWay}
 use Rattle.engines.proofs.Removal.{row-is}
@@ -21,7 +24,27 @@ use Rattle.engines.proofs.Removal.{row-is}
 pub reached-row : {b : Bool} {n : ℕ} {t : Table} {w v : List ℕ} → Reached b n t w v → (i : ℕ) → i < n → rowAt n v i ≡ row t i
 reached-row {n = n} {v = v} z i h = sym (row-is n v i h) ∙ ap (λ (t : Table). row t i) (z .same)
 
-module _ (b : Bool) (l : Lent) (k : Sets) where
+-- Whatever ends the walk, the numbers past the table stay.
+pub walk-kept : (b : Bool) (n : ℕ) (go : ℕ → Bool) (o v u : List ℕ) (r : Walk) → walked b n go o v u r → Kept n v u
+walk-kept b n go o v u Done z = z .reached .kept
+walk-kept b n go o v u (NoFit p) z = z .kept
+walk-kept b n go o v u (NoWay p) z = z .kept
+
+pub walk-done : (b : Bool) (n : ℕ) (go : ℕ → Bool) (o v u : List ℕ) (r : Walk) → walked b n go o v u r → r ≡ Done
+    → Finished b n go o (after b n go o (tableOf n v)) v u
+walk-done b n go o v u r z e = subst (walked b n go o v u) e z
+
+module _ (b : Bool) (l : Lent) (k : Sets) (right : Right (l .chain) k) where
+  -- How the start stands: it is a goal, has no path to one, or is live.
+  pub runs-won : bit (l .chain .goals) (l .chain .start) ≡ 1 → {c : Course} → c ≡ Ends 1 0 0 1 → runs b l c
+  runs-won h q = subst (runs b l) (sym q) (won h refl)
+
+  pub runs-lost : (bit (k .good) (l .chain .start) ≡ 1 → ⊥) → {c : Course} → c ≡ Ends 0 0 0 1 → runs b l c
+  runs-lost h q = subst (runs b l) (sym q) (lost (λ g. h (right .good (l .chain .start) .1 g)) refl)
+
+  pub start-live : (bit (l .chain .goals) (l .chain .start) ≡ 1 → ⊥) → bit (k .good) (l .chain .start) ≡ 1 → Live (l .chain) (l .chain .start)
+  start-live h g = record { unwon = h; reached = FromStart.begin; leads = right .good (l .chain .start) .0 g }
+
   abbrev n : ℕ
   n = l .chain .states
 
@@ -31,37 +54,37 @@ module _ (b : Bool) (l : Lent) (k : Sets) where
   abbrev go : ℕ → Bool
   go = goes (l .chain .start) (k .live)
 
-  -- The walk through the order, which begins with the first table, in v.
-  module _ (v u : List ℕ) (same : tableOf n v ≡ firstTable) (r : Walk) (z : walked b n go (l .order) v u r) where
-    passed : (p : ℕ) → Clear b n go (l .order) (after b n go (l .order) (tableOf n v)) p → Passed b l k p
-    passed p c = record { fits = rw same at (c .fits); turns = rw same at (c .turns) }
+  -- The elimination is begun: the start is live.
+  module _ (alive : Live (l .chain) (l .chain .start)) where
+    stops : {number place : ℕ} → Stops b l k number place → Stopped b l number place
+    stops z = record { sets = k; right = right; alive = alive; stops = z }
 
-    pub stops-unfit : (p : ℕ) → r ≡ NoFit p → Stops b l k 12 p
-    stops-unfit p e =
-        let o = subst (walked b n go (l .order) v u) e z in
-        Stops.in-step p (o .inside) (passed p (o .clear)) (rw same at (o .free)) (rw same at (o .unfit))
+    pub stops-first : Unfit b n firstTable → Stopped b l 12 mostStates
+    unfolding after
+    stops-first u = stops (Stops.before-steps u)
 
-    pub stops-stuck : (p : ℕ) → r ≡ NoWay p → Stops b l k 13 p
-    stops-stuck p e =
-        let o = subst (walked b n go (l .order) v u) e z in
-        Stops.at-turn p (o .inside) (passed p (o .clear)) (rw same at (o .stuck))
+    -- The walk through the order, which begins with the first table, in v.
+    module _ (v u : List ℕ) (same : tableOf n v ≡ firstTable) (r : Walk) (z : walked b n go (l .order) v u r) where
+      passed : (p : ℕ) → UnstoppedWalk b n go (l .order) (after b n go (l .order) (tableOf n v)) p → Passed b l k p
+      passed p c = record { fits = rw same at (c .fits); turns = rw same at (c .turns) }
 
-    pub ends : r ≡ Done → Finished b n go (l .order) (after b n go (l .order) (tableOf n v)) v u
-    ends e = subst (walked b n go (l .order) v u) e z
+      pub stops-unfit : (p : ℕ) → r ≡ NoFit p → Stopped b l 12 p
+      stops-unfit p e =
+          let o = subst (walked b n go (l .order) v u) e z in
+          stops (Stops.in-step p (o .inside) (passed p (o .clear)) (rw same at (o .free)) (rw same at (o .unfit)))
 
-    -- What is read off the start's row then.
-    pub reads : l .chain .start < n → r ≡ Done → (c : Course) → c ≡ endOf n (l .chain .start) (rowAt n u (l .chain .start)) → runs b l k c
-    reads h e c q =
-        let f = ends e in
-        let at : rowAt n u (l .chain .start) ≡ row (tableAt b l k n) (l .chain .start) =
-        reached-row (f .reached) (l .chain .start) h ∙ ap (λ (t : Table). row (after b n go (l .order) t n) (l .chain .start)) same in
-        subst (runs b l k) (sym (q ∙ ap (endOf n (l .chain .start)) at)) (record { passed = passed n (f .clear); read = refl })
+      pub stops-stuck : (p : ℕ) → r ≡ NoWay p → Stopped b l 13 p
+      stops-stuck p e =
+          let o = subst (walked b n go (l .order) v u) e z in
+          stops (Stops.at-turn p (o .inside) (passed p (o .clear)) (rw same at (o .stuck)))
 
--- Whatever ends the walk, the numbers past the table stay.
-pub walk-kept : (b : Bool) (n : ℕ) (go : ℕ → Bool) (o v u : List ℕ) (r : Walk) → walked b n go o v u r → Kept n v u
-walk-kept b n go o v u Done z = z .reached .kept
-walk-kept b n go o v u (NoFit p) z = z .kept
-walk-kept b n go o v u (NoWay p) z = z .kept
+      -- What is read off the start's row then.
+      pub reads : l .chain .start < n → r ≡ Done → (c : Course) → c ≡ endOf n (l .chain .start) (rowAt n u (l .chain .start)) → runs b l c
+      reads h e c q =
+          let f = walk-done b n go (l .order) v u r z e in
+          let at : rowAt n u (l .chain .start) ≡ row (tableAt b l k n) (l .chain .start) =
+          reached-row (f .reached) (l .chain .start) h ∙ ap (λ (t : Table). row (after b n go (l .order) t n) (l .chain .start)) same in
+          subst (runs b l) (sym (q ∙ ap (endOf n (l .chain .start)) at)) (live k right alive (record { passed = passed n (f .clear); read = refl }))
 
 -- The work table once it is cleared, whatever stood in its rows.
 pub cleared-kept : (l : Lent) {v u : List ℕ} → Kept (l .chain .states) (l .work) v

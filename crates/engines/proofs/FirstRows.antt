@@ -10,12 +10,11 @@ use lib.ListN.{length, getD, set, length-set}
 use lib.Seq.{ext-getD, getD-set-same, getD-set-other}
 use borrow.Author.Tests.{eq-eqb, ne-eqb, eqb-true, eqb-false}
 use Rattle.meaning.specs.Number.{sumTo, only, choose, bit}
-use Rattle.meaning.specs.Chain.{mostReward, mostStates, Chain, denominator, edgeCount, from, to, carried, flow, along}
+use Rattle.meaning.specs.Chain.{mostReward, Chain, denominator, edgeCount, from, to, carried, flow, along}
 use Rattle.meaning.specs.Figure.{earned}
-use Rattle.meaning.specs.Row.{cell, total, rounding}
-use Rattle.meaning.specs.Step.{row, Sets, Right, given, firstRow, noRow, first, after}
+use Rattle.meaning.specs.Row.{cell, trapColumn, unknownColumn, total, rounding}
+use Rattle.meaning.specs.Step.{row, Sets, Right, given, firstRow, noRow, first}
 use Rattle.meaning.specs.Refusal.{Lent, Entry, WellFormed}
-use Rattle.meaning.specs.Stop.{earns, Stops}
 use Rattle.theory.specs.Sum.{same, below, sum-ext, sum-zero}
 use Rattle.theory.specs.Tab.{tab-ext}
 use Rattle.theory.specs.Flow.{flow-ext}
@@ -23,8 +22,7 @@ use Rattle.theory.specs.Given.{Fate, live, won, lost, Alive, goes-to, given-sta
 use Rattle.theory.specs.First.{first-row}
 use Rattle.theory.specs.Formed.{few-states, room, formed-fine, from-in, denominators-length, denominator-small, reward-small, reward-none}
 use Rattle.engines.specs.Table.{rowAt, Renewed}
-use Rattle.engines.specs.Turn.{Unfit}
-use Rattle.engines.specs.First.{columnOf, share, Held, Gatherable, finished, finishedAt, Finishable, Asked, Made}
+use Rattle.engines.specs.First.{columnOf, share, Held, Gatherable, finished, finishedAt, Finishable, Makeable, Made}
 use Rattle.engines.proofs.Rows.{noRow-fit}
 use Rattle.engines.proofs.Tables.{kept-more, length-row}
 use Rattle.engines.proofs.Cells.{zero-row, share-dead, share-live}
@@ -51,7 +49,7 @@ module _ (c : Chain) (k : Sets) where
     unfolding columnOf
     column-won l g = rw (ne-eqb (bit (k .live) t) 1 (omega arith), eq-eqb (bit (k .good) t) 1 g)
 
-    column-lost : bit (k .live) t ≡ 0 → bit (k .good) t ≡ 0 → columnOf n k t ≡ n + 1
+    column-lost : bit (k .live) t ≡ 0 → bit (k .good) t ≡ 0 → columnOf n k t ≡ trapColumn n
     unfolding columnOf
     column-lost l g = rw (ne-eqb (bit (k .live) t) 1 (omega arith), ne-eqb (bit (k .good) t) 1 (omega arith))
 
@@ -61,34 +59,34 @@ module _ (c : Chain) (k : Sets) where
       in-live h m (won a b d) =
           rw (column-won a d, ne-eqb n j (omega arith), ne-eqb t j (λ q. omega (arith, ap (bit (k .live)) q)))
       in-live h m (lost a b d) =
-          rw (column-lost a d, ne-eqb (n + 1) j (omega arith), ne-eqb t j (λ q. omega (arith, ap (bit (k .live)) q)))
+          rw (column-lost a d, ne-eqb (trapColumn n) j (omega arith), ne-eqb t j (λ q. omega (arith, ap (bit (k .live)) q)))
 
       in-dead : j < n → (bit (k .live) j ≡ 1 → ⊥) → Fate c k t → only (eqb (columnOf n k t) j) 1 ≡ 0
       in-dead h m (live a b d) = rw (column-live a, ne-eqb t j (λ q. m (sym (ap (bit (k .live)) q) ∙ a)))
       in-dead h m (won a b d) = rw (column-won a d, ne-eqb n j (omega arith))
-      in-dead h m (lost a b d) = rw (column-lost a d, ne-eqb (n + 1) j (omega arith))
+      in-dead h m (lost a b d) = rw (column-lost a d, ne-eqb (trapColumn n) j (omega arith))
 
     in-goal : t < n → Fate c k t → only (eqb (columnOf n k t) n) 1 ≡ bit (c .goals) t
     in-goal h (live a b d) = rw (column-live a, ne-eqb t n (omega arith), b)
     in-goal h (won a b d) = rw (column-won a d, eq-eqb n n refl, b)
-    in-goal h (lost a b d) = rw (column-lost a d, ne-eqb (n + 1) n (omega arith), b)
+    in-goal h (lost a b d) = rw (column-lost a d, ne-eqb (trapColumn n) n (omega arith), b)
 
-    in-trap : t < n → Fate c k t → only (eqb (columnOf n k t) (n + 1)) 1 ≡ 1 - bit (k .good) t
-    in-trap h (live a b d) = rw (column-live a, ne-eqb t (n + 1) (omega arith), d)
-    in-trap h (won a b d) = rw (column-won a d, ne-eqb n (n + 1) (omega arith), d)
-    in-trap h (lost a b d) = rw (column-lost a d, eq-eqb (n + 1) (n + 1) refl, d)
+    in-trap : t < n → Fate c k t → only (eqb (columnOf n k t) (trapColumn n)) 1 ≡ 1 - bit (k .good) t
+    in-trap h (live a b d) = rw (column-live a, ne-eqb t (trapColumn n) (omega arith), d)
+    in-trap h (won a b d) = rw (column-won a d, ne-eqb n (trapColumn n) (omega arith), d)
+    in-trap h (lost a b d) = rw (column-lost a d, eq-eqb (trapColumn n) (trapColumn n) refl, d)
 
-    in-unknown : t < n → Fate c k t → only (eqb (columnOf n k t) (n + 2)) 1 ≡ 0
-    in-unknown h (live a b d) = rw (column-live a, ne-eqb t (n + 2) (omega arith))
-    in-unknown h (won a b d) = rw (column-won a d, ne-eqb n (n + 2) (omega arith))
-    in-unknown h (lost a b d) = rw (column-lost a d, ne-eqb (n + 1) (n + 2) (omega arith))
+    in-unknown : t < n → Fate c k t → only (eqb (columnOf n k t) (unknownColumn n)) 1 ≡ 0
+    in-unknown h (live a b d) = rw (column-live a, ne-eqb t (unknownColumn n) (omega arith))
+    in-unknown h (won a b d) = rw (column-won a d, ne-eqb n (unknownColumn n) (omega arith))
+    in-unknown h (lost a b d) = rw (column-lost a d, ne-eqb (trapColumn n) (unknownColumn n) (omega arith))
 
-  module _ (b : Bool) (rewards work : List ℕ) (a : Asked b c k rewards work) where
+  module _ (b : Bool) (rewards work : List ℕ) (a : Makeable b c k rewards work) where
     abbrev pay : ℕ → ℕ
     pay = earned c (λ i. getD rewards i 0)
 
-    pub asked-gatherable : Gatherable n (c .edges) work
-    asked-gatherable =
+    pub makeable-gatherable : Gatherable n (c .edges) work
+    makeable-gatherable =
         record {
           few = a .few;
           room = a .room;
@@ -169,8 +167,8 @@ module _ (c : Chain) (k : Sets) where
           zero-row n v space i h
           (λ j l. z .cells i j h l ∙ sum-zero (share n k (c .edges) i j) (edgeCount (c .edges)) (λ e _. share-dead n k (c .edges) e i j d))
 
-      pub asked-finishable : Finishable b n (k .live) (c .denominators) rewards v
-      asked-finishable =
+      pub makeable-finishable : Finishable b n (k .live) (c .denominators) rewards v
+      makeable-finishable =
           record {
             few = a .few;
             room = space;
@@ -217,7 +215,7 @@ module _ (c : Chain) (k : Sets) where
 
 -- What a well-formed input has. The bounds engine is lent no rewards.
 pub first-given : (b : Bool) (x : Entry) (l : Lent) (k : Sets) → WellFormed x l → x .work ≡ true → (b ≡ rounding → x .rewards ≡ false) → Right (l .chain) k
-    → Asked b (l .chain) k (l .rewards) (l .work)
+    → Makeable b (l .chain) k (l .rewards) (l .work)
 first-given b x l k formed lent free right =
     record {
       few = few-states x l formed;
@@ -234,8 +232,3 @@ first-given b x l k formed lent free right =
     go : (p : Bool) → x .rewards ≡ p → (i : ℕ) → i < l .chain .states → getD (l .rewards) i 0 ≤ mostReward
     go true e i h = reward-small x l formed e i h
     go false e i h = omega (arith, reward-none x l formed e i)
-
--- A first row that does not fit stops the elimination before the first step.
-pub first-stops : (b : Bool) (l : Lent) (k : Sets) → Unfit b (l .chain .states) (first b (l .chain) k (earns l) (λ _. 0)) → Stops b l k 12 mostStates
-unfolding after
-first-stops b l k u = Stops.before-steps u

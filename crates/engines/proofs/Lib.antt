@@ -10,7 +10,6 @@ pub mod Members
 pub mod Cells
 pub mod FirstRows
 pub mod Course
-pub mod Figures
 pub mod Looked
 pub mod Surveyed
 pub mod Outcomes

@@ -9,7 +9,7 @@ use native.Mathlib.Nat.{eq-zero-or-pos}
 use Rattle.meaning.specs.Number.{gcdIn, gcd, Reduced}
 use Rattle.meaning.specs.Chain.{M, Chain, FromStart}
 use Rattle.meaning.specs.Figure.{Chance, Missed, Expected}
-use Rattle.meaning.specs.Row.{cell, goalColumn, unknownColumn, exact, rounding}
+use Rattle.meaning.specs.Row.{cell, goalColumn, unknownColumn, exact, rounding, rewardColumn}
 use Rattle.meaning.specs.Row.{reward as rewardIn}
 use Rattle.meaning.specs.Step.{row, Sets, outside}
 use Rattle.meaning.specs.Refusal.{Lent, Entry, plain, paid, Applies, Refused, WellFormed}
@@ -29,8 +29,7 @@ use Rattle.chain.specs.declared.answer.Reward.the-variants as reward
 use Rattle.chain.specs.declared.answer.Bounds.the-variants as bounds
 use Rattle.chain.specs.Answer.{toldChance, toldBounds}
 use Rattle.chain.proofs.Terms.{terms}
-use Rattle.engines.specs.Run.{Ended}
-use Rattle.engines.specs.Figured.{Read, won, lost, live, figured}
+use Rattle.engines.specs.Run.{Ended, Read, won, lost, live, runs}
 use Rattle.engines.specs.Told.{Rewarded}
 use Rattle.engines.specs.declared.run.Course.{Course}
 use Rattle.engines.specs.declared.run.Course.the-variants.{Ends, Stops}
@@ -131,12 +130,12 @@ read-sum l formed (live k right alive z) =
       arith,
       read-goal z,
       read-unknown z,
-      sum-two (cell r) (n + 3) n (n + 2) (omega arith) (omega arith) (omega arith),
+      sum-two (cell r) (rewardColumn n) n (unknownColumn n) (omega arith) (omega arith) (omega arith),
       bounds-fit (l .chain) k (earns l) (l .order) n (l .chain .start) (start-in plain l formed),
     )
 
-pub bounds-sum : (l : Lent) → WellFormed plain l → {r : Course} {g u e d : ℕ} → r ≡ Ends g u e d → figured rounding l r → g + u ≤ M
-bounds-sum l formed q z = read-sum l formed (subst (figured rounding l) q z)
+pub bounds-sum : (l : Lent) → WellFormed plain l → {r : Course} {g u e d : ℕ} → r ≡ Ends g u e d → runs rounding l r → g + u ≤ M
+bounds-sum l formed q z = read-sum l formed (subst (runs rounding l) q z)
 
 -- Number 0 is no refusal.
 pub refused-some : {x : Entry} {l : Lent} {number place : ℕ} → Refused x l number place → 0 < number
@@ -149,23 +148,23 @@ reduced-of {a = a} {b = b} e q = q ∙ ap reduced (ap₂ over (e .0) (e .1))
 
 -- The outcomes, by what the figures are read off.
 module _ (l : Lent) (formed : WellFormed plain l) {w : List ℕ} (s : w ≡ cleared l) {r : Course} where
-  pub chance-answers : {g u e d : ℕ} → r ≡ Ends g u e d → figured exact l r → {f : Fraction} → f ≡ reduced (over g d) → ChanceOutcome l (toldChance (chance.Is f)) w
+  pub chance-answers : {g u e d : ℕ} → r ≡ Ends g u e d → runs exact l r → {f : Fraction} → f ≡ reduced (over g d) → ChanceOutcome l (toldChance (chance.Is f)) w
   chance-answers q z t =
-      let y = subst (figured exact l) q z in
+      let y = subst (runs exact l) q z in
       subst (λ f. ChanceOutcome l (toldChance (chance.Is f)) w) (sym t)
       (answered formed (read-unstopped exact l y) (ChanceFigure.chance _ _ (chance-read l formed y) refl) s)
 
-  pub chance-stops : {number place : ℕ} → r ≡ Stops number place → figured exact l r → ChanceOutcome l (refusal number place) w
-  chance-stops q z = stopped _ _ formed (subst (figured exact l) q z) refl s
+  pub chance-stops : {number place : ℕ} → r ≡ Stops number place → runs exact l r → ChanceOutcome l (refusal number place) w
+  chance-stops q z = stopped _ _ formed (subst (runs exact l) q z) refl s
 
-  pub bounds-answer : {g u e d : ℕ} → r ≡ Ends g u e d → figured rounding l r → {f h : Fraction} → f ≡ reduced (over g d) → h ≡ reduced (over (g + u) d)
+  pub bounds-answer : {g u e d : ℕ} → r ≡ Ends g u e d → runs rounding l r → {f h : Fraction} → f ≡ reduced (over g d) → h ≡ reduced (over (g + u) d)
       → BoundsOutcome l (toldBounds (bounds.Between f h)) w
   bounds-answer q z t v =
-      let y = subst (figured rounding l) q z in
+      let y = subst (runs rounding l) q z in
       rw (t, v) (answered formed (read-unstopped rounding l y) (bounds-read l formed y) s)
 
-  pub bounds-stop : {number place : ℕ} → r ≡ Stops number place → figured rounding l r → BoundsOutcome l (noBounds number place) w
-  bounds-stop q z = stopped _ _ formed (subst (figured rounding l) q z) refl s
+  pub bounds-stop : {number place : ℕ} → r ≡ Stops number place → runs rounding l r → BoundsOutcome l (noBounds number place) w
+  bounds-stop q z = stopped _ _ formed (subst (runs rounding l) q z) refl s
 
 -- A refusal by the numbers 1 to 11 leaves the work table.
 pub reward-refuses : {l : Lent} {number place : ℕ} → Refused paid l number place → Rewarded l (reward.Refused number place) (l .work)
@@ -176,9 +175,9 @@ module _ (l : Lent) (formed : WellFormed paid l) {w : List ℕ} (s : w ≡ clear
   reward-misses m = record { outcome = answered formed (λ number place z. z .0 m) (RewardFigure.missed m refl) s; proper = tt }
 
   module _ (sure : Missed (l .chain) → ⊥) {r : Course} where
-    pub reward-answers : {g u e d : ℕ} → r ≡ Ends g u e d → figured exact l r → {f : Fraction} → f ≡ reduced (over e d) → Rewarded l (reward.Is f) w
+    pub reward-answers : {g u e d : ℕ} → r ≡ Ends g u e d → runs exact l r → {f : Fraction} → f ≡ reduced (over e d) → Rewarded l (reward.Is f) w
     reward-answers q z t =
-        let y = subst (figured exact l) q z in
+        let y = subst (runs exact l) q z in
         let h = reward-read l formed sure y in
         subst (λ f. Rewarded l (reward.Is f) w) (sym t)
         (record {
@@ -186,7 +185,7 @@ module _ (l : Lent) (formed : WellFormed paid l) {w : List ℕ} (s : w ≡ clear
           proper = h .lowest .whole;
         })
 
-    pub reward-stops : {number place : ℕ} → r ≡ Stops number place → figured exact l r → Rewarded l (reward.Refused number place) w
+    pub reward-stops : {number place : ℕ} → r ≡ Stops number place → runs exact l r → Rewarded l (reward.Refused number place) w
     reward-stops q z =
-        let y = subst (figured exact l) q z in
+        let y = subst (runs exact l) q z in
         record { outcome = stopped _ _ formed (sure, y) refl s; proper = omega (arith, stopped-twelve paid l formed refl y) }

@@ -9,13 +9,14 @@ use native.Mathlib.Omega.{arith}
 use lib.Dec.{eqb}
 use lib.ListN.{length}
 use Rattle.meaning.specs.Number.{choose}
-use Rattle.meaning.specs.Row.{Row, cell}
+use Rattle.meaning.specs.Row.{Row, cell, rewardColumn}
 use Rattle.meaning.specs.Step.{row, outside, combined, renewed, removed}
+use Rattle.meaning.specs.Stop.{Unfit}
 use Rattle.theory.specs.Sum.{sum-ext}
 use Rattle.theory.specs.Tab.{tab-at, tab-ext}
-use Rattle.engines.specs.Row.{Fit, Tested}
-use Rattle.engines.specs.Table.{rowAt, tableOf, Kept, Put, Renewed}
-use Rattle.engines.specs.Turn.{Unfit, Reached}
+use Rattle.engines.specs.Row.{Fit}
+use Rattle.engines.specs.Table.{rowAt, tableOf, Kept, Placed, Renewed}
+use Rattle.engines.specs.Turn.{Reached}
 use Rattle.engines.proofs.Rows.{apart}
 use Rattle.engines.proofs.Tables.{kept-same, kept-more}
 
@@ -39,27 +40,27 @@ module _ {b : Bool} {g : ℕ → Row} {n : ℕ} {w : List ℕ} where
       }
 
   module _ {i : ℕ} {v : List ℕ} (z : Renewing b g n w i v) where
-    module _ {u : List ℕ} {answer : Bool} (h : i < n) (p : Put n v i (g i) u) (t : Tested b n (g i) answer) where
+    module _ {u : List ℕ} {answer : Bool} (h : i < n) (p : Placed b n v i (g i) u answer) where
       pub renewing-more : answer ≡ true → Renewing b g n w (i + 1) u
       renewing-more e =
           record {
             upto = omega arith;
-            kept = kept-more (z .kept) (p .kept);
+            kept = kept-more (z .kept) (p .put .kept);
             new =
                 λ k c.
-                dite (decLt k i) (λ l. p .other k (omega arith) (λ q. omega arith) ∙ z .new k l)
-                (λ l. let q : k ≡ i = omega arith in rw q (p .here));
-            old = λ k l c. p .other k c (λ q. omega arith) ∙ z .old k (omega arith) c;
-            fit = λ k c. dite (decLt k i) (λ l. z .fit k l) (λ l. let q : k ≡ i = omega arith in rw q (t .fit e));
+                dite (decLt k i) (λ l. p .put .other k (omega arith) (λ q. omega arith) ∙ z .new k l)
+                (λ l. let q : k ≡ i = omega arith in rw q (p .put .here));
+            old = λ k l c. p .put .other k c (λ q. omega arith) ∙ z .old k (omega arith) c;
+            fit = λ k c. dite (decLt k i) (λ l. z .fit k l) (λ l. let q : k ≡ i = omega arith in rw q (p .tested .fit e));
           }
 
       pub renewing-stop : answer ≡ false → Renewed b g n w u false
       renewing-stop e =
           record {
-            kept = kept-more (z .kept) (p .kept);
+            kept = kept-more (z .kept) (p .put .kept);
             all = λ e. absurd (apart e);
             fit = λ e. absurd (apart e);
-            large = λ _. let l = t .large e in (l .0, (i, (h, l .1)));
+            large = λ _. let l = p .tested .large e in (l .0, (i, (h, l .1)));
           }
 
     pub renewing-all : n ≤ i → Renewed b g n w v true
@@ -86,9 +87,9 @@ renewed-same b n s d p q o r h = rw (combined-same s d p q r h)
 pub fit-same : {b : Bool} (n : ℕ) (p q : Row) → ((j : ℕ) → cell p j ≡ cell q j) → Fit b n q → Fit b n p
 fit-same n p q h f =
     record {
-      weights = rw (sum-ext (cell p) (cell q) (n + 3) (λ j b. h j)) (f .weights);
-      earned = rw (h (n + 3)) (f .earned);
-      unpaid = λ e. h (n + 3) ∙ f .unpaid e;
+      weights = rw (sum-ext (cell p) (cell q) (rewardColumn n) (λ j b. h j)) (f .weights);
+      earned = rw (h (rewardColumn n)) (f .earned);
+      unpaid = λ e. h (rewardColumn n) ∙ f .unpaid e;
     }
 
 pub row-is : (n : ℕ) (w : List ℕ) (i : ℕ) → i < n → row (tableOf n w) i ≡ rowAt n w i

@@ -1,5 +1,5 @@
 -- What rounding, settling and combining do to the total and the Reward of a row.
-use mathlib.Core.Path.{_≡_, refl, sym, ap, _∙_}
+use mathlib.Core.Path.{_≡_, refl, sym, ap, subst, _∙_}
 use mathlib.Core.Logic.{dite, inl, inr}
 use mathlib.Core.Bool.{Bool, true, false}
 use Prim.Native.Nat.{ℕ, _+_, _-_, _*_, _^_, _≤_, _<_}
@@ -12,65 +12,50 @@ use lib.Seq.{getD-set-same, getD-set-other}
 use borrow.Author.Tests.{le-ltb, lt-ltb, eq-eqb, ne-eqb}
 use Rattle.meaning.specs.Number.{sumTo, choose}
 use Rattle.meaning.specs.Chain.{M}
-use Rattle.meaning.specs.Row.{
-  Row,
-  cell,
-  total,
-  reward,
-  divisor,
-  over,
-  lowest,
-  upTo,
-  shiftOf,
-  topped,
-  roundedBy,
-  rounded,
-  bounded,
-  settled,
-}
+use Rattle.meaning.specs.Row.{Row, cell, total, reward, divisor, over, lowest, upTo, shiftOf, topped, roundedBy, rounded, bounded, settled, width, unknownColumn, rewardColumn}
 use Rattle.meaning.specs.Step.{noRow, combined, renewed}
 use Rattle.theory.specs.Sum.{sum-ext, sum-le, sum-zero, sum-next, sum-up, sum-mix, sum-term}
 use Rattle.theory.specs.Tab.{tab-at, tab-length}
 use Rattle.theory.specs.Shift.{pow-whole, shift-fits}
-use Rattle.engines.specs.Row.{Small, Sized, Fit, Tested}
+use Rattle.engines.specs.Row.{Small, Summable, Fit, Tested, Became}
 use Rattle.engines.proofs.Loop.{zeros, getD-zeros}
 use Rattle.engines.proofs.Lowest.{over-at, over-sum, over-parts}
 
-topped-total : (n t : ℕ) (r : Row) → length r ≡ n + 4 → sumTo (cell r) (n + 2) ≤ t → total n (topped n t r) ≡ t
+topped-total : (n t : ℕ) (r : Row) → length r ≡ width n → sumTo (cell r) (unknownColumn n) ≤ t → total n (topped n t r) ≡ t
 topped-total n t r l h =
     omega (
       arith,
-      sum-next (cell (topped n t r)) (n + 2) (n + 3) (omega arith),
-      sum-ext (cell (topped n t r)) (cell r) (n + 2) (λ j b. getD-set-other r (n + 2) j _ 0 (λ q. omega arith)),
-      getD-set-same r (n + 2) (t - sumTo (cell r) (n + 2)) 0 (omega arith),
+      sum-next (cell (topped n t r)) (unknownColumn n) (rewardColumn n) (omega arith),
+      sum-ext (cell (topped n t r)) (cell r) (unknownColumn n) (λ j b. getD-set-other r (unknownColumn n) j _ 0 (λ q. omega arith)),
+      getD-set-same r (unknownColumn n) (t - sumTo (cell r) (unknownColumn n)) 0 (omega arith),
     )
 
 -- Of a row that was divided, all columns but Unknown and Reward.
 module _ (n d : ℕ) (r q : Row) (e : q ≡ over d r) where
-  pub rest-le : sumTo (cell q) (n + 2) ≤ total n r
+  pub rest-le : sumTo (cell q) (unknownColumn n) ≤ total n r
   rest-le =
       rw e
-      (omega (arith, over-sum d r (n + 2), sum-up (cell r) (n + 2) (n + 3) (omega arith)))
+      (omega (arith, over-sum d r (unknownColumn n), sum-up (cell r) (unknownColumn n) (rewardColumn n) (omega arith)))
 
   pub total-le : total n q ≤ total n r
-  total-le = rw e (over-sum d r (n + 3))
+  total-le = rw e (over-sum d r (rewardColumn n))
 
-pub rest-up : (n k : ℕ) (r q : Row) → q ≡ over (2 ^ k) r → (t : ℕ) → t ≡ total n r → sumTo (cell q) (n + 2) ≤ upTo t k
+pub rest-up : (n k : ℕ) (r q : Row) → q ≡ over (2 ^ k) r → (t : ℕ) → t ≡ total n r → sumTo (cell q) (unknownColumn n) ≤ upTo t k
 rest-up n k r q e t et =
     rw (e, et)
     (le-div-iff-mul-le (pow-whole k) .1
-    (omega (arith, over-parts (2 ^ k) r (n + 2), sum-up (cell r) (n + 2) (n + 3) (omega arith), pow-whole k)))
+    (omega (arith, over-parts (2 ^ k) r (unknownColumn n), sum-up (cell r) (unknownColumn n) (rewardColumn n) (omega arith), pow-whole k)))
 
-module _ (n : ℕ) (r q : Row) {t k s u : ℕ} (et : t ≡ total n r) (ek : k ≡ shiftOf t) (eq : q ≡ over (2 ^ k) r) (es : s ≡ sumTo (cell q) (n + 2))
+module _ (n : ℕ) (r q : Row) {t k s u : ℕ} (et : t ≡ total n r) (ek : k ≡ shiftOf t) (eq : q ≡ over (2 ^ k) r) (es : s ≡ sumTo (cell q) (unknownColumn n))
     (eu : u ≡ upTo t k) where
-  pub round-is : set q (n + 2) (u - s) ≡ rounded n r
+  pub round-is : set q (unknownColumn n) (u - s) ≡ rounded n r
   unfolding roundedBy
   round-is = rw (es, eu, eq, ek, et)
 
-  pub round-fits : length q ≡ n + 4 → total n (set q (n + 2) (u - s)) ≤ M
+  pub round-fits : length q ≡ width n → total n (set q (unknownColumn n) (u - s)) ≤ M
   round-fits l =
       rw (es, eu)
-      (let z : sumTo (cell q) (n + 2) ≤ upTo t k = rest-up n k r q eq t et in
+      (let z : sumTo (cell q) (unknownColumn n) ≤ upTo t k = rest-up n k r q eq t et in
       let f : upTo t k ≤ M = rw ek (shift-fits t) in
       omega (arith, topped-total n (upTo t k) q l z))
 
@@ -89,13 +74,13 @@ module _ (n : ℕ) (r : Row) where
 
   -- A row that earns nothing earns nothing once it is settled.
   over-unpaid : (d : ℕ) → reward n r ≡ 0 → reward n (over d r) ≡ 0
-  over-unpaid d h = over-at d r (n + 3) ∙ rw h (zero-div d)
+  over-unpaid d h = over-at d r (rewardColumn n) ∙ rw h (zero-div d)
 
 bounded-unpaid : (n : ℕ) (r : Row) → reward n r ≡ 0 → reward n (bounded true n r) ≡ 0
 unfolding roundedBy
 bounded-unpaid n r h =
     dite (decLt M (total n r))
-    (λ l. rw (← bounded-out n r l) (getD-set-other (over (2 ^ shiftOf (total n r)) r) (n + 2) (n + 3) _ 0 (λ q. omega arith) ∙ over-unpaid n r _ h))
+    (λ l. rw (← bounded-out n r l) (getD-set-other (over (2 ^ shiftOf (total n r)) r) (unknownColumn n) (rewardColumn n) _ 0 (λ q. omega arith) ∙ over-unpaid n r _ h))
     (λ l. rw (← bounded-in n r (omega arith)) h)
 
 pub settled-fit : (n : ℕ) (r q : Row) (b : Bool) → b ≡ true → q ≡ bounded true n (lowest r) → total n q ≤ M → reward n r ≡ 0 → Fit b n q
@@ -103,17 +88,17 @@ settled-fit n r q b e eq h z =
     let y : reward n q ≡ 0 = rw eq (bounded-unpaid n (lowest r) (over-unpaid n r (divisor r) z)) in
     record { weights = h; earned = omega arith; unpaid = λ _. y }
 
-pub fit-small : {b : Bool} (n : ℕ) (r : Row) → Fit b n r → Small (n + 4) r
+pub fit-small : {b : Bool} (n : ℕ) (r : Row) → Fit b n r → Small (width n) r
 fit-small n r h j b =
-    dite (decLt j (n + 3)) (λ l. omega (arith, h .weights, sum-term (cell r) (n + 3) j l))
-    (λ l. let e : j ≡ n + 3 = omega arith in rw e (h .earned))
+    dite (decLt j (rewardColumn n)) (λ l. omega (arith, h .weights, sum-term (cell r) (rewardColumn n) j l))
+    (λ l. let e : j ≡ rewardColumn n = omega arith in rw e (h .earned))
 
 choose-le : (b : Bool) (x : ℕ) → choose b 0 x ≤ x
 choose-le true x = omega arith
 choose-le false x = omega arith
 
-module _ (b : Bool) (n s d : ℕ) (p r : Row) (l : length r ≡ n + 4) (hs : s < n) (hr : Fit b n r) (hp : Fit b n p) where
-  combined-at : (j : ℕ) → j < n + 4 → cell (combined s d p r) j ≤ cell r j * d + cell r s * cell p j
+module _ (b : Bool) (n s d : ℕ) (p r : Row) (l : length r ≡ width n) (hs : s < n) (hr : Fit b n r) (hp : Fit b n p) where
+  combined-at : (j : ℕ) → j < width n → cell (combined s d p r) j ≤ cell r j * d + cell r s * cell p j
   unfolding combined
   combined-at j h =
       rw (tab-at (length r) (λ j. choose (eqb j s) 0 (cell r j * d + cell r s * cell p j)) 0 j (omega arith))
@@ -123,14 +108,14 @@ module _ (b : Bool) (n s d : ℕ) (p r : Row) (l : length r ≡ n + 4) (hs : s <
   unfolding combined
   combined-length = tab-length 0 (length r) _
 
-  pub combined-sized : d ≤ M → Sized n (combined s d p r)
-  combined-sized hd =
+  pub combined-summable : d ≤ M → Summable n (combined s d p r)
+  combined-summable hd =
       record {
         columns = combined-length ∙ l;
         bound = omega (
           arith,
-          sum-le (cell (combined s d p r)) (λ j. cell r j * d + cell r s * cell p j) (n + 3) (λ j h. combined-at j (omega arith)),
-          sum-mix (cell r) (cell p) d (cell r s) (n + 3),
+          sum-le (cell (combined s d p r)) (λ j. cell r j * d + cell r s * cell p j) (rewardColumn n) (λ j h. combined-at j (omega arith)),
+          sum-mix (cell r) (cell p) d (cell r s) (rewardColumn n),
           mul-le-mul (hr .weights) hd,
           mul-le-mul (fit-small n r hr s (omega arith)) (hp .weights),
         );
@@ -140,26 +125,26 @@ module _ (b : Bool) (n s d : ℕ) (p r : Row) (l : length r ≡ n + 4) (hs : s <
   combined-unpaid e =
       omega (
         arith,
-        combined-at (n + 3) (omega arith),
+        combined-at (rewardColumn n) (omega arith),
         ap (λ x. x * d) (hr .unpaid e),
         ap (λ x. cell r s * x) (hp .unpaid e),
       )
 
 -- A row that is made zero is that of a state that is not kept.
-pub zeros-noRow : (n : ℕ) (r : Row) → length r ≡ n + 4 → replicate (length r) 0 ≡ noRow n
+pub zeros-noRow : (n : ℕ) (r : Row) → length r ≡ width n → replicate (length r) 0 ≡ noRow n
 unfolding noRow
-zeros-noRow n r l = rw l (sym (zeros 0 (n + 4)))
+zeros-noRow n r l = rw l (sym (zeros 0 (width n)))
 
 noRow-at : (n j : ℕ) → cell (noRow n) j ≡ 0
 unfolding noRow
-noRow-at n j = rw (zeros 0 (n + 4)) (getD-zeros (n + 4) j)
+noRow-at n j = rw (zeros 0 (width n)) (getD-zeros (width n) j)
 
 pub noRow-fit : (b : Bool) (n : ℕ) → Fit b n (noRow n)
 noRow-fit b n =
     record {
-      weights = omega (arith, sum-zero (cell (noRow n)) (n + 3) (λ j _. noRow-at n j));
-      earned = omega (arith, noRow-at n (n + 3));
-      unpaid = λ _. noRow-at n (n + 3);
+      weights = omega (arith, sum-zero (cell (noRow n)) (rewardColumn n) (λ j _. noRow-at n j));
+      earned = omega (arith, noRow-at n (rewardColumn n));
+      unpaid = λ _. noRow-at n (rewardColumn n);
     }
 
 module _ (b : Bool) (n s d : ℕ) (p r : Row) where
@@ -181,6 +166,10 @@ apart e = let z : _≡_ {A = ℕ} 0 1 = cc in omega arith
 
 pub tested-fit : {b : Bool} {n : ℕ} {r : Row} → Fit b n r → Tested b n r true
 tested-fit f = record { fit = λ _. f; large = λ e. absurd (apart (sym e)) }
+
+-- A row that is known, and whether it fits.
+pub became : {b : Bool} {n : ℕ} {r v : Row} {answer : Bool} → v ≡ r → Tested b n v answer → Became b n r v answer
+became {b} {n} {answer = answer} e t = record { same = e; tested = subst (λ z. Tested b n z answer) e t }
 
 pub tested-total : {n : ℕ} {r : Row} → M < total n r → Tested false n r false
 tested-total h = record { fit = λ e. absurd (apart e); large = λ _. (refl, inl h) }

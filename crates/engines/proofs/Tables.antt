@@ -1,6 +1,7 @@
 -- Rows of a table that lies in one list, and what a row that is lent and comes back leaves.
 use mathlib.Core.Path.{_≡_, refl, sym, ap, _∙_}
 use mathlib.Core.Logic.{dite}
+use mathlib.Core.Bool.{Bool}
 use mathlib.Core.List.{List, _++_}
 use Prim.Native.Nat.{ℕ, _+_, _-_, _*_, _≤_, _<_}
 use native.Mathlib.Nat.{mul-le-mul-right}
@@ -9,8 +10,10 @@ use native.Mathlib.Omega.{arith}
 use lib.ListN.{length, getD, take, drop, length-drop, List·getD-append}
 use lib.Seq.{length-take-le, take-at, drop-at, ext-getD, getD-take, getD-drop, drop-drop}
 use borrow.Rule.Slice.PartMut.{putMid, drop-put, same-len-mid}
-use Rattle.meaning.specs.Row.{Row}
-use Rattle.engines.specs.Table.{rowAt, Kept, Put}
+use Rattle.meaning.specs.Row.{Row, width}
+use Rattle.meaning.specs.Refusal.{workSize}
+use Rattle.engines.specs.Row.{Became}
+use Rattle.engines.specs.Table.{rowAt, Kept, Put, Placed}
 
 pub kept-same : (n : ℕ) (w : List ℕ) → Kept n w w
 kept-same n w = record { len = refl; past = refl }
@@ -18,12 +21,12 @@ kept-same n w = record { len = refl; past = refl }
 pub kept-more : {n : ℕ} {w v u : List ℕ} → Kept n w v → Kept n v u → Kept n w u
 kept-more k l = record { len = l .len ∙ k .len; past = l .past ∙ k .past }
 
-pub row-end : (i n : ℕ) → i < n → i * (n + 4) + (n + 4) ≤ n * (n + 4)
-row-end i n h = omega (arith, mul-le-mul-right (n + 4) h)
+pub row-end : (i n : ℕ) → i < n → i * width n + width n ≤ workSize n
+row-end i n h = omega (arith, mul-le-mul-right (width n) h)
 
 -- The list with r in the place of row i.
 unfoldable withRow : ℕ → List ℕ → ℕ → Row → List ℕ
-withRow n w i r = take (i * (n + 4)) w ++ (r ++ drop (n + 4) (drop (i * (n + 4)) w))
+withRow n w i r = take (i * width n) w ++ (r ++ drop (width n) (drop (i * width n) w))
 
 mid-drop : (a m : ℕ) (w r : List ℕ) → length r ≡ m → a + m ≤ length w → drop (a + m) (putMid a m w r) ≡ drop (a + m) w
 mid-drop a m w r l h =
@@ -31,75 +34,75 @@ mid-drop a m w r l h =
     rw k at (drop-put a (a + m) w r (omega arith) h (omega arith))
 
 -- Row i, which begins at a, as it is lent, and the table as it comes back.
-module _ (n i a : ℕ) (p : a ≡ i * (n + 4)) (w : List ℕ) where
+module _ (n i a : ℕ) (p : a ≡ i * width n) (w : List ℕ) where
   pub lent : take (a + n + 4 - a) (drop a w) ≡ rowAt n w i
   unfolding rowAt
-  lent = let k : a + n + 4 - a ≡ n + 4 = omega arith in rw (k, p)
+  lent = let k : a + n + 4 - a ≡ width n = omega arith in rw (k, p)
 
   back : (r : Row) → putMid a (a + n + 4 - a) w r ≡ withRow n w i r
   unfolding withRow
-  back r = let k : a + n + 4 - a ≡ n + 4 = omega arith in rw (k, p)
+  back r = let k : a + n + 4 - a ≡ width n = omega arith in rw (k, p)
 
 -- The number in column j of row i.
-pub row-cell : (n : ℕ) (w : List ℕ) (i j : ℕ) → j < n + 4 → getD (rowAt n w i) j 0 ≡ getD w (i * (n + 4) + j) 0
+pub row-cell : (n : ℕ) (w : List ℕ) (i j : ℕ) → j < width n → getD (rowAt n w i) j 0 ≡ getD w (i * width n + j) 0
 unfolding rowAt
-row-cell n w i j h = getD-take (n + 4) (drop (i * (n + 4)) w) j 0 h ∙ getD-drop (i * (n + 4)) w j 0
+row-cell n w i j h = getD-take (width n) (drop (i * width n) w) j 0 h ∙ getD-drop (i * width n) w j 0
 
-module _ (n : ℕ) (w : List ℕ) (room : n * (n + 4) ≤ length w) (i : ℕ) (b : i < n) where
-  pub length-row : length (rowAt n w i) ≡ n + 4
+module _ (n : ℕ) (w : List ℕ) (room : workSize n ≤ length w) (i : ℕ) (b : i < n) where
+  pub length-row : length (rowAt n w i) ≡ width n
   unfolding rowAt
   length-row =
-      length-take-le (n + 4) (drop (i * (n + 4)) w) (simp length-drop (omega (arith, row-end i n b)))
+      length-take-le (width n) (drop (i * width n) w) (simp length-drop (omega (arith, row-end i n b)))
 
-  module _ (r : Row) (l : length r ≡ n + 4) where
-    at-start : length (take (i * (n + 4)) w) ≡ i * (n + 4)
-    at-start = length-take-le (i * (n + 4)) w (omega (arith, row-end i n b))
+  module _ (r : Row) (l : length r ≡ width n) where
+    at-start : length (take (i * width n) w) ≡ i * width n
+    at-start = length-take-le (i * width n) w (omega (arith, row-end i n b))
 
     row-same : rowAt n (withRow n w i r) i ≡ r
     unfolding rowAt withRow
     row-same =
-        ap (take (n + 4)) (drop-at (take (i * (n + 4)) w) (r ++ drop (n + 4) (drop (i * (n + 4)) w)) (i * (n + 4)) at-start)
-        ∙ take-at r (drop (n + 4) (drop (i * (n + 4)) w)) (n + 4) l
+        ap (take (width n)) (drop-at (take (i * width n) w) (r ++ drop (width n) (drop (i * width n) w)) (i * width n) at-start)
+        ∙ take-at r (drop (width n) (drop (i * width n) w)) (width n) l
 
     length-with : length (withRow n w i r) ≡ length w
     unfolding withRow
     length-with =
-        same-len-mid (i * (n + 4)) (n + 4) w r
-        (l ∙ sym (length-take-le (n + 4) (drop (i * (n + 4)) w) (simp length-drop (omega (arith, row-end i n b)))))
+        same-len-mid (i * width n) (width n) w r
+        (l ∙ sym (length-take-le (width n) (drop (i * width n) w) (simp length-drop (omega (arith, row-end i n b)))))
 
-    before-row : (k : ℕ) → k < i * (n + 4) → getD (withRow n w i r) k 0 ≡ getD w k 0
+    before-row : (k : ℕ) → k < i * width n → getD (withRow n w i r) k 0 ≡ getD w k 0
     unfolding withRow
     before-row k h =
-        List·getD-append (take (i * (n + 4)) w) (r ++ drop (n + 4) (drop (i * (n + 4)) w)) 0 k (rw at-start h)
-        ∙ getD-take (i * (n + 4)) w k 0 h
+        List·getD-append (take (i * width n) w) (r ++ drop (width n) (drop (i * width n) w)) 0 k (rw at-start h)
+        ∙ getD-take (i * width n) w k 0 h
 
-    after-row : drop (i * (n + 4) + (n + 4)) (withRow n w i r) ≡ drop (i * (n + 4) + (n + 4)) w
+    after-row : drop (i * width n + width n) (withRow n w i r) ≡ drop (i * width n + width n) w
     unfolding withRow
-    after-row = mid-drop (i * (n + 4)) (n + 4) w r l (omega (arith, row-end i n b))
+    after-row = mid-drop (i * width n) (width n) w r l (omega (arith, row-end i n b))
 
-    from-row : (k : ℕ) → i * (n + 4) + (n + 4) ≤ k → getD (withRow n w i r) k 0 ≡ getD w k 0
+    from-row : (k : ℕ) → i * width n + width n ≤ k → getD (withRow n w i r) k 0 ≡ getD w k 0
     from-row k h =
-        let e = i * (n + 4) + (n + 4) in
-        let q : k ≡ i * (n + 4) + (n + 4) + (k - (i * (n + 4) + (n + 4))) = omega arith in
+        let e = i * width n + width n in
+        let q : k ≡ i * width n + width n + (k - (i * width n + width n)) = omega arith in
         ap (λ (x : ℕ). getD (withRow n w i r) x 0) q
         ∙ sym (getD-drop e (withRow n w i r) (k - e) 0)
         ∙ ap (λ (x : List ℕ). getD x (k - e) 0) after-row
         ∙ getD-drop e w (k - e) 0
         ∙ ap (λ (x : ℕ). getD w x 0) (sym q)
 
-row-other : (n : ℕ) (w : List ℕ) (room : n * (n + 4) ≤ length w) (i : ℕ) (b : i < n) (r : Row) (l : length r ≡ n + 4) (j : ℕ) → j < n
+row-other : (n : ℕ) (w : List ℕ) (room : workSize n ≤ length w) (i : ℕ) (b : i < n) (r : Row) (l : length r ≡ width n) (j : ℕ) → j < n
     → (j ≡ i → ⊥) → rowAt n (withRow n w i r) j ≡ rowAt n w j
 row-other n w room i b r l j c d =
     let v = withRow n w i r in
-    let room' : n * (n + 4) ≤ length (withRow n w i r) = rw (length-with n w room i b r l) room in
+    let room' : workSize n ≤ length (withRow n w i r) = rw (length-with n w room i b r l) room in
     ext-getD 0 (rowAt n v j) (rowAt n w j) (length-row n v room' j c ∙ sym (length-row n w room j c))
     (λ k h.
-    let h' : k < n + 4 = omega (arith, length-row n v room' j c) in
+    let h' : k < width n = omega (arith, length-row n v room' j c) in
     row-cell n v j k h'
-    ∙ dite (decLt j i) (λ z. before-row n w room i b r l (j * (n + 4) + k) (omega (arith, mul-le-mul-right (n + 4) z)))
+    ∙ dite (decLt j i) (λ z. before-row n w room i b r l (j * width n + k) (omega (arith, mul-le-mul-right (width n) z)))
     (λ z.
     let z' : i < j = omega arith in
-    from-row n w room i b r l (j * (n + 4) + k) (omega (arith, mul-le-mul-right (n + 4) z')))
+    from-row n w room i b r l (j * width n + k) (omega (arith, mul-le-mul-right (width n) z')))
     ∙ sym (row-cell n w j k h'))
 
 drop-past : (e m : ℕ) (v w : List ℕ) → e ≤ m → drop e v ≡ drop e w → drop m v ≡ drop m w
@@ -107,18 +110,24 @@ drop-past e m v w h q =
     let k : e + (m - e) ≡ m = omega arith in
     rw k at (sym (drop-drop (m - e) e v) ∙ ap (drop (m - e)) q ∙ drop-drop (m - e) e w)
 
-put-with : (n : ℕ) (w : List ℕ) (room : n * (n + 4) ≤ length w) (i : ℕ) (b : i < n) (r : Row) (l : length r ≡ n + 4) → Put n w i r (withRow n w i r)
+put-with : (n : ℕ) (w : List ℕ) (room : workSize n ≤ length w) (i : ℕ) (b : i < n) (r : Row) (l : length r ≡ width n) → Put n w i r (withRow n w i r)
 put-with n w room i b r l =
     record {
       kept = record {
         len = length-with n w room i b r l;
-        past = drop-past (i * (n + 4) + (n + 4)) (n * (n + 4)) (withRow n w i r) w (row-end i n b) (after-row n w room i b r l);
+        past = drop-past (i * width n + width n) (workSize n) (withRow n w i r) w (row-end i n b) (after-row n w room i b r l);
       };
       here = row-same n w room i b r l;
       other = row-other n w room i b r l;
     }
 
--- A row that was lent as `lent` says, changed, and is back.
-pub put-back : (n : ℕ) (w : List ℕ) (room : n * (n + 4) ≤ length w) (i : ℕ) (b : i < n) (a : ℕ) → a ≡ i * (n + 4) → (q r : Row)
-    → length q ≡ n + 4 → q ≡ r → Put n w i r (putMid a (a + n + 4 - a) w q)
-put-back n w room i b a p q r l e = rw (back n i a p w q, ← e) (put-with n w room i b q l)
+-- A row that was lent as `lent` says, has become r, and is back.
+pub placed : (n : ℕ) (w : List ℕ) (room : workSize n ≤ length w) (i : ℕ) (h : i < n) (a : ℕ) (p : a ≡ i * width n) {b : Bool} {q r : Row} {answer : Bool}
+    → length q ≡ length (take (a + n + 4 - a) (drop a w)) → Became b n r q answer → Placed b n w i r (putMid a (a + n + 4 - a) w q) answer
+placed n w room i h a p {q = q} l z =
+    record {
+      put =
+          rw (back n i a p w q, ← z .same)
+          (put-with n w room i h q (l ∙ ap length (lent n i a p w) ∙ length-row n w room i h));
+      tested = z .tested;
+    }

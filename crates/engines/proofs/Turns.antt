@@ -3,18 +3,20 @@ use mathlib.Core.Path.{_≡_, refl, sym, _∙_}
 use mathlib.Core.Logic.{⊎-elim, dite}
 use mathlib.Core.Bool.{Bool, true, false}
 use mathlib.Core.List.{List}
-use Prim.Native.Nat.{ℕ, suc, _+_, _*_, _≤_, _<_, zero-le}
+use Prim.Native.Nat.{ℕ, suc, _+_, _≤_, _<_, zero-le}
 use native.Mathlib.Decide.{decLt}
 use native.Mathlib.Numerals.{add-one}
 use native.Mathlib.Omega.{arith}
 use lib.ListN.{length, getD}
 use Rattle.meaning.specs.Chain.{mostStates}
 use Rattle.meaning.specs.Number.{choose}
-use Rattle.meaning.specs.Step.{Table, row, outside, removed, after}
+use Rattle.meaning.specs.Refusal.{workSize}
+use Rattle.meaning.specs.Step.{Table, row, removed, after}
+use Rattle.meaning.specs.Stop.{Unfit, Stuck}
 use Rattle.engines.specs.Row.{Fit}
-use Rattle.engines.specs.Table.{tableOf, Kept, Ready}
-use Rattle.engines.specs.Turn.{Unfit, Reached, Turned}
-use Rattle.engines.specs.Order.{Stuck, Clear, Finished, Overflown, Blocked}
+use Rattle.engines.specs.Table.{tableOf, Kept, Fitting}
+use Rattle.engines.specs.Turn.{Reached, Turned}
+use Rattle.engines.specs.Order.{UnstoppedWalk, Finished, Overflown, Blocked}
 use Rattle.engines.specs.declared.step.Turn.{Turn}
 use Rattle.engines.specs.declared.step.Turn.the-variants.{Done, NoFit, NoWay}
 use Rattle.engines.proofs.Rows.{apart}
@@ -65,10 +67,10 @@ turned-goes u g e z =
       stuck = λ a. (e, z .stuck a);
     }
 
-reached-same : (b : Bool) (n : ℕ) (w : List ℕ) → Ready b n w → Reached b n (tableOf n w) w w
+reached-same : (b : Bool) (n : ℕ) (w : List ℕ) → Fitting b n w → Reached b n (tableOf n w) w w
 reached-same b n w h = record { kept = kept-same n w; same = refl; fit = λ i l. rw (row-is n w i l) (h .fit i l) }
 
-pub turned-stays : {b : Bool} {n : ℕ} {w : List ℕ} (P : Type 0) (t : Table) (g : Bool) → g ≡ false → Ready b n w
+pub turned-stays : {b : Bool} {n : ℕ} {w : List ℕ} (P : Type 0) (t : Table) (g : Bool) → g ≡ false → Fitting b n w
     → Turned b n ((g ≡ true) × P) (choose g t (tableOf n w)) w w Done
 turned-stays {b} {n} {w} P t g e h = turned-done (λ q. apart (sym e ∙ q .0)) (rw e (reached-same b n w h))
 
@@ -78,8 +80,8 @@ fit-unfit b n t f u =
     ⊎-elim (λ l. omega (arith, h .weights)) (λ l. omega (arith, h .earned)) (u .1 .1 .1)
 
 -- A table that is reached is ready for the walk.
-pub reached-ready : {b : Bool} {n : ℕ} {t : Table} {w v : List ℕ} → n ≤ mostStates → n * (n + 4) ≤ length w → Reached b n t w v → Ready b n v
-reached-ready {n = n} {v = v} few room z =
+pub reached-fitting : {b : Bool} {n : ℕ} {t : Table} {w v : List ℕ} → n ≤ mostStates → workSize n ≤ length w → Reached b n t w v → Fitting b n v
+reached-fitting {n = n} {v = v} few room z =
     record {
       few = few;
       room = omega (arith, z .kept .len);
@@ -89,7 +91,7 @@ reached-ready {n = n} {v = v} few room z =
 -- After p positions.
 pub record Eliminating (b : Bool) (n : ℕ) (go : ℕ → Bool) (o : List ℕ) (t : ℕ → Table) (w : List ℕ) (p : ℕ) (v : List ℕ) : Type 0 where
   pub upto : p ≤ n
-  pub clear : Clear b n go o t p
+  pub clear : UnstoppedWalk b n go o t p
   pub reached : Reached b n (t p) w v
 
 -- The tables of the walk that begins with the table in w.
@@ -97,7 +99,7 @@ abbrev tables : Bool → ℕ → (ℕ → Bool) → List ℕ → List ℕ → �
 tables b n go o w = after b n go o (tableOf n w)
 
 module _ {b : Bool} {n : ℕ} {go : ℕ → Bool} {o : List ℕ} {w : List ℕ} where
-  pub eliminating-none : Ready b n w → Eliminating b n go o (tables b n go o w) w 0 w
+  pub eliminating-none : Fitting b n w → Eliminating b n go o (tables b n go o w) w 0 w
   unfolding after
   eliminating-none h =
       let z = reached-same b n w h in
@@ -111,18 +113,18 @@ module _ {b : Bool} {n : ℕ} {go : ℕ → Bool} {o : List ℕ} {w : List ℕ} 
       }
 
   module _ {p : ℕ} {v : List ℕ} (z : Eliminating b n go o (tables b n go o w) w p v) where
-    pub eliminating-ready : Ready b n w → Ready b n v
-    eliminating-ready h = reached-ready (h .few) (h .room) (z .reached)
+    pub eliminating-fitting : Fitting b n w → Fitting b n v
+    eliminating-fitting h = reached-fitting (h .few) (h .room) (z .reached)
 
     -- The turn at position p, which speaks of the table in v.
     module _ (l : p < n) {u : List ℕ} {r : Turn}
         (h : Turned b n
-        ((go (getD o p 0) ≡ true) × (outside n (getD o p 0) (row (tableOf n v) (getD o p 0)) ≡ 0))
+        (Stuck n go (getD o p 0) (tableOf n v))
         (choose (go (getD o p 0)) (removed b n (getD o p 0) (tableOf n v)) (tableOf n v))
         v
         u
         r) where
-      turn-at : Turned b n (Stuck n go o (tables b n go o w) p) (tables b n go o w (suc p)) v u r
+      turn-at : Turned b n (Stuck n go (getD o p 0) (tables b n go o w p)) (tables b n go o w (suc p)) v u r
       unfolding after
       turn-at = rw (z .reached .same) at h
 

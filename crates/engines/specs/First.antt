@@ -11,10 +11,11 @@ use Rattle.meaning.specs.Figure.{earned}
 use Rattle.meaning.specs.Row.{Row, cell, width, total, goalColumn, trapColumn, rewardColumn, settled, rounding}
 use Rattle.meaning.specs.Step.{Table, Sets, Right}
 use Rattle.meaning.specs.Refusal.{workSize}
+use Rattle.meaning.specs.Stop.{Unfit}
 use Rattle.theory.specs.Fine.{Fine}
 use Rattle.engines.specs.Row.{Fit}
 use Rattle.engines.specs.Table.{rowAt, Kept}
-use Rattle.engines.specs.Turn.{Unfit, Reached}
+use Rattle.engines.specs.Turn.{Reached}
 
 -- The column of a target in the row of a live state: its own where it is live, else Goal where it has a path to a goal, since then it is one,
 -- else Trap.
@@ -57,7 +58,7 @@ unfoldable pub finished : Bool → ℕ → Bool → ℕ → Row → Row
 finished b n alive earns r = choose alive (settled b n (set r (rewardColumn n) earns)) r
 
 -- What is known of a gathered row: the row of a live state can be summed, that of another fits, and the bounds engine earns nothing.
-pub record Gathered (b : Bool) (n : ℕ) (alive : Bool) (earns : ℕ) (r : Row) : Type 0 where
+pub record Unfinished (b : Bool) (n : ℕ) (alive : Bool) (earns : ℕ) (r : Row) : Type 0 where
   pub bound : alive ≡ true → total n r < 2 ^ 63
   pub fit : alive ≡ false → Fit b n r
   pub unpaid : b ≡ rounding → earns ≡ 0
@@ -82,10 +83,10 @@ pub record Finishable (b : Bool) (n live : ℕ) (denominators rewards w : List �
   pub size : length denominators ≡ n
   pub small : (i : ℕ) → i < n → getD denominators i 0 ≤ M
   pub paid : (i : ℕ) → i < n → getD rewards i 0 ≤ mostReward
-  pub gathered : (i : ℕ) → i < n → Gathered b n (eqb (bit live i) 1) (earnedAt denominators rewards i) (rowAt n w i)
+  pub gathered : (i : ℕ) → i < n → Unfinished b n (eqb (bit live i) 1) (earnedAt denominators rewards i) (rowAt n w i)
 
 -- What the first rows are made from: a chain whose denominators fit, its own sets, rewards that fit, in the bounds engine none, and room.
-pub record Asked (b : Bool) (c : Chain) (k : Sets) (rewards work : List ℕ) : Type 0 where
+pub record Makeable (b : Bool) (c : Chain) (k : Sets) (rewards work : List ℕ) : Type 0 where
   pub few : c .states ≤ mostStates
   pub room : workSize (c .states) ≤ length work
   pub fine : Fine c

@@ -7,4 +7,3 @@ pub mod Sets
 pub mod Told
 pub mod First
 pub mod Run
-pub mod Figured

@@ -12,7 +12,7 @@ abbrev pub Small : ℕ → Row → Type 0
 Small m r = (j : ℕ) → j < m → cell r j ≤ M
 
 -- A new row, before it is settled: its total can be summed in 64 bits.
-pub record Sized (n : ℕ) (r : Row) : Type 0 where
+pub record Summable (n : ℕ) (r : Row) : Type 0 where
   pub columns : length r ≡ width n
   pub bound : total n r < 2 ^ 63
 
@@ -26,3 +26,8 @@ pub record Fit (b : Bool) (n : ℕ) (r : Row) : Type 0 where
 pub record Tested (b : Bool) (n : ℕ) (r : Row) (answer : Bool) : Type 0 where
   pub fit : answer ≡ true → Fit b n r
   pub large : answer ≡ false → (b ≡ exact) × Large n r
+
+-- A row has become r, which is v, and the answer says whether it fits.
+pub record Became (b : Bool) (n : ℕ) (r v : Row) (answer : Bool) : Type 0 where
+  pub same : v ≡ r
+  pub tested : Tested b n r answer

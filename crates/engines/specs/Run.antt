@@ -3,13 +3,14 @@ use mathlib.Core.Path.{_≡_}
 use mathlib.Core.Bool.{Bool}
 use Prim.Native.Nat.{ℕ, _<_}
 use lib.ListN.{length}
+use Rattle.meaning.specs.Chain.{Goal, ToGoal, Live}
 use Rattle.meaning.specs.Row.{Row, cell, goalColumn, unknownColumn, reward}
-use Rattle.meaning.specs.Step.{row, Sets, outside}
+use Rattle.meaning.specs.Step.{row, Sets, Right, outside}
 use Rattle.meaning.specs.Refusal.{Lent}
-use Rattle.meaning.specs.Stop.{turn, tableAt, Passed, Stops}
-use Rattle.engines.specs.First.{Asked}
+use Rattle.meaning.specs.Stop.{turn, tableAt, Passed, Stopped}
+use Rattle.engines.specs.First.{Makeable}
 use Rattle.engines.specs.declared.run.Course.{Course}
-use Rattle.engines.specs.declared.run.Course.the-variants.{Ends, Stops as Stopping}
+use Rattle.engines.specs.declared.run.Course.the-variants.{Ends, Stops}
 
 -- What is read off the row z of the start s.
 abbrev pub endOf : ℕ → ℕ → Row → Course
@@ -17,7 +18,7 @@ endOf n s z = Ends (cell z (goalColumn n)) (cell z (unknownColumn n)) (reward n 
 
 -- What an elimination asks for.
 pub record Begun (b : Bool) (l : Lent) (k : Sets) : Type 0 where
-  pub asked : Asked b (l .chain) k (l .rewards) (l .work)
+  pub asked : Makeable b (l .chain) k (l .rewards) (l .work)
   pub orders : length (l .order) ≡ l .chain .states
   pub inside : (p : ℕ) → p < l .chain .states → turn l p < l .chain .states
   pub start : l .chain .start < l .chain .states
@@ -27,7 +28,14 @@ pub record Ended (b : Bool) (l : Lent) (k : Sets) (goal unknown rewards outside 
   pub passed : Passed b l k (l .chain .states)
   pub read : Ends goal unknown rewards outside ≡ endOf (l .chain .states) (l .chain .start) (row (tableAt b l k (l .chain .states)) (l .chain .start))
 
--- It runs through, or stops.
-abbrev pub runs : Bool → Lent → Sets → Course → Type 0
-runs b l k (Ends goal unknown rewards outside) = Ended b l k goal unknown rewards outside
-runs b l k (Stopping number place) = Stops b l k number place
+-- What the figures are read off: no row is made where the start is a goal or has no path to one; else it is live, and these are read.
+pub data Read (b : Bool) (l : Lent) (goal unknown rewards outside : ℕ) : Type 0 where
+  won : Goal (l .chain) (l .chain .start) → Ends goal unknown rewards outside ≡ Ends 1 0 0 1 → Read b l goal unknown rewards outside
+  lost : (ToGoal (l .chain) (l .chain .start) → ⊥) → Ends goal unknown rewards outside ≡ Ends 0 0 0 1 → Read b l goal unknown rewards outside
+  live : (k : Sets) → Right (l .chain) k → Live (l .chain) (l .chain .start) → Ended b l k goal unknown rewards outside
+      → Read b l goal unknown rewards outside
+
+-- The figures can be read off, or something stops the elimination.
+abbrev pub runs : Bool → Lent → Course → Type 0
+runs b l (Ends goal unknown rewards outside) = Read b l goal unknown rewards outside
+runs b l (Stops number place) = Stopped b l number place

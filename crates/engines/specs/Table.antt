@@ -10,7 +10,7 @@ use Rattle.meaning.specs.Row.{Row, width, exact}
 use Rattle.meaning.specs.Refusal.{workSize}
 use Rattle.meaning.specs.Step.{Table}
 use Rattle.meaning.specs.Stop.{Large}
-use Rattle.engines.specs.Row.{Fit}
+use Rattle.engines.specs.Row.{Fit, Tested}
 
 -- Row i of the table in w.
 unfoldable pub rowAt : ℕ → List ℕ → ℕ → Row
@@ -20,7 +20,7 @@ abbrev pub tableOf : ℕ → List ℕ → Table
 tableOf n w = tabFrom 0 n (rowAt n w)
 
 -- The work table holds n rows, and each of them fits.
-pub record Ready (b : Bool) (n : ℕ) (w : List ℕ) : Type 0 where
+pub record Fitting (b : Bool) (n : ℕ) (w : List ℕ) : Type 0 where
   pub few : n ≤ mostStates
   pub room : workSize n ≤ length w
   pub fit : (i : ℕ) → i < n → Fit b n (rowAt n w i)
@@ -35,6 +35,11 @@ pub record Put (n : ℕ) (w : List ℕ) (i : ℕ) (r : Row) (v : List ℕ) : Typ
   pub kept : Kept n w v
   pub here : rowAt n v i ≡ r
   pub other : (j : ℕ) → j < n → (j ≡ i → ⊥) → rowAt n v j ≡ rowAt n w j
+
+-- Row i of w has become r, in v, and the answer says whether it fits.
+pub record Placed (b : Bool) (n : ℕ) (w : List ℕ) (i : ℕ) (r : Row) (v : List ℕ) (answer : Bool) : Type 0 where
+  pub put : Put n w i r v
+  pub tested : Tested b n r answer
 
 -- In v each row k of w has become g k, and fits; or some g k does not.
 pub record Renewed (b : Bool) (g : ℕ → Row) (n : ℕ) (w v : List ℕ) (answer : Bool) : Type 0 where

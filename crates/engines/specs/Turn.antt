@@ -3,17 +3,12 @@ use mathlib.Core.Path.{_≡_}
 use mathlib.Core.Bool.{Bool}
 use mathlib.Core.List.{List}
 use Prim.Native.Nat.{ℕ, _<_}
-use Rattle.meaning.specs.Row.{exact}
 use Rattle.meaning.specs.Step.{Table, row}
-use Rattle.meaning.specs.Stop.{Large}
+use Rattle.meaning.specs.Stop.{Unfit}
 use Rattle.engines.specs.Row.{Fit}
 use Rattle.engines.specs.Table.{tableOf, Kept}
 use Rattle.engines.specs.declared.step.Turn.{Turn}
 use Rattle.engines.specs.declared.step.Turn.the-variants.{Done, NoFit, NoWay}
-
--- In the exact engine a row of the table is large.
-abbrev pub Unfit : Bool → ℕ → Table → Type 0
-Unfit b n t = (b ≡ exact) × ((i : ℕ) × ((i < n) × Large n (row t i)))
 
 -- The table in w has become t, in v, and each row of it fits.
 pub record Reached (b : Bool) (n : ℕ) (t : Table) (w v : List ℕ) : Type 0 where

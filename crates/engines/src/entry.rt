@@ -4,8 +4,9 @@ ghost use Rattle.meaning.specs.Outcome.{ChanceOutcome, BoundsOutcome};
 ghost use Rattle.chain.specs.Says.{lent};
 ghost use Rattle.chain.specs.Answer.{toldChance, toldBounds};
 ghost use Rattle.engines.specs.Told.{Rewarded};
-use crate::figure::figures;
 use crate::run::Course;
+use crate::run::Elimination;
+use crate::run::run;
 use crate::sets;
 use crate::work::clear_work;
 use chain::Chain;
@@ -25,14 +26,21 @@ pub fn chance(
     order: &[u64],
     work: &mut [u64],
 ) -> Chance
-    ensures { λ r. ⌜ ChanceOutcome (lent c (now (denominators .entry)) (now (edges .entry)) (now (order .entry)) [] (now (work .entry))) (toldChance r) (now (work .exit)) ⌝ }
+    ensures { λ r.
+        let l = lent c (now (denominators .entry)) (now (edges .entry)) (now (order .entry)) [] (now (work .entry)) in
+        ⌜ ChanceOutcome l (toldChance r) (now (work .exit)) ⌝ }
 {
     if let Finding::Refused { number, place } = look(c, denominators, edges, order, work) {
         return Chance::Refused { number, place };
     }
     let sets = sets::of(c, edges);
     let none = [0u64; 0];
-    match figures(c, sets, denominators, edges, order, &none, work, false) {
+    let e = Elimination {
+        chain: c,
+        sets,
+        rounding: false,
+    };
+    match run(e, denominators, edges, order, &none, work) {
         Course::Ends {
             goal,
             unknown: _,
@@ -52,7 +60,9 @@ pub fn reward(
     rewards: &[u64],
     work: &mut [u64],
 ) -> Reward
-    ensures { λ r. ⌜ Rewarded (lent c (now (denominators .entry)) (now (edges .entry)) (now (order .entry)) (now (rewards .entry)) (now (work .entry))) r (now (work .exit)) ⌝ }
+    ensures { λ r.
+        let l = lent c (now (denominators .entry)) (now (edges .entry)) (now (order .entry)) (now (rewards .entry)) (now (work .entry)) in
+        ⌜ Rewarded l r (now (work .exit)) ⌝ }
 {
     if let Finding::Refused { number, place } = look_paid(
         c,
@@ -69,7 +79,12 @@ pub fn reward(
         clear_work(work, c.states);
         return Reward::Infinite;
     }
-    match figures(c, sets, denominators, edges, order, rewards, work, false) {
+    let e = Elimination {
+        chain: c,
+        sets,
+        rounding: false,
+    };
+    match run(e, denominators, edges, order, rewards, work) {
         Course::Ends {
             goal: _,
             unknown: _,
@@ -88,14 +103,21 @@ pub fn bounds(
     order: &[u64],
     work: &mut [u64],
 ) -> Bounds
-    ensures { λ r. ⌜ BoundsOutcome (lent c (now (denominators .entry)) (now (edges .entry)) (now (order .entry)) [] (now (work .entry))) (toldBounds r) (now (work .exit)) ⌝ }
+    ensures { λ r.
+        let l = lent c (now (denominators .entry)) (now (edges .entry)) (now (order .entry)) [] (now (work .entry)) in
+        ⌜ BoundsOutcome l (toldBounds r) (now (work .exit)) ⌝ }
 {
     if let Finding::Refused { number, place } = look(c, denominators, edges, order, work) {
         return Bounds::Refused { number, place };
     }
     let sets = sets::of(c, edges);
     let none = [0u64; 0];
-    match figures(c, sets, denominators, edges, order, &none, work, true) {
+    let e = Elimination {
+        chain: c,
+        sets,
+        rounding: true,
+    };
+    match run(e, denominators, edges, order, &none, work) {
         Course::Ends {
             goal,
             unknown,

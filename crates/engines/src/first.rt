@@ -9,13 +9,14 @@ ghost use Rattle.meaning.specs.Figure.{earned};
 ghost use Rattle.meaning.specs.Row.{cell, width};
 ghost use Rattle.meaning.specs.Refusal.{workSize};
 ghost use Rattle.meaning.specs.Step.{first};
-ghost use Rattle.engines.specs.Row.{Tested};
-ghost use Rattle.engines.specs.Table.{rowAt, Put, Renewed};
+ghost use Rattle.engines.specs.Row.{Became};
+ghost use Rattle.engines.specs.Table.{rowAt, Put, Placed, Renewed};
 ghost use Rattle.engines.specs.Sets.{chainOf, setsOf};
-ghost use Rattle.engines.specs.First.{columnOf, share, Added, Held, Addable, Gatherable, finished, Gathered, finishedAt, Finishable, Asked, Made};
+ghost use Rattle.engines.specs.First.{columnOf, share, Added, Held, Addable, Gatherable, finished, Unfinished, finishedAt, Finishable, Makeable, Made};
 use crate::row::REWARD;
 use crate::row::TRAP;
 use crate::row::settle;
+use crate::run::Elimination;
 use crate::sets::Sets;
 use crate::sets::holds;
 use crate::work::clear_work;
@@ -40,7 +41,9 @@ fn column(t: usize, n: usize, sets: Sets) -> usize
 // Adds x to the number in column j of row i.
 fn add(work: &mut [u64], n: usize, i: usize, j: usize, x: u64)
     requires { ⌜ (n ≤ mostStates) × (workSize n ≤ length (now work)) × (i < n) × (j < width n) × (cell (rowAt n (now work) i) j + x ≤ M) ⌝ }
-    ensures { λ _. ⌜ Put n (now (work .entry)) i (set (rowAt n (now (work .entry)) i) j (cell (rowAt n (now (work .entry)) i) j + x)) (now (work .exit)) ⌝ }
+    ensures { λ _.
+        let r = rowAt n (now (work .entry)) i in
+        ⌜ Put n (now (work .entry)) i (set r j (cell r j + x)) (now (work .exit)) ⌝ }
 {
     let p = row_start(n, i) + j;
     work[p] += x;
@@ -62,7 +65,9 @@ fn carry(work: &mut [u64], n: usize, sets: Sets, edges: &[u64], e: usize)
 // Gathers the weights of all edges, in one pass.
 fn gather(work: &mut [u64], n: usize, sets: Sets, edges: &[u64])
     requires { ⌜ Gatherable n (now edges) (now work) ⌝ }
-    ensures { λ _. ⌜ Held n (λ i j. sumTo (share n (setsOf sets) (now (edges .entry)) i j) (edgeCount (now (edges .entry)))) (now (work .entry)) (now (work .exit)) ⌝ }
+    ensures { λ _.
+        let es = now (edges .entry) in
+        ⌜ Held n (λ i j. sumTo (share n (setsOf sets) es i j) (edgeCount es)) (now (work .entry)) (now (work .exit)) ⌝ }
 {
     clear_work(work, n);
     let count = edge::count(edges);
@@ -85,8 +90,8 @@ fn reward_of(rewards: &[u64], i: usize) -> u64
 
 // Puts what a live state earns into its row, and settles that. Answers whether it fits.
 fn finish(row: &mut [u64], n: usize, alive: bool, earns: u64, rounding: bool) -> bool
-    requires { ⌜ (length (now row) ≡ width n) × (n ≤ mostStates) × Gathered rounding n alive earns (now row) ⌝ }
-    ensures { λ r. ⌜ (now (row .exit) ≡ finished rounding n alive earns (now (row .entry))) × Tested rounding n (now (row .exit)) r ⌝ }
+    requires { ⌜ (length (now row) ≡ width n) × (n ≤ mostStates) × Unfinished rounding n alive earns (now row) ⌝ }
+    ensures { λ r. ⌜ Became rounding n (finished rounding n alive earns (now (row .entry))) (now (row .exit)) r ⌝ }
 {
     if alive {
         row[n + REWARD] = earns;
@@ -97,8 +102,11 @@ fn finish(row: &mut [u64], n: usize, alive: bool, earns: u64, rounding: bool) ->
 
 // Finishes row i of the table. The rest of the work table is as it was.
 fn finish_row(work: &mut [u64], i: usize, n: usize, live: u64, earns: u64, rounding: bool) -> bool
-    requires { ⌜ (workSize n ≤ length (now work)) × (n ≤ mostStates) × (i < n) × Gathered rounding n (eqb (bit live i) 1) earns (rowAt n (now work) i) ⌝ }
-    ensures { λ r. ⌜ Put n (now (work .entry)) i (finished rounding n (eqb (bit live i) 1) earns (rowAt n (now (work .entry)) i)) (now (work .exit)) × Tested rounding n (finished rounding n (eqb (bit live i) 1) earns (rowAt n (now (work .entry)) i)) r ⌝ }
+    requires { let w = now work in
+        ⌜ (workSize n ≤ length w) × (n ≤ mostStates) × (i < n) × Unfinished rounding n (eqb (bit live i) 1) earns (rowAt n w i) ⌝ }
+    ensures { λ r.
+        let w = now (work .entry) in
+        ⌜ Placed rounding n w i (finished rounding n (eqb (bit live i) 1) earns (rowAt n w i)) (now (work .exit)) r ⌝ }
 {
     let a = row_start(n, i);
     let e = a + n + Chain::BESIDE;
@@ -115,7 +123,9 @@ fn finish_all(
     rounding: bool,
 ) -> bool
     requires { ⌜ Finishable rounding n live (now denominators) (now rewards) (now work) ⌝ }
-    ensures { λ r. ⌜ Renewed rounding (finishedAt rounding n live (now (denominators .entry)) (now (rewards .entry)) (now (work .entry))) n (now (work .entry)) (now (work .exit)) r ⌝ }
+    ensures { λ r.
+        let w = now (work .entry) in
+        ⌜ Renewed rounding (finishedAt rounding n live (now (denominators .entry)) (now (rewards .entry)) w) n w (now (work .exit)) r ⌝ }
 {
     let mut i = 0;
     while i < n {
@@ -128,23 +138,23 @@ fn finish_all(
     true
 }
 
-// Makes the first rows of the chain c, whose sets are given. Answers whether all fit.
+// Makes the first rows. Answers whether all fit.
 pub(crate) fn first_rows(
     work: &mut [u64],
-    c: Chain,
-    sets: Sets,
+    e: Elimination,
     denominators: &[u64],
     edges: &[u64],
     rewards: &[u64],
-    rounding: bool,
 ) -> bool
-    requires { ⌜ Asked rounding (chainOf c (now denominators) (now edges)) (setsOf sets) (now rewards) (now work) ⌝ }
+    requires { ⌜ Makeable (e .rounding) (chainOf (e .chain) (now denominators) (now edges)) (setsOf (e .sets)) (now rewards) (now work) ⌝ }
     ensures { λ r.
-        let entire = chainOf c (now (denominators .entry)) (now (edges .entry)) in
-        let pay = earned entire (λ i. getD (now (rewards .entry)) i 0) in
-        ⌜ Made rounding (c .states) (first rounding entire (setsOf sets) pay (λ _. 0)) (now (work .entry)) (now (work .exit)) r ⌝ }
+        let c = chainOf (e .chain) (now (denominators .entry)) (now (edges .entry)) in
+        let t = first (e .rounding) c (setsOf (e .sets)) (earned c (λ i. getD (now (rewards .entry)) i 0)) (λ _. 0) in
+        ⌜ Made (e .rounding) (c .states) t (now (work .entry)) (now (work .exit)) r ⌝ }
 {
+    let c = e.chain;
+    let sets = e.sets;
     let n = c.states;
     gather(work, n, sets, edges);
-    finish_all(work, n, sets.live, denominators, rewards, rounding)
+    finish_all(work, n, sets.live, denominators, rewards, e.rounding)
 }

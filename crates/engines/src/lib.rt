@@ -1,7 +1,6 @@
 // The elimination on the rows of a lent table of 64-bit numbers: exact, or with rows rounded where they do not fit.
 pub mod answer;
 pub mod entry;
-mod figure;
 mod first;
 mod row;
 mod run;

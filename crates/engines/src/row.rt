@@ -6,7 +6,7 @@ ghost use lib.ListN.{length};
 ghost use Rattle.meaning.specs.Chain.{M};
 ghost use Rattle.meaning.specs.Number.{sumTo};
 ghost use Rattle.meaning.specs.Row.{cell, total, reward, gcdOf, over, lowest, upTo, shiftOf, rounded, bounded, settled};
-ghost use Rattle.engines.specs.Row.{Sized, Tested};
+ghost use Rattle.engines.specs.Row.{Summable, Tested, Became};
 use chain::Chain;
 use chain::fraction::gcd;
 
@@ -101,7 +101,7 @@ fn lower(row: &mut [u64], k: u64)
 
 // Rounds a row: the total up, each number but Unknown down, and Unknown takes what the total lacks.
 pub(crate) fn round(row: &mut [u64], n: usize)
-    requires { ⌜ Sized n (now row) ⌝ }
+    requires { ⌜ Summable n (now row) ⌝ }
     ensures { λ _. ⌜ (now (row .exit) ≡ rounded n (now (row .entry))) × (total n (now (row .exit)) ≤ M) ⌝ }
 {
     let t = sum(row, n + REWARD);
@@ -113,7 +113,7 @@ pub(crate) fn round(row: &mut [u64], n: usize)
 
 // Rounds a row whose total does not fit.
 fn bound(row: &mut [u64], n: usize)
-    requires { ⌜ Sized n (now row) ⌝ }
+    requires { ⌜ Summable n (now row) ⌝ }
     ensures { λ _. ⌜ (now (row .exit) ≡ bounded true n (now (row .entry))) × (total n (now (row .exit)) ≤ M) ⌝ }
 {
     if sum(row, n + REWARD) <= Chain::LIMIT {
@@ -124,7 +124,7 @@ fn bound(row: &mut [u64], n: usize)
 
 // Whether the total and the Reward of a row fit, where rows are exact.
 fn fits(row: &[u64], n: usize) -> bool
-    requires { ⌜ Sized n (now row) ⌝ }
+    requires { ⌜ Summable n (now row) ⌝ }
     ensures { λ r. ⌜ Tested false n (now (row .entry)) r ⌝ }
 {
     if Chain::LIMIT < sum(row, n + REWARD) {
@@ -138,8 +138,8 @@ fn fits(row: &[u64], n: usize) -> bool
 
 // Brings a new row to what is kept of it, and says whether it fits. A rounded row always does.
 pub(crate) fn settle(row: &mut [u64], n: usize, rounding: bool) -> bool
-    requires { ⌜ Sized n (now row) × (rounding ≡ true → reward n (now row) ≡ 0) ⌝ }
-    ensures { λ r. ⌜ (now (row .exit) ≡ settled rounding n (now (row .entry))) × Tested rounding n (now (row .exit)) r ⌝ }
+    requires { ⌜ Summable n (now row) × (rounding ≡ true → reward n (now row) ≡ 0) ⌝ }
+    ensures { λ r. ⌜ Became rounding n (settled rounding n (now (row .entry))) (now (row .exit)) r ⌝ }
 {
     reduce(row);
     if rounding {

@@ -6,19 +6,27 @@ ghost use Rattle.meaning.specs.Row.{width};
 ghost use Rattle.meaning.specs.Outcome.{cleared};
 ghost use Rattle.chain.specs.Says.{lent};
 ghost use Rattle.engines.specs.Row.{Fit};
-ghost use Rattle.engines.specs.Table.{rowAt, Kept, Ready};
+ghost use Rattle.engines.specs.Table.{rowAt, Kept, Fitting};
 ghost use Rattle.engines.specs.Sets.{setsOf};
 ghost use Rattle.engines.specs.Run.{endOf, Begun, runs};
 use crate::first::first_rows;
 use crate::row::REWARD;
 use crate::row::UNKNOWN;
 use crate::sets::Sets;
+use crate::sets::holds;
 use crate::step::outside;
 use crate::walk::Walk;
 use crate::walk::eliminate;
 use crate::work::clear_work;
 use crate::work::row_start;
 use chain::Chain;
+
+// An elimination: its chain with its sets, and whether rows are rounded.
+pub(crate) struct Elimination {
+    pub chain: Chain,
+    pub sets: Sets,
+    pub rounding: bool,
+}
 
 // What the elimination comes to: what the start's row holds at the end, with its D; or what stops it.
 pub(crate) enum Course {
@@ -49,7 +57,7 @@ fn last(row: &[u64], n: usize, start: usize, rounding: bool) -> Course
 
 // The same, in the work table.
 fn last_of(work: &[u64], n: usize, start: usize, rounding: bool) -> Course
-    requires { ⌜ Ready rounding n (now work) × (start < n) ⌝ }
+    requires { ⌜ Fitting rounding n (now work) × (start < n) ⌝ }
     ensures { λ r. ⌜ r ≡ endOf n start (rowAt n (now (work .entry)) start) ⌝ }
 {
     let a = row_start(n, start);
@@ -57,29 +65,48 @@ fn last_of(work: &[u64], n: usize, start: usize, rounding: bool) -> Course
     last(&work[a..e], n, start, rounding)
 }
 
-// The elimination in the work table, whose rows it leaves as they come.
+// What the figures are read off where no row is made: the chance is 1 or 0.
+fn no_row(goal: u64) -> Course
+    ensures { λ r. ⌜ r ≡ Course.Ends goal 0 0 1 ⌝ }
+{
+    Course::Ends {
+        goal,
+        unknown: 0,
+        reward: 0,
+        outside: 1,
+    }
+}
+
+// The elimination in the work table, whose rows it leaves as they come. It is begun only where the start is live.
 fn follow(
-    c: Chain,
-    sets: Sets,
+    e: Elimination,
     denominators: &[u64],
     edges: &[u64],
     order: &[u64],
     rewards: &[u64],
     work: &mut [u64],
-    rounding: bool,
 ) -> Course
-    requires { ⌜ Begun rounding (lent c (now denominators) (now edges) (now order) (now rewards) (now work)) (setsOf sets) ⌝ }
-    ensures { λ r. ⌜ Kept (c .states) (now (work .entry)) (now (work .exit)) × runs rounding (lent c (now (denominators .entry)) (now (edges .entry)) (now (order .entry)) (now (rewards .entry)) (now (work .entry))) (setsOf sets) r ⌝ }
+    requires { let l = lent (e .chain) (now denominators) (now edges) (now order) (now rewards) (now work) in
+        ⌜ Begun (e .rounding) l (setsOf (e .sets)) ⌝ }
+    ensures { λ r.
+        let l = lent (e .chain) (now (denominators .entry)) (now (edges .entry)) (now (order .entry)) (now (rewards .entry)) (now (work .entry)) in
+        ⌜ Kept (e .chain .states) (now (work .entry)) (now (work .exit)) × runs (e .rounding) l r ⌝ }
 {
-    if !first_rows(work, c, sets, denominators, edges, rewards, rounding) {
+    let c = e.chain;
+    let sets = e.sets;
+    if holds(c.goals, c.start) {
+        return no_row(1);
+    }
+    if !holds(sets.good, c.start) {
+        return no_row(0);
+    }
+    if !first_rows(work, e, denominators, edges, rewards) {
         return Course::Stops {
             number: 12,
             place: Chain::STATES,
         };
     }
-    let n = c.states;
-    let start = c.start;
-    match eliminate(work, n, order, start, sets.live, rounding) {
+    match eliminate(work, e, order) {
         Walk::NoFit(p) => {
             return Course::Stops {
                 number: 12,
@@ -94,24 +121,26 @@ fn follow(
         }
         Walk::Done => {}
     }
-    last_of(work, n, start, rounding)
+    last_of(work, c.states, c.start, e.rounding)
 }
 
 // The elimination, after which the work table is zero.
 pub(crate) fn run(
-    c: Chain,
-    sets: Sets,
+    e: Elimination,
     denominators: &[u64],
     edges: &[u64],
     order: &[u64],
     rewards: &[u64],
     work: &mut [u64],
-    rounding: bool,
 ) -> Course
-    requires { ⌜ Begun rounding (lent c (now denominators) (now edges) (now order) (now rewards) (now work)) (setsOf sets) ⌝ }
-    ensures { λ r. ⌜ (now (work .exit) ≡ cleared (lent c (now (denominators .entry)) (now (edges .entry)) (now (order .entry)) (now (rewards .entry)) (now (work .entry)))) × runs rounding (lent c (now (denominators .entry)) (now (edges .entry)) (now (order .entry)) (now (rewards .entry)) (now (work .entry))) (setsOf sets) r ⌝ }
+    requires { let l = lent (e .chain) (now denominators) (now edges) (now order) (now rewards) (now work) in
+        ⌜ Begun (e .rounding) l (setsOf (e .sets)) ⌝ }
+    ensures { λ r.
+        let l = lent (e .chain) (now (denominators .entry)) (now (edges .entry)) (now (order .entry)) (now (rewards .entry)) (now (work .entry)) in
+        ⌜ (now (work .exit) ≡ cleared l) × runs (e .rounding) l r ⌝ }
 {
-    let r = follow(c, sets, denominators, edges, order, rewards, work, rounding);
+    let r = follow(e, denominators, edges, order, rewards, work);
+    let c = e.chain;
     clear_work(work, c.states);
     r
 }

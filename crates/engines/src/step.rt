@@ -8,8 +8,8 @@ ghost use Rattle.meaning.specs.Number.{choose};
 ghost use Rattle.meaning.specs.Row.{width, settled};
 ghost use Rattle.meaning.specs.Refusal.{workSize};
 ghost use Rattle.meaning.specs.Step.{row, combined, renewed, outside, removed};
-ghost use Rattle.engines.specs.Row.{Small, Fit, Tested};
-ghost use Rattle.engines.specs.Table.{rowAt, tableOf, Put, Renewed, Ready};
+ghost use Rattle.engines.specs.Row.{Small, Fit, Became};
+ghost use Rattle.engines.specs.Table.{rowAt, tableOf, Placed, Renewed, Fitting};
 ghost use Rattle.engines.specs.Turn.{Turned};
 use crate::row::REWARD;
 use crate::row::settle;
@@ -35,7 +35,8 @@ fn merge(x: u64, d: u64, w: u64, p: u64, gone: bool) -> u64
 
 // Puts the row of state s, whose D is d, in the place of a row's weight to s.
 pub(crate) fn combine(row: &mut [u64], pivot: &[u64; Chain::WIDTH], s: usize, d: u64)
-    requires { ⌜ (s < length (now row)) × (length (now row) ≤ width mostStates) × (d ≤ M) × Small (length (now row)) (now row) × Small (length (now row)) (now pivot) ⌝ }
+    requires { let m = length (now row) in
+        ⌜ (s < m) × (m ≤ width mostStates) × (d ≤ M) × Small m (now row) × Small m (now pivot) ⌝ }
     ensures { λ _. ⌜ now (row .exit) ≡ combined s d (now (pivot .entry)) (now (row .entry)) ⌝ }
 {
     let w = row[s];
@@ -56,7 +57,7 @@ fn change(
     rounding: bool,
 ) -> bool
     requires { ⌜ (length (now row) ≡ width n) × (n ≤ mostStates) × (s < n) × (d ≤ M) × Fit rounding n (now row) × Fit rounding n (now pivot) ⌝ }
-    ensures { λ r. ⌜ (now (row .exit) ≡ settled rounding n (combined s d (now (pivot .entry)) (now (row .entry)))) × Tested rounding n (now (row .exit)) r ⌝ }
+    ensures { λ r. ⌜ Became rounding n (settled rounding n (combined s d (now (pivot .entry)) (now (row .entry)))) (now (row .exit)) r ⌝ }
 {
     combine(row, pivot, s, d);
     settle(row, n, rounding)
@@ -73,7 +74,7 @@ fn renew(
     rounding: bool,
 ) -> bool
     requires { ⌜ (length (now row) ≡ width n) × (n ≤ mostStates) × (s < n) × (d ≤ M) × Fit rounding n (now row) × Fit rounding n (now pivot) ⌝ }
-    ensures { λ r. ⌜ (now (row .exit) ≡ renewed rounding n s d (now (pivot .entry)) own (now (row .entry))) × Tested rounding n (now (row .exit)) r ⌝ }
+    ensures { λ r. ⌜ Became rounding n (renewed rounding n s d (now (pivot .entry)) own (now (row .entry))) (now (row .exit)) r ⌝ }
 {
     if own {
         clear(row);
@@ -95,8 +96,11 @@ fn renew_row(
     pivot: &[u64; Chain::WIDTH],
     rounding: bool,
 ) -> bool
-    requires { ⌜ (workSize n ≤ length (now work)) × (n ≤ mostStates) × (i < n) × (s < n) × (d ≤ M) × Fit rounding n (rowAt n (now work) i) × Fit rounding n (now pivot) ⌝ }
-    ensures { λ r. ⌜ Put n (now (work .entry)) i (renewed rounding n s d (now (pivot .entry)) (eqb i s) (rowAt n (now (work .entry)) i)) (now (work .exit)) × Tested rounding n (renewed rounding n s d (now (pivot .entry)) (eqb i s) (rowAt n (now (work .entry)) i)) r ⌝ }
+    requires { let w = now work in
+        ⌜ (workSize n ≤ length w) × (n ≤ mostStates) × (i < n) × (s < n) × (d ≤ M) × Fit rounding n (rowAt n w i) × Fit rounding n (now pivot) ⌝ }
+    ensures { λ r.
+        let w = now (work .entry) in
+        ⌜ Placed rounding n w i (renewed rounding n s d (now (pivot .entry)) (eqb i s) (rowAt n w i)) (now (work .exit)) r ⌝ }
 {
     let a = row_start(n, i);
     let e = a + n + Chain::BESIDE;
@@ -134,8 +138,10 @@ fn renew_all(
     pivot: &[u64; Chain::WIDTH],
     rounding: bool,
 ) -> bool
-    requires { ⌜ Ready rounding n (now work) × (s < n) × (d ≤ M) × Fit rounding n (now pivot) ⌝ }
-    ensures { λ r. ⌜ Renewed rounding (λ k. renewed rounding n s d (now (pivot .entry)) (eqb k s) (rowAt n (now (work .entry)) k)) n (now (work .entry)) (now (work .exit)) r ⌝ }
+    requires { ⌜ Fitting rounding n (now work) × (s < n) × (d ≤ M) × Fit rounding n (now pivot) ⌝ }
+    ensures { λ r.
+        let w = now (work .entry) in
+        ⌜ Renewed rounding (λ k. renewed rounding n s d (now (pivot .entry)) (eqb k s) (rowAt n w k)) n w (now (work .exit)) r ⌝ }
 {
     let mut i = 0;
     while i < n {
@@ -149,8 +155,11 @@ fn renew_all(
 
 // Removes the state s from the table.
 pub(crate) fn remove(work: &mut [u64], n: usize, s: usize, rounding: bool) -> Turn
-    requires { ⌜ Ready rounding n (now work) × (s < n) ⌝ }
-    ensures { λ r. ⌜ Turned rounding n (outside n s (row (tableOf n (now (work .entry))) s) ≡ 0) (removed rounding n s (tableOf n (now (work .entry)))) (now (work .entry)) (now (work .exit)) r ⌝ }
+    requires { ⌜ Fitting rounding n (now work) × (s < n) ⌝ }
+    ensures { λ r.
+        let w = now (work .entry) in
+        let t = tableOf n w in
+        ⌜ Turned rounding n (outside n s (row t s) ≡ 0) (removed rounding n s t) w (now (work .exit)) r ⌝ }
 {
     let a = row_start(n, s);
     let e = a + n + Chain::BESIDE;

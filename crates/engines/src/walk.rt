@@ -1,14 +1,15 @@
 // The walk through the order: each state that goes is removed at its turn.
 ghost use mathlib.Core.Path.{_≡_};
-ghost use mathlib.Core.Bool.{true};
 ghost use Prim.Native.Nat.{ℕ, _<_};
 ghost use lib.ListN.{length, getD};
 ghost use Rattle.meaning.specs.Number.{choose};
 ghost use Rattle.meaning.specs.Chain.{mostStates};
-ghost use Rattle.meaning.specs.Step.{row, goes, outside, removed};
-ghost use Rattle.engines.specs.Table.{tableOf, Ready};
+ghost use Rattle.meaning.specs.Step.{removed};
+ghost use Rattle.meaning.specs.Stop.{Stuck};
+ghost use Rattle.engines.specs.Table.{tableOf, Fitting};
 ghost use Rattle.engines.specs.Turn.{Turned};
-ghost use Rattle.engines.specs.Order.{walked};
+ghost use Rattle.engines.specs.Order.{going, walked};
+use crate::run::Elimination;
 use crate::sets::holds;
 use crate::step::Turn;
 use crate::step::remove;
@@ -21,43 +22,46 @@ pub(crate) enum Walk {
 }
 
 // Whether the state s is removed at its turn.
-fn goes(s: usize, start: usize, live: u64) -> bool
+fn goes(s: usize, e: Elimination) -> bool
     requires { ⌜ s < mostStates ⌝ }
-    ensures { λ r. ⌜ r ≡ goes start live s ⌝ }
+    ensures { λ r. ⌜ r ≡ going e s ⌝ }
 {
-    if s == start {
+    let c = e.chain;
+    if s == c.start {
         return false;
     }
-    holds(live, s)
+    let sets = e.sets;
+    holds(sets.live, s)
 }
 
 // The turn of the state s.
-fn turn(work: &mut [u64], n: usize, s: usize, start: usize, live: u64, rounding: bool) -> Turn
-    requires { ⌜ Ready rounding n (now work) × (s < n) ⌝ }
-    ensures { λ r. ⌜ Turned rounding n ((goes start live s ≡ true) × (outside n s (row (tableOf n (now (work .entry))) s) ≡ 0)) (choose (goes start live s) (removed rounding n s (tableOf n (now (work .entry)))) (tableOf n (now (work .entry)))) (now (work .entry)) (now (work .exit)) r ⌝ }
+fn turn(work: &mut [u64], e: Elimination, s: usize) -> Turn
+    requires { ⌜ Fitting (e .rounding) (e .chain .states) (now work) × (s < e .chain .states) ⌝ }
+    ensures { λ r.
+        let n = e .chain .states in
+        let w = now (work .entry) in
+        let t = tableOf n w in
+        ⌜ Turned (e .rounding) n (Stuck n (going e) s t) (choose (going e s) (removed (e .rounding) n s t) t) w (now (work .exit)) r ⌝ }
 {
-    if goes(s, start, live) {
-        return remove(work, n, s, rounding);
+    if goes(s, e) {
+        let c = e.chain;
+        return remove(work, c.states, s, e.rounding);
     }
     Turn::Done
 }
 
 // Takes the states in their order, up to the first position that stops the elimination.
-pub(crate) fn eliminate(
-    work: &mut [u64],
-    n: usize,
-    order: &[u64],
-    start: usize,
-    live: u64,
-    rounding: bool,
-) -> Walk
-    requires { ⌜ Ready rounding n (now work) × (length (now order) ≡ n) × ((p : ℕ) → p < n → getD (now order) p 0 < n) ⌝ }
-    ensures { λ r. ⌜ walked rounding n (goes start live) (now (order .entry)) (now (work .entry)) (now (work .exit)) r ⌝ }
+pub(crate) fn eliminate(work: &mut [u64], e: Elimination, order: &[u64]) -> Walk
+    requires { ⌜ Fitting (e .rounding) (e .chain .states) (now work) × (length (now order) ≡ e .chain .states) ⌝ }
+    requires { ⌜ ((p : ℕ) → p < e .chain .states → getD (now order) p 0 < e .chain .states) ⌝ }
+    ensures { λ r. ⌜ walked (e .rounding) (e .chain .states) (going e) (now (order .entry)) (now (work .entry)) (now (work .exit)) r ⌝ }
 {
+    let c = e.chain;
+    let n = c.states;
     let mut p = 0;
     while p < n {
         let s = order[p] as usize;
-        match turn(work, n, s, start, live, rounding) {
+        match turn(work, e, s) {
             Turn::Done => {}
             Turn::NoFit => return Walk::NoFit(p),
             Turn::NoWay => return Walk::NoWay(p),

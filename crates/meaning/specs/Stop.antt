@@ -30,22 +30,30 @@ tableAt b l k p = stage b (l .chain) k (earns l) (l .order) p
 abbrev pub Large : ℕ → Row → Type 0
 Large n r = (M < total n r) ⊎ (M < reward n r)
 
--- No fit: in the exact engine a kept row, which is in lowest terms, is large.
+-- No fit: in the exact engine a kept row of the table, which is in lowest terms, is large.
+abbrev pub Unfit : Bool → ℕ → Table → Type 0
+Unfit b n t = (b ≡ exact) × ((i : ℕ) × ((i < n) × Large n (row t i)))
+
+-- D is zero at the turn of the state s; `go` says which states are removed at their turn.
+abbrev pub Stuck : ℕ → (ℕ → Bool) → ℕ → Table → Type 0
+Stuck n go s t = (go s ≡ true) × (outside n s (row t s) ≡ 0)
+
+-- Up to the first p positions no table has a row that does not fit, and at none of their turns D is zero.
+pub record Unstopped (NoFit NoWay : ℕ → Type 0) (p : ℕ) : Type 0 where
+  pub fits : (q : ℕ) → q ≤ p → NoFit q → ⊥
+  pub turns : (q : ℕ) → q < p → NoWay q → ⊥
+
+-- After the first p positions of the order a row does not fit.
 abbrev pub NoFit : Bool → Lent → Sets → ℕ → Type 0
-NoFit b l k p =
-    let n = l .chain .states in
-    (b ≡ exact) × ((i : ℕ) × ((i < n) × Large n (row (tableAt b l k p) i)))
+NoFit b l k p = Unfit b (l .chain .states) (tableAt b l k p)
 
 -- D is zero at the turn of the state at position p.
 abbrev pub NoWay : Bool → Lent → Sets → ℕ → Type 0
-NoWay b l k p =
-    let s = turn l p in
-    (goes (l .chain .start) (k .live) s ≡ true) × (outside (l .chain .states) s (row (tableAt b l k p) s) ≡ 0)
+NoWay b l k p = Stuck (l .chain .states) (goes (l .chain .start) (k .live)) (turn l p) (tableAt b l k p)
 
 -- Nothing stopped the elimination up to the first p positions.
-pub record Passed (b : Bool) (l : Lent) (k : Sets) (p : ℕ) : Type 0 where
-  pub fits : (q : ℕ) → q ≤ p → NoFit b l k q → ⊥
-  pub turns : (q : ℕ) → q < p → NoWay b l k q → ⊥
+abbrev pub Passed : Bool → Lent → Sets → ℕ → Type 0
+Passed b l k p = Unstopped (NoFit b l k) (NoWay b l k) p
 
 -- What stops the elimination first: 12 where a row does not fit, at the position of the step, or at 64 before the first step; 13 where D is
 -- zero at a state's turn, at its position.

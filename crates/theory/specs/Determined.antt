@@ -6,7 +6,7 @@ use mathlib.Core.List.{List}
 use native.Mathlib.Omega.{arith}
 use Rattle.meaning.specs.Step.{Sets}
 use Rattle.meaning.specs.Refusal.{Lent, Entry, Refused, WellFormed}
-use Rattle.meaning.specs.Stop.{NoFit, NoWay, Passed, Stops, before-steps, in-step, at-turn}
+use Rattle.meaning.specs.Stop.{Unstopped, Stops, before-steps, in-step, at-turn}
 use Rattle.meaning.specs.Outcome.{Outcome, refused, stopped, answered}
 
 meet : (a b : ℕ) → (a < b → ⊥) → (b < a → ⊥) → a ≡ b
@@ -25,13 +25,13 @@ module _ {x : Entry} {l : Lent} where
   refused-one {k} {p} {k′} {p′} r s =
       let e = refused-number r s in (e, refused-place r (subst (λ z. Refused x l z p′) (sym e) s))
 
+-- A step and a turn do not both come first.
+crossed : {NoFit NoWay : ℕ → Type 0} (p q : ℕ) → Unstopped NoFit NoWay p → Unstopped NoFit NoWay q → (NoWay p → ⊥) → NoFit (suc p) → NoWay q → ⊥
+crossed {NoWay = NoWay} p q w w′ on large stuck =
+    on (subst NoWay (meet q p (λ h. w .turns q h stuck) (λ h. w′ .fits (suc p) h large)) stuck)
+
 -- The numbers 12 and 13: what comes first is one of them, at one place.
 module _ {b : Bool} {l : Lent} {k : Sets} where
-  -- A step and a turn do not both come first.
-  crossed : (p q : ℕ) → Passed b l k p → Passed b l k q → (NoWay b l k p → ⊥) → NoFit b l k (suc p) → NoWay b l k q → ⊥
-  crossed p q w w′ on large stuck =
-      on (subst (NoWay b l k) (meet q p (λ h. w .turns q h stuck) (λ h. w′ .fits (suc p) h large)) stuck)
-
   pub stops-one : {n p n′ p′ : ℕ} → Stops b l k n p → Stops b l k n′ p′ → (n ≡ n′) × (p ≡ p′)
   stops-one (before-steps a) (before-steps a′) = (refl, refl)
   stops-one (before-steps a) (in-step q h′ w′ d′ f′) = absurd (w′ .fits 0 (omega arith) a)

@@ -2,7 +2,6 @@ use mathlib.Core.Path.{refl}
 use mathlib.Core.List.{[]}
 use native.Mathlib.Omega.{arith}
 use borrow.Author.Needs.{needs}
-use Rattle.meaning.specs.Row.{rounding}
 use Rattle.meaning.specs.Refusal.{Lent, plain, WellFormed}
 use Rattle.meaning.specs.Outcome.{refused}
 use Rattle.chain.specs.Says.{lent}
@@ -27,29 +26,29 @@ returns c =
 of-requires : tie.Need-of-requires
 of-requires c κs = let m = l (c .before .before) in (start-fits plain m (formed c), ends-fit plain m (formed c))
 
-figures-requires : tie.Need-figures-requires
-figures-requires c κs =
+run-requires : tie.Need-run-requires
+run-requires c κs =
     let at = c .before .before .before in
-    begun plain (l (at .before .before)) (formed at) rounding _ refl refl (λ _. refl) (c .before .before .of .ensures _ .right)
+    begun plain (l (at .before .before)) (formed at) _ _ refl refl (λ _. refl) (c .before .before .of .ensures _ .right)
 
 add-new : tie.Need-add-new
 add-new c =
     let f = c .before .before .before .before .before .before .before in
     let at = f .before .before .before .before in
-    omega (arith, bounds-sum (l (at .before .before)) (formed at) (c .before .before .before .goal .given .1) (f .figures .ensures .1))
+    omega (arith, bounds-sum (l (at .before .before)) (formed at) (c .before .before .before .goal .given .1) (f .run .ensures .1))
 
 returns-2 : tie.Need-returns-2
 returns-2 c =
     let f = c .before .before .before .before .before .before .before .before .before in
     let at = f .before .before .before .before in
-    bounds-answer (l (at .before .before)) (formed at) (f .figures .ensures .0) (c .before .before .before .before .before .goal .given .1) (f .figures .ensures .1)
+    bounds-answer (l (at .before .before)) (formed at) (f .run .ensures .0) (c .before .before .before .before .before .goal .given .1) (f .run .ensures .1)
     (reduced-of (c .before .before .before .new .ensures) (c .before .before .reduce .ensures)) (reduced-of (c .before .new2 .ensures) (c .reduce2 .ensures))
 
 returns-3 : tie.Need-returns-3
 returns-3 c =
     let f = c .before .before .before .before .before in
     let at = f .before .before .before .before in
-    bounds-stop (l (at .before .before)) (formed at) (f .figures .ensures .0) (c .before .number2 .given .1) (f .figures .ensures .1)
+    bounds-stop (l (at .before .before)) (formed at) (f .run .ensures .0) (c .before .number2 .given .1) (f .run .ensures .1)
 
 pub bounds-spec : {M : Type 1} → statement M
 bounds-spec =
@@ -62,7 +61,7 @@ bounds-spec =
     (λ c. search needs)
     of-requires
     (λ c. search needs)
-    figures-requires
+    run-requires
     (λ c. search needs)
     (λ c κs. search needs)
     (λ c κs. search needs)

@@ -26,8 +26,8 @@ returns c =
 of-requires : tie.Need-of-requires
 of-requires c κs = let m = l (c .before .before) in (start-fits plain m (formed c), ends-fit plain m (formed c))
 
-figures-requires : tie.Need-figures-requires
-figures-requires c κs =
+run-requires : tie.Need-run-requires
+run-requires c κs =
     let at = c .before .before .before in
     begun plain (l (at .before .before)) (formed at) exact _ refl refl (λ _. refl) (c .before .before .of .ensures _ .right)
 
@@ -35,14 +35,14 @@ returns-2 : tie.Need-returns-2
 returns-2 c =
     let f = c .before .before .before .before .before .before .before in
     let at = f .before .before .before .before in
-    chance-answers (l (at .before .before)) (formed at) (f .figures .ensures .0) (c .before .before .before .goal .given .1) (f .figures .ensures .1)
+    chance-answers (l (at .before .before)) (formed at) (f .run .ensures .0) (c .before .before .before .goal .given .1) (f .run .ensures .1)
     (reduced-of (c .before .new .ensures) (c .reduce .ensures))
 
 returns-3 : tie.Need-returns-3
 returns-3 c =
     let f = c .before .before .before .before .before in
     let at = f .before .before .before .before in
-    chance-stops (l (at .before .before)) (formed at) (f .figures .ensures .0) (c .before .number2 .given .1) (f .figures .ensures .1)
+    chance-stops (l (at .before .before)) (formed at) (f .run .ensures .0) (c .before .number2 .given .1) (f .run .ensures .1)
 
 pub chance-spec : {M : Type 1} → statement M
 chance-spec =
@@ -55,7 +55,7 @@ chance-spec =
     (λ c. search needs)
     of-requires
     (λ c. search needs)
-    figures-requires
+    run-requires
     (λ c. search needs)
     (λ c κs. search needs)
     (λ c κs. search needs)

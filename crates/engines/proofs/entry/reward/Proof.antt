@@ -33,7 +33,7 @@ clear-work-requires : tie.Need-clear-work-requires
 clear-work-requires c κs =
     let at = c .before .before .before in
     let m = l (at .before .before) in
-    (few-states paid m (formed at), room paid m (formed at) refl)
+    (omega (arith, few-states paid m (formed at)), omega (arith, room paid m (formed at) refl))
 
 returns-2 : tie.Need-returns-2
 returns-2 c =
@@ -41,8 +41,8 @@ returns-2 c =
     let at = o .before in
     reward-misses (l (at .before .before)) (formed at) (c .before .before .clear-work .ensures) (holds _ (o .of .ensures _ .missed) (c .before .before .before .before .if1 .taken))
 
-figures-requires : tie.Need-figures-requires
-figures-requires c κs =
+run-requires : tie.Need-run-requires
+run-requires c κs =
     let at = c .before .before .before in
     begun paid (l (at .before .before)) (formed at) exact _ refl refl (λ e. absurd (apart e)) (c .before .before .of .ensures _ .right)
   where
@@ -57,7 +57,7 @@ returns-3 c =
     let f = c .before .before .before .before .before .before .before in
     let o = f .before .before in
     let at = o .before .before in
-    reward-answers (l (at .before .before)) (formed at) (f .figures .ensures .0) (sure o) (c .before .before .before .reward .given .1) (f .figures .ensures .1)
+    reward-answers (l (at .before .before)) (formed at) (f .run .ensures .0) (sure o) (c .before .before .before .reward .given .1) (f .run .ensures .1)
     (reduced-of (c .before .new .ensures) (c .reduce .ensures))
 
 returns-4 : tie.Need-returns-4
@@ -65,7 +65,7 @@ returns-4 c =
     let f = c .before .before .before .before .before in
     let o = f .before .before in
     let at = o .before .before in
-    reward-stops (l (at .before .before)) (formed at) (f .figures .ensures .0) (sure o) (c .before .number2 .given .1) (f .figures .ensures .1)
+    reward-stops (l (at .before .before)) (formed at) (f .run .ensures .0) (sure o) (c .before .number2 .given .1) (f .run .ensures .1)
 
 pub reward-spec : {M : Type 1} → statement M
 reward-spec =
@@ -80,7 +80,7 @@ reward-spec =
     clear-work-requires
     (λ c. search needs)
     returns-2
-    figures-requires
+    run-requires
     (λ c. search needs)
     (λ c κs. search needs)
     (λ c κs. search needs)

@@ -44,7 +44,7 @@ returns c =
     let r = c .before .before .before .before .before .before .reward-of .ensures in
     let o = z .old _ (omega arith) b in
     let e = c .before .before .before .finish-row .ensures in
-    renewing-stop z b (rw (r, o) at (e .0)) (rw (r, o) at (e .1)) (not-true _ (c .if1 .taken))
+    renewing-stop z b (rw (r, o) at e) (not-true _ (c .if1 .taken))
 
 loop-again : tie.Need-loop-again Inv-loop μ-loop
 loop-again c =
@@ -53,7 +53,7 @@ loop-again c =
     let r = c .before .before .before .before .before .before .reward-of .ensures in
     let o = z .old _ (omega arith) b in
     let e = c .before .before .before .finish-row .ensures in
-    renewing-more z b (rw (r, o) at (e .0)) (rw (r, o) at (e .1)) (not-false _ (c .if1 .left))
+    renewing-more z b (rw (r, o) at e) (not-false _ (c .if1 .left))
 
 returns-2 : tie.Need-returns-2 Inv-loop μ-loop
 returns-2 c = renewing-all (c .before .loop .inv) (omega arith)

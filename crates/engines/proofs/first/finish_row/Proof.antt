@@ -1,7 +1,5 @@
-use mathlib.Core.Path.{_∙_, ap}
-use lib.ListN.{length}
 use borrow.Author.Needs.{needs}
-use Rattle.engines.proofs.Tables.{lent, put-back, length-row}
+use Rattle.engines.proofs.Tables.{lent, placed, length-row}
 use Rattle.engines.proofs.first.finish_row.Statement.{statement}
 use Rattle.engines.proofs.first.finish_row.Tie as tie
 
@@ -17,17 +15,14 @@ finish-requires c κs =
 returns : tie.Need-returns
 returns c =
     let d = c .before .before .before in
-    let p = rw (d .holds .ensures) at (c .before .before .finish .ensures) in
     let b = d .before .before in
     let s = b .before .before in
     let a = s .args in
     let h = s .pre in
     let w = a .work .now in
     let at = b .row-start .ensures .0 in
-    let out = lent (a .n) (a .i) _ at w in
-    let e = rw out at (p .0) in
-    let l = c .before .before .finish .kept .0 ∙ ap length out ∙ length-row (a .n) w (h .0) (a .i) (h .2) in
-    (put-back (a .n) w (h .0) (a .i) (h .2) _ at _ _ l e, rw e at (p .1))
+    placed (a .n) w (h .0) (a .i) (h .2) _ at (c .before .before .finish .kept .0)
+    (rw (d .holds .ensures, lent (a .n) (a .i) _ at w) at (c .before .before .finish .ensures))
 
 pub finish-row-spec : {M : Type 1} → statement M
 finish-row-spec =

@@ -1,32 +1,38 @@
 use borrow.Author.Needs.{needs}
+use Rattle.meaning.specs.Chain.{Chain}
+use Rattle.meaning.specs.Step.{Sets}
 use Rattle.engines.specs.Sets.{chainOf, setsOf}
-use Rattle.engines.proofs.FirstRows.{asked-gatherable, asked-finishable, first-made}
+use Rattle.engines.proofs.FirstRows.{makeable-gatherable, makeable-finishable, first-made}
 use Rattle.engines.proofs.first.first_rows.Statement.{statement}
 use Rattle.engines.proofs.first.first_rows.Tie as tie
 
+-- The chain, and its sets.
+abbrev chain : tie.Start → Chain
+chain s = let a = s .args in chainOf (a .e .chain) (a .denominators .now) (a .edges .now)
+
+abbrev k : tie.Start → Sets
+k s = setsOf (s .args .e .sets)
+
 gather-requires : tie.Need-gather-requires
 gather-requires c κs =
-    let s = c .before .before .before .before .before in
+    let s = c .before .before .before .before .before .before .before in
     let a = s .args in
-    asked-gatherable (chainOf (a .c) (a .denominators .now) (a .edges .now)) (setsOf (a .sets)) (a .rounding)
-    (a .rewards .now) (a .work .now) (s .pre)
+    makeable-gatherable (chain s) (k s) (a .e .rounding) (a .rewards .now) (a .work .now) (s .pre)
 
 finish-all-requires : tie.Need-finish-all-requires
 finish-all-requires c κs =
     let g = c .before .before .before in
-    let s = g .before .before .before .before .before .before in
+    let s = g .before .before .before .before .before .before .before .before in
     let a = s .args in
-    asked-finishable (chainOf (a .c) (a .denominators .now) (a .edges .now)) (setsOf (a .sets)) (a .rounding)
-    (a .rewards .now) (a .work .now) (s .pre) _ (g .gather .ensures)
+    makeable-finishable (chain s) (k s) (a .e .rounding) (a .rewards .now) (a .work .now) (s .pre) _ (g .gather .ensures)
 
 returns : tie.Need-returns
 returns c =
     let f = c .before .before in
     let g = f .before .before .before .before in
-    let s = g .before .before .before .before .before .before in
+    let s = g .before .before .before .before .before .before .before .before in
     let a = s .args in
-    first-made (chainOf (a .c) (a .denominators .now) (a .edges .now)) (setsOf (a .sets)) (a .rounding)
-    (a .rewards .now) (a .work .now) (s .pre) _ (g .gather .ensures) (f .finish-all .ensures)
+    first-made (chain s) (k s) (a .e .rounding) (a .rewards .now) (a .work .now) (s .pre) _ (g .gather .ensures) (f .finish-all .ensures)
 
 pub first-rows-spec : {M : Type 1} → statement M
 first-rows-spec = tie.close (tie.spec gather-requires finish-all-requires (λ c. search needs) returns)

@@ -3,7 +3,7 @@ use native.Mathlib.Omega.{arith}
 use borrow.Author.Needs.{needs}
 use mathlib.Core.Bool.{true}
 use Rattle.meaning.specs.Row.{settled, bounded}
-use Rattle.engines.proofs.Rows.{total-le, bounded-off, settled-fit, tested-fit}
+use Rattle.engines.proofs.Rows.{total-le, bounded-off, settled-fit, tested-fit, became}
 use Rattle.engines.proofs.row.settle.Statement.{statement}
 use Rattle.engines.proofs.row.settle.Tie as tie
 
@@ -21,7 +21,7 @@ returns c =
     let r = c .before .before .before .before .before .before .before .reduce .ensures in
     let e = c .before .before .bound .ensures in
     let q = e .0 ∙ ap (bounded true (a .n)) r in
-    (q ∙ rw y, tested-fit (settled-fit (a .n) (a .row .now) _ (a .rounding) y q (e .1) (t .pre .1 y)))
+    became (q ∙ rw y) (tested-fit (settled-fit (a .n) (a .row .now) _ (a .rounding) y q (e .1) (t .pre .1 y)))
 
 fits-requires : tie.Need-fits-requires
 fits-requires c κs =
@@ -34,7 +34,7 @@ returns-2 c =
     let a = c .before .before .before .before .before .before .before .before .args in
     let y = c .before .before .if1 .left in
     let r = c .before .before .before .before .before .reduce .ensures in
-    (r ∙ bounded-off (a .n) _ (a .rounding) y, rw y (c .fits2 .ensures))
+    became (r ∙ bounded-off (a .n) _ (a .rounding) y) (rw y (c .fits2 .ensures))
 
 pub settle-spec : {M : Type 1} → statement M
 settle-spec =

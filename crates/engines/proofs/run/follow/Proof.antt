@@ -1,132 +1,175 @@
-use mathlib.Core.Path.{_≡_}
+use mathlib.Core.Path.{_≡_, sym, _∙_}
 use native.Mathlib.Omega.{arith}
 use borrow.Author.Needs.{needs}
-use borrow.Author.Tests.{not-true, not-false}
-use Rattle.meaning.specs.Step.{Sets, goes, first, after}
+use borrow.Author.Tests.{not-true, not-false, eqb-true, eqb-false}
+use Rattle.meaning.specs.Chain.{Live}
+use Rattle.meaning.specs.Step.{Sets, first, after}
 use Rattle.meaning.specs.Stop.{earns}
 use Rattle.meaning.specs.Refusal.{Lent}
 use Rattle.chain.specs.Says.{lent as lentTo}
 use Rattle.engines.specs.Sets.{setsOf}
 use Rattle.engines.specs.Run.{Begun}
 use Rattle.engines.specs.Table.{tableOf, Kept}
-use Rattle.engines.specs.Order.{Finished}
+use Rattle.engines.specs.Order.{going, Finished}
 use Rattle.engines.specs.declared.walk.Walk.the-variants.{Done}
 use Rattle.engines.specs.Turn.{Reached}
-use Rattle.engines.proofs.Tables.{kept-more}
-use Rattle.engines.proofs.FirstRows.{first-stops}
-use Rattle.engines.proofs.Turns.{reached-ready}
-use Rattle.engines.proofs.Course.{stops-unfit, stops-stuck, ends, reads, walk-kept}
+use Rattle.engines.proofs.Tables.{kept-same, kept-more}
+use Rattle.engines.proofs.Turns.{reached-fitting}
+use Rattle.engines.proofs.Course.{runs-won, runs-lost, start-live, stops-first, stops-unfit, stops-stuck, reads, walk-done, walk-kept}
 use Rattle.engines.proofs.run.follow.Statement.{statement}
 use Rattle.engines.proofs.run.follow.Tie as tie
 
 -- What is lent, and the sets.
 abbrev l : tie.Start → Lent
-l c = let a = c .args in lentTo (a .c) (a .denominators .now) (a .edges .now) (a .order .now) (a .rewards .now) (a .work .now)
+l c = let a = c .args in lentTo (a .e .chain) (a .denominators .now) (a .edges .now) (a .order .now) (a .rewards .now) (a .work .now)
 
 abbrev k : tie.Start → Sets
-k c = setsOf (c .args .sets)
+k c = setsOf (c .args .e .sets)
 
-begun : (c : tie.Start) → Begun (c .args .rounding) (l c) (k c)
+begun : (c : tie.Start) → Begun (c .args .e .rounding) (l c) (k c)
 begun c = c .pre
 
+returns : tie.Need-returns
+returns c =
+    let h = c .before .before in
+    let s = h .before .before .before .before .before .before .before .before in (
+      kept-same (s .args .e .chain .states) (s .args .work .now),
+      runs-won (s .args .e .rounding) (l s) (k s) (begun s .asked .right) (eqb-true _ _ (sym (h .holds .ensures) ∙ c .before .if1 .taken)) (c .no-row .ensures),
+    )
+
+returns-2 : tie.Need-returns-2
+returns-2 c =
+    let h = c .before .before in
+    let s = h .before .before .before .before .before .before .before .before .before .before in (
+      kept-same (s .args .e .chain .states) (s .args .work .now),
+      runs-lost (s .args .e .rounding) (l s) (k s) (begun s .asked .right) (eqb-false _ _ (sym (h .holds2 .ensures) ∙ not-true _ (c .before .if2 .taken))) (c .no-row2 .ensures),
+    )
+
+-- The elimination is begun where the start is live.
+abbrev start-of : tie.Else2 → tie.Start
+start-of c = c .before .before .before .before .before .before .before .before .before .before .before
+
+alive : (c : tie.Else2) → Live (l (start-of c) .chain) (l (start-of c) .chain .start)
+alive c =
+    let s = start-of c in
+    start-live (s .args .e .rounding) (l s) (k s) (begun s .asked .right) (eqb-false _ _ (sym (c .before .before .before .holds .ensures) ∙ c .before .before .if1 .left))
+    (eqb-true _ _ (sym (c .before .holds2 .ensures) ∙ not-false _ (c .if2 .left)))
+
 first-rows-requires : tie.Need-first-rows-requires
-first-rows-requires c κs = begun (c .before .before .before .before .before .before) .asked
+first-rows-requires c κs = begun (start-of (c .before)) .asked
 
 same-length : tie.Need-same-length
 same-length c = c .before .before .before .first-rows .ensures .kept .len
 
-returns : tie.Need-returns
-returns c =
+returns-3 : tie.Need-returns-3
+returns-3 c =
     let at = c .before .before .before in
-    let s = at .before .before .before .before .before .before .before in
+    let y = at .before .before in
+    let s = start-of y in
     let m = at .first-rows .ensures in
-    (m .kept, first-stops (s .args .rounding) (l s) (k s) (m .unfit (not-true _ (c .if1 .taken))))
+    (m .kept, stops-first (s .args .e .rounding) (l s) (k s) (begun s .asked .right) (alive y) (m .unfit (not-true _ (c .if3 .taken))))
 
 eliminate-requires : tie.Need-eliminate-requires
 eliminate-requires c κs =
     let at = c .before .before .before .before in
-    let s = at .before .before .before .before .before .before .before in
-    let z = at .first-rows .ensures .reached (not-false _ (c .before .if1 .left)) in
-    (reached-ready (begun s .asked .few) (begun s .asked .room) z, begun s .orders, begun s .inside)
+    let s = start-of (at .before .before) in
+    let z = at .first-rows .ensures .reached (not-false _ (c .before .if3 .left)) in
+    ((reached-fitting (begun s .asked .few) (begun s .asked .room) z, begun s .orders), begun s .inside)
 
 -- The walk, and what it began with.
-abbrev start-of : tie.After-eliminate → tie.Start
-start-of c = c .before .before .before .before .before .before .before .before .before .before .before .before
+abbrev begun-at : tie.After-eliminate → tie.Else2
+begun-at c = c .before .before .before .before .before .before .before
+
+abbrev from : tie.After-eliminate → tie.Start
+from c = start-of (begun-at c)
 
 begins : (c : tie.After-eliminate)
-    → let s = start-of c in
-    Reached (s .args .rounding) (s .args .c .states) (first (s .args .rounding) (l s .chain) (k s) (earns (l s)) (λ _. 0)) (s .args .work .now)
-    (c .before .before .before .before .before .first-rows .last .0)
-begins c = c .before .before .before .before .before .first-rows .ensures .reached (not-false _ (c .before .before .if1 .left))
+    → let s = from c in
+    let b = s .args .e .rounding in
+    Reached b (s .args .e .chain .states) (first b (l s .chain) (k s) (earns (l s)) (λ _. 0)) (s .args .work .now) (c .before .before .before .before .before .first-rows .last .0)
+begins c = c .before .before .before .before .before .first-rows .ensures .reached (not-false _ (c .before .before .if3 .left))
 
-kept : (c : tie.After-eliminate) → Kept (start-of c .args .c .states) (start-of c .args .work .now) (c .eliminate .last .0)
+kept : (c : tie.After-eliminate) → Kept (from c .args .e .chain .states) (from c .args .work .now) (c .eliminate .last .0)
 kept c =
-    let a = start-of c .args in
+    let a = from c .args in
     kept-more (begins c .kept)
-    (walk-kept (a .rounding) (a .c .states) (goes (a .c .start) (a .sets .live)) (a .order .now) _ _ (c .eliminate .result) (c .eliminate .ensures))
+    (walk-kept (a .e .rounding) (a .e .chain .states) (going (a .e)) (a .order .now) _ _ (c .eliminate .result) (c .eliminate .ensures))
 
 done : (c : tie.After-eliminate) → c .eliminate .result ≡ Done
-    → let a = start-of c .args in
+    → let a = from c .args in
+    let b = a .e .rounding in
+    let n = a .e .chain .states in
     let o = a .order .now in
     let v = c .before .before .before .before .before .first-rows .last .0 in
-    Finished (a .rounding) (a .c .states) (goes (a .c .start) (a .sets .live)) o
-    (after (a .rounding) (a .c .states) (goes (a .c .start) (a .sets .live)) o (tableOf (a .c .states) v)) v (c .eliminate .last .0)
+    Finished b n (going (a .e)) o (after b n (going (a .e)) o (tableOf n v)) v (c .eliminate .last .0)
 done c e =
-    let s = start-of c in
-    ends (s .args .rounding) (l s) (k s) _ _ (begins c .same) (c .eliminate .result) (c .eliminate .ensures) e
+    let a = from c .args in
+    walk-done (a .e .rounding) (a .e .chain .states) (going (a .e)) (a .order .now) _ _ (c .eliminate .result) (c .eliminate .ensures) e
 
 same-length-2 : tie.Need-same-length-2
 same-length-2 c = kept (c .before .before .before .before .before) .len
 
-returns-2 : tie.Need-returns-2
-returns-2 c =
+returns-4 : tie.Need-returns-4
+returns-4 c =
     let at = c .before .before .before .before .before in
-    let s = start-of at in
-    (kept at, stops-unfit (s .args .rounding) (l s) (k s) _ _ (begins at .same) (at .eliminate .result) (at .eliminate .ensures) _ (c .before .p .given .1))
+    let s = from at in (
+      kept at,
+      stops-unfit (s .args .e .rounding) (l s) (k s) (begun s .asked .right) (alive (begun-at at)) _ _ (begins at .same) (at .eliminate .result)
+          (at .eliminate .ensures) _ (c .before .p .given .1),
+    )
 
 same-length-3 : tie.Need-same-length-3
 same-length-3 c = kept (c .before .before .before .before .before) .len
 
-returns-3 : tie.Need-returns-3
-returns-3 c =
+returns-5 : tie.Need-returns-5
+returns-5 c =
     let at = c .before .before .before .before .before in
-    let s = start-of at in
-    (kept at, stops-stuck (s .args .rounding) (l s) (k s) _ _ (begins at .same) (at .eliminate .result) (at .eliminate .ensures) _ (c .before .p2 .given .1))
+    let s = from at in (
+      kept at,
+      stops-stuck (s .args .e .rounding) (l s) (k s) (begun s .asked .right) (alive (begun-at at)) _ _ (begins at .same) (at .eliminate .result)
+          (at .eliminate .ensures) _ (c .before .p2 .given .1),
+    )
 
 last-of-requires : tie.Need-last-of-requires
 last-of-requires c κs =
     let at = c .before .before .before .before .before in
-    let s = start-of at in
+    let s = from at in
     let z = begins at .kept .len in
-    (reached-ready (begun s .asked .few) (omega (arith, begun s .asked .room)) (done at (c .before .enum-told .given .1) .reached), begun s .start)
+    (reached-fitting (begun s .asked .few) (omega (arith, begun s .asked .room)) (done at (c .before .enum-told .given .1) .reached), begun s .start)
 
 same-length-4 : tie.Need-same-length-4
 same-length-4 c = kept (c .before .before .before .before .before .before) .len
 
-returns-4 : tie.Need-returns-4
-returns-4 c =
+returns-6 : tie.Need-returns-6
+returns-6 c =
     let at = c .before .before .before .before .before .before in
-    let s = start-of at in (
+    let s = from at in (
       kept at,
-      reads (s .args .rounding) (l s) (k s) _ _ (begins at .same) (at .eliminate .result) (at .eliminate .ensures) (begun s .start)
-          (c .before .before .enum-told .given .1) (c .last-of .result) (c .last-of .ensures),
+      reads (s .args .e .rounding) (l s) (k s) (begun s .asked .right) (alive (begun-at at)) _ _ (begins at .same) (at .eliminate .result)
+          (at .eliminate .ensures) (begun s .start) (c .before .before .enum-told .given .1) (c .last-of .result) (c .last-of .ensures),
     )
 
 pub follow-spec : {M : Type 1} → statement M
 follow-spec =
     tie.close
     (tie.spec
+    (λ c κs. search needs)
+    (λ c κs. search needs)
+    returns
+    (λ c κs. search needs)
+    (λ c κs. search needs)
+    returns-2
     first-rows-requires
     same-length
-    returns
+    returns-3
     eliminate-requires
     (λ c. search needs)
     same-length-2
-    returns-2
+    returns-4
     (λ c. search needs)
     same-length-3
-    returns-3
+    returns-5
     (λ c. search needs)
     last-of-requires
     same-length-4
-    returns-4)
+    returns-6)

@@ -1,8 +1,6 @@
-use mathlib.Core.Path.{_∙_, ap}
 use native.Mathlib.Omega.{arith}
 use borrow.Author.Needs.{needs}
-use Rattle.meaning.specs.Row.{settled}
-use Rattle.engines.proofs.Rows.{fit-small, combined-sized, combined-unpaid}
+use Rattle.engines.proofs.Rows.{fit-small, combined-summable, combined-unpaid}
 use Rattle.engines.proofs.step.change.Statement.{statement}
 use Rattle.engines.proofs.step.change.Tie as tie
 
@@ -18,15 +16,13 @@ settle-requires c κs =
     let a = p .before .before .before .args in
     let h = p .before .before .before .pre in
     rw (p .combine .ensures) (
-      combined-sized (a .rounding) (a .n) (a .s) (a .d) (a .pivot .now) (a .row .now) (h .0) (h .2) (h .4) (h .5) (h .3),
+      combined-summable (a .rounding) (a .n) (a .s) (a .d) (a .pivot .now) (a .row .now) (h .0) (h .2) (h .4) (h .5) (h .3),
       combined-unpaid (a .rounding) (a .n) (a .s) (a .d) (a .pivot .now) (a .row .now) (h .0) (h .2) (h .4) (h .5),
     )
 
 returns : tie.Need-returns
 returns c =
-    let p = c .before .before .settle .ensures in
-    let a = c .before .before .before .before .before .before .before .before .before .args in
-    (p .0 ∙ ap (settled (a .rounding) (a .n)) (c .before .before .before .before .before .before .combine .ensures), p .1)
+    rw (c .before .before .before .before .before .before .combine .ensures) at (c .before .before .settle .ensures)
 
 pub change-spec : {M : Type 1} → statement M
 change-spec = tie.close (tie.spec combine-requires settle-requires (λ c. search needs) returns)

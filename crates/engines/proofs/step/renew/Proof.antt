@@ -1,6 +1,6 @@
 use mathlib.Core.Path.{sym, _∙_}
 use borrow.Author.Needs.{needs}
-use Rattle.engines.proofs.Rows.{renewed-own, renewed-none, renewed-some, tested-fit, noRow-fit, zeros-noRow}
+use Rattle.engines.proofs.Rows.{renewed-own, renewed-none, renewed-some, tested-fit, became, noRow-fit, zeros-noRow}
 use Rattle.engines.proofs.step.renew.Statement.{statement}
 use Rattle.engines.proofs.step.renew.Tie as tie
 
@@ -8,28 +8,25 @@ returns : tie.Need-returns
 returns c =
     let s = c .before .before .before .before .before .before in
     let a = s .args in
-    let e = c .before .before .clear .ensures ∙ zeros-noRow (a .n) (a .row .now) (s .pre .0) in (
-      e ∙ sym (renewed-own (a .rounding) (a .n) (a .s) (a .d) (a .pivot .now) (a .row .now) (a .own) (c .before .before .before .before .if1 .taken)),
-      rw e (tested-fit (noRow-fit (a .rounding) (a .n))),
-    )
+    let e = c .before .before .clear .ensures ∙ zeros-noRow (a .n) (a .row .now) (s .pre .0) in
+    became
+    (e ∙ sym (renewed-own (a .rounding) (a .n) (a .s) (a .d) (a .pivot .now) (a .row .now) (a .own) (c .before .before .before .before .if1 .taken)))
+    (rw e (tested-fit (noRow-fit (a .rounding) (a .n))))
 
 returns-2 : tie.Need-returns-2
 returns-2 c =
     let s = c .before .before .before .before in
-    let a = s .args in (
-      sym (renewed-none (a .rounding) (a .n) (a .s) (a .d) (a .pivot .now) (a .row .now) (a .own) (c .before .before .if1 .left) (c .if2 .taken)),
-      tested-fit (s .pre .4),
-    )
+    let a = s .args in
+    became
+    (sym (renewed-none (a .rounding) (a .n) (a .s) (a .d) (a .pivot .now) (a .row .now) (a .own) (c .before .before .if1 .left) (c .if2 .taken)))
+    (tested-fit (s .pre .4))
 
 returns-3 : tie.Need-returns-3
 returns-3 c =
-    let a = c .before .before .before .before .before .before .before .before .args in
-    let e = c .before .before .change .ensures in (
-      e .0
-          ∙ sym
-          (renewed-some (a .rounding) (a .n) (a .s) (a .d) (a .pivot .now) (a .row .now) (a .own) (c .before .before .before .before .before .before .if1 .left) (c .before .before .before .before .if2 .left)),
-      e .1,
-    )
+    let s = c .before .before .before .before .before .before in
+    let a = s .before .before .args in
+    rw (renewed-some (a .rounding) (a .n) (a .s) (a .d) (a .pivot .now) (a .row .now) (a .own) (s .if1 .left) (c .before .before .before .before .if2 .left))
+    (c .before .before .change .ensures)
 
 pub renew-spec : {M : Type 1} → statement M
 renew-spec =
