@@ -1,4 +1,3 @@
+pub mod Decide
+pub mod Lent
 pub mod Reduce
-pub mod Least
-pub mod Says
-pub mod Answer

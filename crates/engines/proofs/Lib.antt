@@ -5,13 +5,11 @@ pub mod Shifts
 pub mod Tables
 pub mod Removal
 pub mod Turns
-pub mod Growth
-pub mod Members
 pub mod Cells
 pub mod FirstRows
 pub mod Course
 pub mod Figures
 pub mod Looked
-pub mod Surveyed
 pub mod Outcomes
+pub mod Told
 pub mod Unique

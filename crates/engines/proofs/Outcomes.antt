@@ -24,10 +24,10 @@ use Rattle.theory.specs.Outcomes.{passed-unstopped}
 use Rattle.theory.specs.DemandTwo.{stopped-twelve}
 use Rattle.chain.specs.Reduce.{reduced}
 use Rattle.chain.specs.declared.fraction.Fraction.{Fraction}
-use Rattle.chain.specs.declared.answer.Chance.the-variants as chance
-use Rattle.chain.specs.declared.answer.Reward.the-variants as reward
-use Rattle.chain.specs.declared.answer.Bounds.the-variants as bounds
-use Rattle.chain.specs.Answer.{toldChance, toldBounds}
+use Rattle.engines.specs.declared.answer.Chance.the-variants as chance
+use Rattle.engines.specs.declared.answer.Reward.the-variants as reward
+use Rattle.engines.specs.declared.answer.Bounds.the-variants as bounds
+use Rattle.engines.specs.Answer.{toldChance, toldBounds}
 use Rattle.chain.proofs.Terms.{terms}
 use Rattle.engines.specs.Run.{Ended}
 use Rattle.engines.specs.Figured.{Read, won, lost, live, figured}

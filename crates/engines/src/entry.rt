@@ -1,21 +1,20 @@
 // The entries: each does its own looking, and answers or refuses.
 ghost use mathlib.Core.List.{[]};
 ghost use Rattle.meaning.specs.Outcome.{ChanceOutcome, BoundsOutcome};
-ghost use Rattle.chain.specs.Says.{lent};
-ghost use Rattle.chain.specs.Answer.{toldChance, toldBounds};
+ghost use Rattle.chain.specs.Lent.{lent};
+ghost use Rattle.engines.specs.Answer.{toldChance, toldBounds};
 ghost use Rattle.engines.specs.Told.{Rewarded};
 use crate::figure::figures;
 use crate::run::Course;
-use crate::sets;
+use crate::looking::Looked;
+use crate::looking::look;
+use crate::looking::look_paid;
 use crate::work::clear_work;
 use chain::Chain;
-use chain::answer::Bounds;
-use chain::answer::Chance;
-use chain::answer::Reward;
+use crate::answer::Bounds;
+use crate::answer::Chance;
+use crate::answer::Reward;
 use chain::fraction::Fraction;
-use chain::look::Finding;
-use chain::look::look;
-use chain::look::look_paid;
 
 // The chance of reaching a goal, in lowest terms.
 pub fn chance(
@@ -27,10 +26,10 @@ pub fn chance(
 ) -> Chance
     ensures { λ r. ⌜ ChanceOutcome (lent c (now (denominators .entry)) (now (edges .entry)) (now (order .entry)) [] (now (work .entry))) (toldChance r) (now (work .exit)) ⌝ }
 {
-    if let Finding::Refused { number, place } = look(c, denominators, edges, order, work) {
-        return Chance::Refused { number, place };
-    }
-    let sets = sets::of(c, edges);
+    let sets = match look(c, denominators, edges, order, work) {
+        Looked::Refused { number, place } => return Chance::Refused { number, place },
+        Looked::Clear(sets) => sets,
+    };
     let none = [0u64; 0];
     match figures(c, sets, denominators, edges, order, &none, work, false) {
         Course::Ends {
@@ -54,17 +53,10 @@ pub fn reward(
 ) -> Reward
     ensures { λ r. ⌜ Rewarded (lent c (now (denominators .entry)) (now (edges .entry)) (now (order .entry)) (now (rewards .entry)) (now (work .entry))) r (now (work .exit)) ⌝ }
 {
-    if let Finding::Refused { number, place } = look_paid(
-        c,
-        denominators,
-        edges,
-        order,
-        rewards,
-        work,
-    ) {
-        return Reward::Refused { number, place };
-    }
-    let sets = sets::of(c, edges);
+    let sets = match look_paid(c, denominators, edges, order, rewards, work) {
+        Looked::Refused { number, place } => return Reward::Refused { number, place },
+        Looked::Clear(sets) => sets,
+    };
     if sets.missed {
         clear_work(work, c.states);
         return Reward::Infinite;
@@ -90,10 +82,10 @@ pub fn bounds(
 ) -> Bounds
     ensures { λ r. ⌜ BoundsOutcome (lent c (now (denominators .entry)) (now (edges .entry)) (now (order .entry)) [] (now (work .entry))) (toldBounds r) (now (work .exit)) ⌝ }
 {
-    if let Finding::Refused { number, place } = look(c, denominators, edges, order, work) {
-        return Bounds::Refused { number, place };
-    }
-    let sets = sets::of(c, edges);
+    let sets = match look(c, denominators, edges, order, work) {
+        Looked::Refused { number, place } => return Bounds::Refused { number, place },
+        Looked::Clear(sets) => sets,
+    };
     let none = [0u64; 0];
     match figures(c, sets, denominators, edges, order, &none, work, true) {
         Course::Ends {

@@ -6,14 +6,14 @@ ghost use lib.ListN.{length, drop, replicate};
 ghost use Rattle.meaning.specs.Chain.{mostStates};
 ghost use Rattle.meaning.specs.Refusal.{workSize};
 ghost use Rattle.meaning.specs.Outcome.{cleared};
-ghost use Rattle.chain.specs.Says.{lent};
-ghost use Rattle.engines.specs.Sets.{setsOf};
+ghost use Rattle.chain.specs.Lent.{lent};
+ghost use Rattle.survey.specs.Sets.{setsOf};
 ghost use Rattle.engines.specs.Run.{Begun};
 ghost use Rattle.engines.specs.Figured.{begins, figured};
 use crate::run::Course;
 use crate::run::run;
-use crate::sets::Sets;
-use crate::sets::holds;
+use survey::Sets;
+use chain::set::holds;
 use crate::work::clear_work;
 use chain::Chain;
 

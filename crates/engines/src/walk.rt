@@ -9,7 +9,7 @@ ghost use Rattle.meaning.specs.Step.{row, goes, outside, removed};
 ghost use Rattle.engines.specs.Table.{tableOf, Ready};
 ghost use Rattle.engines.specs.Turn.{Turned};
 ghost use Rattle.engines.specs.Order.{walked};
-use crate::sets::holds;
+use chain::set::holds;
 use crate::step::Turn;
 use crate::step::remove;
 

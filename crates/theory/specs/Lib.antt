@@ -49,6 +49,7 @@ pub mod Cases
 pub mod Listed
 pub mod FileOne
 pub mod Entails
+pub mod Bare
 pub mod ReportOne
 pub mod CallOne
 pub mod CallRead

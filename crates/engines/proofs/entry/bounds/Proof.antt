@@ -5,7 +5,7 @@ use borrow.Author.Needs.{needs}
 use Rattle.meaning.specs.Row.{rounding}
 use Rattle.meaning.specs.Refusal.{Lent, plain, WellFormed}
 use Rattle.meaning.specs.Outcome.{refused}
-use Rattle.chain.specs.Says.{lent}
+use Rattle.chain.specs.Lent.{lent}
 use Rattle.engines.proofs.Looked.{refusing, clear, start-fits, ends-fit, begun}
 use Rattle.engines.proofs.Outcomes.{reduced-of, bounds-sum, bounds-answer, bounds-stop}
 use Rattle.engines.proofs.entry.bounds.Statement.{statement}

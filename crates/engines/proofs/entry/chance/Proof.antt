@@ -4,7 +4,7 @@ use borrow.Author.Needs.{needs}
 use Rattle.meaning.specs.Row.{exact}
 use Rattle.meaning.specs.Refusal.{Lent, plain, WellFormed}
 use Rattle.meaning.specs.Outcome.{refused}
-use Rattle.chain.specs.Says.{lent}
+use Rattle.chain.specs.Lent.{lent}
 use Rattle.engines.proofs.Looked.{refusing, clear, start-fits, ends-fit, begun}
 use Rattle.engines.proofs.Outcomes.{reduced-of, chance-answers, chance-stops}
 use Rattle.engines.proofs.entry.chance.Statement.{statement}

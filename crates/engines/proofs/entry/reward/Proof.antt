@@ -5,7 +5,7 @@ use borrow.Author.Needs.{needs}
 use Rattle.meaning.specs.Row.{exact, rounding}
 use Rattle.meaning.specs.Figure.{Missed}
 use Rattle.meaning.specs.Refusal.{Lent, paid, WellFormed}
-use Rattle.chain.specs.Says.{lent}
+use Rattle.chain.specs.Lent.{lent}
 use Rattle.chain.proofs.Law.{holds, fails}
 use Rattle.theory.specs.Formed.{few-states, room}
 use Rattle.engines.proofs.Looked.{refusing, clear, start-fits, ends-fit, begun}

@@ -1,8 +1,8 @@
 use borrow.Author.Needs.{needs}
 use Rattle.meaning.specs.Step.{Sets}
 use Rattle.meaning.specs.Refusal.{Lent}
-use Rattle.chain.specs.Says.{lent}
-use Rattle.engines.specs.Sets.{setsOf}
+use Rattle.chain.specs.Lent.{lent}
+use Rattle.survey.specs.Sets.{setsOf}
 use Rattle.engines.proofs.Figures.{won-figured, lost-figured, live-figured}
 use Rattle.engines.proofs.figure.figures.Statement.{statement}
 use Rattle.engines.proofs.figure.figures.Tie as tie

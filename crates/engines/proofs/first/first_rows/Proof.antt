@@ -1,5 +1,5 @@
 use borrow.Author.Needs.{needs}
-use Rattle.engines.specs.Sets.{chainOf, setsOf}
+use Rattle.survey.specs.Sets.{chainOf, setsOf}
 use Rattle.engines.proofs.FirstRows.{asked-gatherable, asked-finishable, first-made}
 use Rattle.engines.proofs.first.first_rows.Statement.{statement}
 use Rattle.engines.proofs.first.first_rows.Tie as tie

@@ -5,8 +5,8 @@ use borrow.Author.Tests.{not-true, not-false}
 use Rattle.meaning.specs.Step.{Sets, goes, first, after}
 use Rattle.meaning.specs.Stop.{rewardOf}
 use Rattle.meaning.specs.Refusal.{Lent}
-use Rattle.chain.specs.Says.{lent as lentTo}
-use Rattle.engines.specs.Sets.{setsOf}
+use Rattle.chain.specs.Lent.{lent as lentTo}
+use Rattle.survey.specs.Sets.{setsOf}
 use Rattle.engines.specs.Run.{Begun}
 use Rattle.engines.specs.Table.{tableOf, Kept}
 use Rattle.engines.specs.Order.{Finished}
