@@ -1,7 +1,3 @@
 pub mod Terms
 pub mod Law
-pub mod Ends
-pub mod Seen
-pub mod Gather
-pub mod Refuse
 pub mod Unique

@@ -1,5 +1,4 @@
-pub mod Reduce
+pub mod Decide
 pub mod Edge
-pub mod Least
-pub mod Says
-pub mod Answer
+pub mod Lent
+pub mod Reduce

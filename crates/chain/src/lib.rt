@@ -1,13 +1,9 @@
 ghost use mathlib.Core.Path.{_≡_};
 
-pub mod answer;
 pub mod edge;
 pub mod fraction;
-pub mod look;
-mod pairs;
-mod scan;
-mod shape;
-mod sums;
+pub mod set;
+pub mod table;
 
 // A chain but for its tables, which are lent: its states are numbered from 0, and bit i of the goals says whether state i is one.
 pub struct Chain {

@@ -3,7 +3,7 @@ ghost use mathlib.Core.Path.{_≡_};
 ghost use Prim.Native.Nat.{ℕ, _*_, _-_, _≤_, _<_, min};
 ghost use Rattle.meaning.specs.Block.{fullBlock};
 ghost use Rattle.meaning.specs.File.{CheckFault, BlockNumberFault, KindFault, ContentFault, kindOf, countOf};
-ghost use Rattle.chain.specs.Least.{decides};
+ghost use Rattle.chain.specs.Decide.{decides};
 ghost use Rattle.chainfile.specs.Input.{input, mostBlocks};
 ghost use Rattle.chainfile.specs.Tells.{tested};
 use crate::bytes;

@@ -7,7 +7,7 @@ use Rattle.meaning.specs.Chain.{mostStates, edgeCount, Goal, Live}
 use Rattle.meaning.specs.Refusal.{Lent, workSize}
 use Rattle.meaning.specs.Survey.{Count}
 use Rattle.chain.specs.declared.Chain.{Chain}
-use Rattle.chain.specs.Says.{lent}
+use Rattle.chain.specs.Lent.{lent}
 use Rattle.egorstream.specs.declared.lines.Counts.{Counts}
 
 -- What is lent where the work table is the library's own, and holds zeros.

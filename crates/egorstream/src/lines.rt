@@ -2,7 +2,7 @@
 ghost use mathlib.Core.List.{_++_};
 ghost use Rattle.meaning.specs.Text.{bytesOf, decimal};
 ghost use Rattle.meaning.specs.Report.{fractionText, refusedText, answerText, boundsText, lineText, faceText};
-ghost use Rattle.chain.specs.Least.{decides};
+ghost use Rattle.chain.specs.Decide.{decides};
 ghost use Rattle.egorstream.specs.Written.{Room, Written};
 ghost use Rattle.egorstream.specs.Told.{toldFigure, toldLimits, toldLines, countsText, Ends};
 use crate::text;

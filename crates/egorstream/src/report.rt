@@ -5,16 +5,16 @@ ghost use Prim.Native.Nat.{ℕ, _≤_};
 ghost use lib.ListN.{length};
 ghost use Rattle.meaning.specs.Block.{Input};
 ghost use Rattle.meaning.specs.Report.{reportRoom, Report, ReportOutcome, FaceOutcome};
-ghost use Rattle.chain.specs.Answer.{toldChance};
+ghost use Rattle.engines.specs.Answer.{toldChance};
 ghost use Rattle.chainfile.specs.Input.{input};
 ghost use Rattle.egorstream.specs.Holds.{Holds, Stands, told};
 use crate::figures;
 use crate::lines;
 use crate::lines::Figure;
 use chain::Chain;
-use chain::answer::Chance;
 use chain::edge;
 use chainfile::Reading;
+use engines::answer::Chance;
 
 // What a text in a lent buffer answers: how long it is, or that the buffer is refused.
 pub enum Printed {

@@ -5,12 +5,10 @@ pub mod Shifts
 pub mod Tables
 pub mod Removal
 pub mod Turns
-pub mod Growth
-pub mod Members
 pub mod Cells
 pub mod FirstRows
 pub mod Course
 pub mod Looked
-pub mod Surveyed
 pub mod Outcomes
+pub mod Told
 pub mod Unique

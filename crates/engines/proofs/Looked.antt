@@ -1,42 +1,74 @@
 -- What an entry knows once the looking has said that its input is well formed.
-use Prim.Native.Nat.{ℕ, _<_}
+use Prim.Native.Nat.{ℕ}
 use mathlib.Core.Path.{_≡_, subst}
-use mathlib.Core.Logic.{inl, inr}
 use mathlib.Core.Bool.{Bool, true, false}
-use native.Mathlib.Omega.{arith}
-use Rattle.meaning.specs.Chain.{mostStates}
 use Rattle.meaning.specs.Row.{rounding}
 use Rattle.meaning.specs.Step.{Sets, Right}
-use Rattle.meaning.specs.Refusal.{Lent, Entry, EndFault, Refused, WellFormed}
-use Rattle.chain.specs.Says.{says}
-use Rattle.chain.specs.declared.look.Finding.{Finding}
-use Rattle.chain.specs.declared.look.Finding.the-variants.{Clear, Refused as Refusing}
-use Rattle.theory.specs.Formed.{few-states, start-in, from-in, to-in, order-length, order-in}
-use Rattle.engines.specs.Run.{Begun}
+use Rattle.meaning.specs.Refusal.{Lent, Entry, Refused, WellFormed}
+use mathlib.Core.List.{List}
+use mathlib.Core.Logic.{inr}
+use Rattle.meaning.specs.Outcome.{cleared}
+use Rattle.meaning.specs.Survey.{SurveyOutcome}
+use Rattle.theory.specs.Bare.{alone, bare-refuses, bare-clears}
+use Rattle.look.specs.Says.{Upto}
+use Rattle.survey.specs.Sets.{Known}
+use Rattle.survey.specs.Told.{told}
+use Rattle.survey.specs.declared.Survey.{Survey}
+use Rattle.survey.specs.declared.Survey.the-variants as survey
+use Rattle.survey.proofs.Surveyed.{refusing, found}
+use Rattle.survey.specs.declared.Sets.{Sets as Found}
+use Rattle.engines.specs.Looking.{upto, looked}
+use Rattle.engines.specs.declared.looking.Looked.{Looked}
+use Rattle.engines.specs.declared.looking.Looked.the-variants.{Clear, Refused as Refusing}
+use Rattle.theory.specs.Formed.{start-in, order-length, order-in}
+use Rattle.engines.specs.Run.{Begun, runs, entered}
+use Rattle.engines.specs.declared.run.Course.{Course}
+use Rattle.engines.specs.declared.run.Course.the-variants.{Ends, Stops}
 use Rattle.engines.proofs.FirstRows.{first-given}
 
-module _ (x : Entry) (l : Lent) {f : Finding} (s : says x l f) where
-  pub refusing : {number place : ℕ} → f ≡ Refusing number place → Refused x l number place
-  refusing e = subst (says x l) e s
+-- What the survey says of the chain is said of it among all that is lent.
+module _ {x : Entry} {l : Lent} (u : Upto x l 3) {r : Survey} (o : SurveyOutcome (alone l) (told r)) where
+  pub survey-refuses : {number place : ℕ} → r ≡ survey.Refused number place → Refused x l number place
+  survey-refuses e = bare-refuses x l (λ k p h a. u .clear k h p a) (refusing (alone l) o e)
 
-  pub clear : f ≡ Clear → WellFormed x l
-  clear e = subst (says x l) e s
+  pub survey-clears : {s : Found} {goals live : ℕ} → r ≡ survey.Found s goals live → Upto x l 10 × Known (l .chain) s
+  survey-clears e =
+      let f = found (alone l) o e in
+      (record { clear = λ k h p a. bare-clears x l (λ k p h a. u .clear k h p a) (f .0) k p h a }, f .1)
 
-module _ (x : Entry) (l : Lent) (formed : WellFormed x l) where
-  -- What the sets ask for.
-  pub start-fits : l .chain .start < mostStates
-  start-fits = omega (arith, start-in x l formed, few-states x l formed)
+-- What is said before the numbers from k on are looked at, and of all once these are cleared.
+module _ (x : Entry) (l : Lent) (k : ℕ) where
+  pub settle : (f : Looked) → (Upto x l k → WellFormed x l) → upto x l k f → looked x l f
+  settle (Clear s) rest u = (rest (u .0), u .1)
+  settle (Refusing j p) rest r = r
 
-  pub ends-fit : (e : ℕ) → EndFault mostStates (l .chain .edges) e → ⊥
-  ends-fit e (h, inl k) = omega (arith, from-in x l formed e h, few-states x l formed)
-  ends-fit e (h, inr k) = omega (arith, to-in x l formed e h, few-states x l formed)
+  module _ {f : Looked} (s : upto x l k f) where
+    pub upto-refused : {j p : ℕ} → f ≡ Refusing j p → Refused x l j p
+    upto-refused e = subst (upto x l k) e s
 
-  -- What an elimination asks for.
-  pub begun : (b : Bool) (k : Sets) → x .order ≡ true → x .work ≡ true → (b ≡ rounding → x .rewards ≡ false) → Right (l .chain) k → Begun b l k
-  begun b k ordered worked free right =
-      record {
-        asked = first-given b x l k formed worked free right;
-        orders = order-length x l formed ordered;
-        inside = order-in x l formed ordered;
-        start = start-in x l formed;
-      }
+    pub upto-clear : {z : Found} → f ≡ Clear z → Upto x l k × Known (l .chain) z
+    upto-clear e = subst (upto x l k) e s
+
+-- What an entry knows of its looking.
+module _ {x : Entry} {l : Lent} {f : Looked} (s : looked x l f) where
+  pub refused-by : {number place : ℕ} → f ≡ Refusing number place → Refused x l number place
+  refused-by e = subst (looked x l) e s
+
+  pub clear : {k : Found} → f ≡ Clear k → WellFormed x l × Known (l .chain) k
+  clear e = subst (looked x l) e s
+
+-- What an elimination asks for.
+pub begun : (x : Entry) (l : Lent) → WellFormed x l → (b : Bool) (k : Sets) → x .order ≡ true → x .work ≡ true
+    → (b ≡ rounding → x .rewards ≡ false) → Right (l .chain) k → Begun b l k
+begun x l formed b k ordered worked free right =
+    record {
+      asked = first-given b x l k formed worked free right;
+      orders = order-length x l formed ordered;
+      inside = order-in x l formed ordered;
+      start = start-in x l formed;
+    }
+
+-- What a run comes to, once the looking has cleared the input.
+pub ran : {x : Entry} (b : Bool) {l : Lent} {w : List ℕ} → WellFormed x l → w ≡ cleared l → (r : Course) → runs b l r → entered x b l w r
+ran b formed s (Ends g u e d) z = (formed, s, z)
+ran b formed s (Stops number place) z = inr (formed, s, z)

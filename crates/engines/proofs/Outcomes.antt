@@ -24,12 +24,13 @@ use Rattle.theory.specs.Outcomes.{passed-unstopped}
 use Rattle.theory.specs.DemandTwo.{stopped-twelve}
 use Rattle.chain.specs.Reduce.{reduced}
 use Rattle.chain.specs.declared.fraction.Fraction.{Fraction}
-use Rattle.chain.specs.declared.answer.Chance.the-variants as chance
-use Rattle.chain.specs.declared.answer.Reward.the-variants as reward
-use Rattle.chain.specs.declared.answer.Bounds.the-variants as bounds
-use Rattle.chain.specs.Answer.{toldChance, toldBounds}
+use Rattle.engines.specs.declared.answer.Chance.the-variants as chance
+use Rattle.engines.specs.declared.answer.Reward.the-variants as reward
+use Rattle.engines.specs.declared.answer.Bounds.the-variants as bounds
+use Rattle.engines.specs.Answer.{toldChance, toldBounds}
 use Rattle.chain.proofs.Terms.{terms}
-use Rattle.engines.specs.Run.{Ended, Read, won, lost, live, runs}
+use Rattle.look.proofs.Refuse.{refused-some}
+use Rattle.engines.specs.Run.{entered, Ended, Read, won, lost, live, runs}
 use Rattle.engines.specs.Told.{Rewarded}
 use Rattle.engines.specs.declared.run.Course.{Course}
 use Rattle.engines.specs.declared.run.Course.the-variants.{Ends, Stops}
@@ -134,37 +135,35 @@ read-sum l formed (live k right alive z) =
       bounds-fit (l .chain) k (earns l) (l .order) n (l .chain .start) (start-in plain l formed),
     )
 
-pub bounds-sum : (l : Lent) → WellFormed plain l → {r : Course} {g u e d : ℕ} → r ≡ Ends g u e d → runs rounding l r → g + u ≤ M
-bounds-sum l formed q z = read-sum l formed (subst (runs rounding l) q z)
-
--- Number 0 is no refusal.
-pub refused-some : {x : Entry} {l : Lent} {number place : ℕ} → Refused x l number place → 0 < number
-refused-some {x} {l} {number} {place} z =
-    ⊎-elim (λ (e : number ≡ 0). absurd (subst (λ k. Applies x l k place) e (z .applies))) (λ h. h) (eq-zero-or-pos number)
-
 -- A fraction that was made of two numbers and reduced.
 pub reduced-of : {f g : Fraction} {a b : ℕ} → (f .numerator ≡ a) × (f .denominator ≡ b) → g ≡ reduced f → g ≡ reduced (over a b)
 reduced-of {a = a} {b = b} e q = q ∙ ap reduced (ap₂ over (e .0) (e .1))
 
--- The outcomes, by what the figures are read off.
-module _ (l : Lent) (formed : WellFormed plain l) {w : List ℕ} (s : w ≡ cleared l) {r : Course} where
-  pub chance-answers : {g u e d : ℕ} → r ≡ Ends g u e d → runs exact l r → {f : Fraction} → f ≡ reduced (over g d) → ChanceOutcome l (toldChance (chance.Is f)) w
+-- The outcomes, by what the entry's looking and elimination come to.
+module _ (l : Lent) (w : List ℕ) {r : Course} where
+  pub bounds-sum : {g u e d : ℕ} → r ≡ Ends g u e d → entered plain rounding l w r → g + u ≤ M
+  bounds-sum q z = let y = subst (entered plain rounding l w) q z in read-sum l (y .0) (y .2)
+
+  pub chance-answers : {g u e d : ℕ} → r ≡ Ends g u e d → entered plain exact l w r → {f : Fraction} → f ≡ reduced (over g d)
+      → ChanceOutcome l (toldChance (chance.Is f)) w
   chance-answers q z t =
-      let y = subst (runs exact l) q z in
+      let y = subst (entered plain exact l w) q z in
       subst (λ f. ChanceOutcome l (toldChance (chance.Is f)) w) (sym t)
-      (answered formed (read-unstopped exact l y) (ChanceFigure.chance _ _ (chance-read l formed y) refl) s)
+      (answered (y .0) (read-unstopped exact l (y .2)) (ChanceFigure.chance _ _ (chance-read l (y .0) (y .2)) refl) (y .1))
 
-  pub chance-stops : {number place : ℕ} → r ≡ Stops number place → runs exact l r → ChanceOutcome l (refusal number place) w
-  chance-stops q z = stopped _ _ formed (subst (runs exact l) q z) refl s
+  pub chance-stops : {number place : ℕ} → r ≡ Stops number place → entered plain exact l w r → ChanceOutcome l (refusal number place) w
+  chance-stops q z =
+      ⊎-elim (λ y. refused _ _ (y .0) refl (y .1)) (λ y. stopped _ _ (y .0) (y .2) refl (y .1)) (subst (entered plain exact l w) q z)
 
-  pub bounds-answer : {g u e d : ℕ} → r ≡ Ends g u e d → runs rounding l r → {f h : Fraction} → f ≡ reduced (over g d) → h ≡ reduced (over (g + u) d)
+  pub bounds-answer : {g u e d : ℕ} → r ≡ Ends g u e d → entered plain rounding l w r → {f h : Fraction} → f ≡ reduced (over g d) → h ≡ reduced (over (g + u) d)
       → BoundsOutcome l (toldBounds (bounds.Between f h)) w
   bounds-answer q z t v =
-      let y = subst (runs rounding l) q z in
-      rw (t, v) (answered formed (read-unstopped rounding l y) (bounds-read l formed y) s)
+      let y = subst (entered plain rounding l w) q z in
+      rw (t, v) (answered (y .0) (read-unstopped rounding l (y .2)) (bounds-read l (y .0) (y .2)) (y .1))
 
-  pub bounds-stop : {number place : ℕ} → r ≡ Stops number place → runs rounding l r → BoundsOutcome l (noBounds number place) w
-  bounds-stop q z = stopped _ _ formed (subst (runs rounding l) q z) refl s
+  pub bounds-stop : {number place : ℕ} → r ≡ Stops number place → entered plain rounding l w r → BoundsOutcome l (noBounds number place) w
+  bounds-stop q z =
+      ⊎-elim (λ y. refused _ _ (y .0) refl (y .1)) (λ y. stopped _ _ (y .0) (y .2) refl (y .1)) (subst (entered plain rounding l w) q z)
 
 -- A refusal by the numbers 1 to 11 leaves the work table.
 pub reward-refuses : {l : Lent} {number place : ℕ} → Refused paid l number place → Rewarded l (reward.Refused number place) (l .work)

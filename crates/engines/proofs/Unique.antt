@@ -9,15 +9,15 @@ use Rattle.meaning.specs.Refusal.{Lent}
 use Rattle.meaning.specs.Stop.{Stops, before-steps, in-step, at-turn}
 use Rattle.meaning.specs.Outcome.{refused, stopped, answered, Answer, ChanceFigure, ChanceOutcome, Bounds as Numbers, BoundsFigure, BoundsOutcome}
 use Rattle.theory.specs.Entries.{chance-determined, reward-determined, bounds-determined}
-use Rattle.chain.specs.Answer.{toldChance, toldBounds, ProperChance, ProperBounds}
-use Rattle.chain.specs.declared.answer.Chance.{Chance}
-use Rattle.chain.specs.declared.answer.Chance.the-variants as chance
-use Rattle.chain.specs.declared.answer.Reward.{Reward}
-use Rattle.chain.specs.declared.answer.Bounds.{Bounds}
-use Rattle.chain.specs.declared.answer.Bounds.the-variants as bounds
-use Rattle.chain.proofs.Unique.{chance-told, reward-told, bounds-told}
+use Rattle.engines.specs.Answer.{toldChance, toldBounds, ProperChance, ProperBounds}
+use Rattle.engines.specs.declared.answer.Chance.{Chance}
+use Rattle.engines.specs.declared.answer.Chance.the-variants as chance
+use Rattle.engines.specs.declared.answer.Reward.{Reward}
+use Rattle.engines.specs.declared.answer.Bounds.{Bounds}
+use Rattle.engines.specs.declared.answer.Bounds.the-variants as bounds
+use Rattle.engines.proofs.Told.{chance-told, reward-told, bounds-told}
 use Rattle.engines.specs.Told.{Rewarded}
-use Rattle.engines.proofs.Outcomes.{refused-some}
+use Rattle.look.proofs.Refuse.{refused-some}
 
 -- What stops an engine is 12 or 13, and so no answer.
 stop-some : {b : Bool} {l : Lent} {k : Sets} {number place : ℕ} → Stops b l k number place → 0 < number

@@ -2,8 +2,8 @@ pub mod Row
 pub mod Table
 pub mod Turn
 pub mod Order
-pub mod Grow
-pub mod Sets
+pub mod Answer
+pub mod Looking
 pub mod Told
 pub mod First
 pub mod Run

@@ -1,13 +1,16 @@
 -- What the elimination of an input comes to.
 use mathlib.Core.Path.{_≡_}
+use mathlib.Core.Logic.{_⊎_}
 use mathlib.Core.Bool.{Bool}
+use mathlib.Core.List.{List}
 use Prim.Native.Nat.{ℕ, _<_}
 use lib.ListN.{length}
 use Rattle.meaning.specs.Chain.{Goal, ToGoal, Live}
 use Rattle.meaning.specs.Row.{Row, cell, goalColumn, unknownColumn, reward}
 use Rattle.meaning.specs.Step.{row, Sets, Right, outside}
-use Rattle.meaning.specs.Refusal.{Lent}
+use Rattle.meaning.specs.Refusal.{Lent, Entry, Refused, WellFormed}
 use Rattle.meaning.specs.Stop.{turn, tableAt, Passed, Stopped}
+use Rattle.meaning.specs.Outcome.{cleared}
 use Rattle.engines.specs.First.{Makeable}
 use Rattle.engines.specs.declared.run.Course.{Course}
 use Rattle.engines.specs.declared.run.Course.the-variants.{Ends, Stops}
@@ -39,3 +42,9 @@ pub data Read (b : Bool) (l : Lent) (goal unknown rewards outside : ℕ) : Type 
 abbrev pub runs : Bool → Lent → Course → Type 0
 runs b l (Ends goal unknown rewards outside) = Read b l goal unknown rewards outside
 runs b l (Stops number place) = Stopped b l number place
+
+-- What an entry's looking and elimination come to, w being the work table afterwards: a refusal by the numbers 1 to 11 leaves it.
+abbrev pub entered : Entry → Bool → Lent → List ℕ → Course → Type 0
+entered x b l w (Ends goal unknown rewards outside) = WellFormed x l × (w ≡ cleared l) × Read b l goal unknown rewards outside
+entered x b l w (Stops number place) =
+    (Refused x l number place × (w ≡ l .work)) ⊎ (WellFormed x l × (w ≡ cleared l) × Stopped b l number place)

@@ -1,5 +1,18 @@
-// What the survey answers; toldSurvey gives document 01's numbers for each case.
-pub enum Survey {
-    Counts { goals: u32, live: u32 },
+// What the entries answer; toldChance, toldReward and toldBounds give document 01's numbers for each case.
+use chain::fraction::Fraction;
+
+pub enum Chance {
+    Is(Fraction),
+    Refused { number: u32, place: usize },
+}
+
+pub enum Reward {
+    Is(Fraction),
+    Infinite,
+    Refused { number: u32, place: usize },
+}
+
+pub enum Bounds {
+    Between { lower: Fraction, upper: Fraction },
     Refused { number: u32, place: usize },
 }

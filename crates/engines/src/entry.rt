@@ -1,22 +1,50 @@
 // The entries: each does its own looking, and answers or refuses.
 ghost use mathlib.Core.List.{[]};
+ghost use Rattle.meaning.specs.Refusal.{plain};
 ghost use Rattle.meaning.specs.Outcome.{ChanceOutcome, BoundsOutcome};
-ghost use Rattle.chain.specs.Says.{lent};
-ghost use Rattle.chain.specs.Answer.{toldChance, toldBounds};
+ghost use Rattle.chain.specs.Lent.{lent};
+ghost use Rattle.engines.specs.Answer.{toldChance, toldBounds};
+ghost use Rattle.engines.specs.Run.{entered};
 ghost use Rattle.engines.specs.Told.{Rewarded};
+use crate::answer::Bounds;
+use crate::answer::Chance;
+use crate::answer::Reward;
+use crate::looking::Looked;
+use crate::looking::look;
+use crate::looking::look_paid;
 use crate::run::Course;
 use crate::run::Elimination;
 use crate::run::run;
-use crate::sets;
 use crate::work::clear_work;
 use chain::Chain;
-use chain::answer::Bounds;
-use chain::answer::Chance;
-use chain::answer::Reward;
 use chain::fraction::Fraction;
-use chain::look::Finding;
-use chain::look::look;
-use chain::look::look_paid;
+
+// What the chance and the bounds are read off: these entries are lent no rewards.
+fn unpaid(
+    c: Chain,
+    denominators: &[u64],
+    edges: &[u64],
+    order: &[u64],
+    work: &mut [u64],
+    rounding: bool,
+) -> Course
+    ensures { λ r.
+        let l = lent c (now (denominators .entry)) (now (edges .entry)) (now (order .entry)) [] (now (work .entry)) in
+        ⌜ entered plain rounding l (now (work .exit)) r ⌝ }
+{
+    match look(c, denominators, edges, order, work) {
+        Looked::Refused { number, place } => Course::Stops { number, place },
+        Looked::Clear(sets) => {
+            let e = Elimination {
+                chain: c,
+                sets,
+                rounding,
+            };
+            let none = [0u64; 0];
+            run(e, denominators, edges, order, &none, work)
+        }
+    }
+}
 
 // The chance of reaching a goal, in lowest terms.
 pub fn chance(
@@ -30,17 +58,7 @@ pub fn chance(
         let l = lent c (now (denominators .entry)) (now (edges .entry)) (now (order .entry)) [] (now (work .entry)) in
         ⌜ ChanceOutcome l (toldChance r) (now (work .exit)) ⌝ }
 {
-    if let Finding::Refused { number, place } = look(c, denominators, edges, order, work) {
-        return Chance::Refused { number, place };
-    }
-    let sets = sets::of(c, edges);
-    let none = [0u64; 0];
-    let e = Elimination {
-        chain: c,
-        sets,
-        rounding: false,
-    };
-    match run(e, denominators, edges, order, &none, work) {
+    match unpaid(c, denominators, edges, order, work, false) {
         Course::Ends {
             goal,
             unknown: _,
@@ -64,17 +82,10 @@ pub fn reward(
         let l = lent c (now (denominators .entry)) (now (edges .entry)) (now (order .entry)) (now (rewards .entry)) (now (work .entry)) in
         ⌜ Rewarded l r (now (work .exit)) ⌝ }
 {
-    if let Finding::Refused { number, place } = look_paid(
-        c,
-        denominators,
-        edges,
-        order,
-        rewards,
-        work,
-    ) {
-        return Reward::Refused { number, place };
-    }
-    let sets = sets::of(c, edges);
+    let sets = match look_paid(c, denominators, edges, order, rewards, work) {
+        Looked::Refused { number, place } => return Reward::Refused { number, place },
+        Looked::Clear(sets) => sets,
+    };
     if sets.missed {
         clear_work(work, c.states);
         return Reward::Infinite;
@@ -107,17 +118,7 @@ pub fn bounds(
         let l = lent c (now (denominators .entry)) (now (edges .entry)) (now (order .entry)) [] (now (work .entry)) in
         ⌜ BoundsOutcome l (toldBounds r) (now (work .exit)) ⌝ }
 {
-    if let Finding::Refused { number, place } = look(c, denominators, edges, order, work) {
-        return Bounds::Refused { number, place };
-    }
-    let sets = sets::of(c, edges);
-    let none = [0u64; 0];
-    let e = Elimination {
-        chain: c,
-        sets,
-        rounding: true,
-    };
-    match run(e, denominators, edges, order, &none, work) {
+    match unpaid(c, denominators, edges, order, work, true) {
         Course::Ends {
             goal,
             unknown,

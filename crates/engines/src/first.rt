@@ -11,18 +11,19 @@ ghost use Rattle.meaning.specs.Refusal.{workSize};
 ghost use Rattle.meaning.specs.Step.{first};
 ghost use Rattle.engines.specs.Row.{Became};
 ghost use Rattle.engines.specs.Table.{rowAt, Put, Placed, Renewed};
-ghost use Rattle.engines.specs.Sets.{chainOf, setsOf};
+ghost use Rattle.survey.specs.Sets.{chainOf, setsOf};
 ghost use Rattle.engines.specs.First.{columnOf, share, Added, Held, Addable, Gatherable, finished, Unfinished, finishedAt, Finishable, Makeable, Made};
 use crate::row::REWARD;
 use crate::row::TRAP;
 use crate::row::settle;
 use crate::run::Elimination;
-use crate::sets::Sets;
-use crate::sets::holds;
 use crate::work::clear_work;
 use crate::work::row_start;
 use chain::Chain;
 use chain::edge;
+use chain::set::holds;
+use chain::table::at;
+use survey::Sets;
 
 // The column of a target in the row of a live state. A target that is not live and has a path to a goal is a goal.
 fn column(t: usize, n: usize, sets: Sets) -> usize
@@ -78,16 +79,6 @@ fn gather(work: &mut [u64], n: usize, sets: Sets, edges: &[u64])
     }
 }
 
-// The reward of state i: 0 where no rewards are lent.
-fn reward_of(rewards: &[u64], i: usize) -> u64
-    ensures { λ r. ⌜ r ≡ getD (now (rewards .entry)) i 0 ⌝ }
-{
-    if i < rewards.len() {
-        return rewards[i];
-    }
-    0
-}
-
 // Puts what a live state earns into its row, and settles that. Answers whether it fits.
 fn finish(row: &mut [u64], n: usize, alive: bool, earns: u64, rounding: bool) -> bool
     requires { ⌜ (length (now row) ≡ width n) × (n ≤ mostStates) × Unfinished rounding n alive earns (now row) ⌝ }
@@ -129,7 +120,7 @@ fn finish_all(
 {
     let mut i = 0;
     while i < n {
-        let earns = reward_of(rewards, i) * denominators[i];
+        let earns = at(rewards, i) * denominators[i];
         if !finish_row(work, i, n, live, earns, rounding) {
             return false;
         }

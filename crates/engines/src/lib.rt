@@ -2,10 +2,9 @@
 pub mod answer;
 pub mod entry;
 mod first;
+mod looking;
 mod row;
 mod run;
-mod sets;
 mod step;
-pub mod survey;
 mod walk;
 mod work;

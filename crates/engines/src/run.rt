@@ -4,22 +4,22 @@ ghost use Prim.Native.Nat.{_<_};
 ghost use lib.ListN.{length};
 ghost use Rattle.meaning.specs.Row.{width};
 ghost use Rattle.meaning.specs.Outcome.{cleared};
-ghost use Rattle.chain.specs.Says.{lent};
+ghost use Rattle.chain.specs.Lent.{lent};
 ghost use Rattle.engines.specs.Row.{Fit};
 ghost use Rattle.engines.specs.Table.{rowAt, Kept, Fitting};
-ghost use Rattle.engines.specs.Sets.{setsOf};
+ghost use Rattle.survey.specs.Sets.{setsOf};
 ghost use Rattle.engines.specs.Run.{endOf, Begun, runs};
 use crate::first::first_rows;
 use crate::row::REWARD;
 use crate::row::UNKNOWN;
-use crate::sets::Sets;
-use crate::sets::holds;
 use crate::step::outside;
 use crate::walk::Walk;
 use crate::walk::eliminate;
 use crate::work::clear_work;
 use crate::work::row_start;
 use chain::Chain;
+use chain::set::holds;
+use survey::Sets;
 
 // An elimination: its chain with its sets, and whether rows are rounded.
 pub(crate) struct Elimination {

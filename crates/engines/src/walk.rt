@@ -10,9 +10,9 @@ ghost use Rattle.engines.specs.Table.{tableOf, Fitting};
 ghost use Rattle.engines.specs.Turn.{Turned};
 ghost use Rattle.engines.specs.Order.{going, walked};
 use crate::run::Elimination;
-use crate::sets::holds;
 use crate::step::Turn;
 use crate::step::remove;
+use chain::set::holds;
 
 // How the walk ends: done; at the position of a step after which a row does not fit; or at a position where D is zero.
 pub(crate) enum Walk {

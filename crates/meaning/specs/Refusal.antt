@@ -150,3 +150,15 @@ pub record Refused (x : Entry) (l : Lent) (number place : ℕ) : Type 0 where
 -- No number applies anywhere.
 pub record WellFormed (x : Entry) (l : Lent) : Type 0 where
   pub none : (k p : ℕ) → Applies x l k p → ⊥
+
+-- What a looking answers: a refusal's number and place, or 0 and 0 where no number applies.
+pub record Finding : Type 0 where
+  pub number : ℕ
+  pub place : ℕ
+
+abbrev pub finding : ℕ → ℕ → Finding
+finding number place = record { number = number; place = place }
+
+pub data LookOutcome (x : Entry) (l : Lent) (a : Finding) : Type 0 where
+  refused : (number place : ℕ) → Refused x l number place → a ≡ finding number place → LookOutcome x l a
+  formed : WellFormed x l → a ≡ finding 0 0 → LookOutcome x l a

@@ -1,7 +1,12 @@
--- The survey of a chain: how many of its states are goals, and how many are live.
+-- The survey of a chain: which of its states have a path to a goal, which are live, whether the goal may be missed, and how many states are
+-- goals and live.
 use Prim.Native.Nat.{ℕ, suc}
 use mathlib.Core.Path.{_≡_}
+use mathlib.Core.Logic.{_↔_}
+use mathlib.Core.Bool.{Bool, true, false}
 use Rattle.meaning.specs.Chain.{Goal, Live}
+use Rattle.meaning.specs.Figure.{Missed}
+use Rattle.meaning.specs.Step.{Sets, Right}
 use Rattle.meaning.specs.Refusal.{Lent, bare, Refused, WellFormed}
 
 -- Of the numbers below n, k have the property P.
@@ -10,22 +15,37 @@ pub data Count (P : ℕ → Type 0) : ℕ → ℕ → Type 0 where
   one : {n k : ℕ} → P n → Count P n k → Count P (suc n) (suc k)
   skip : {n k : ℕ} → (P n → ⊥) → Count P n k → Count P (suc n) k
 
--- What a survey answers.
+-- What a survey answers: the two sets, whether the goal may be missed, and how many states are goals and how many are live.
 pub record Survey : Type 0 where
   pub number : ℕ
   pub place : ℕ
+  pub sets : Sets
+  pub missed : Bool
   pub goals : ℕ
   pub live : ℕ
 
--- A refusal answers its number and place, and counts nothing.
+-- A refusal answers its number and place, and nothing of the chain.
 abbrev pub noSurvey : ℕ → ℕ → Survey
-noSurvey number place = record { number = number; place = place; goals = 0; live = 0 }
+noSurvey number place =
+    record {
+      number = number;
+      place = place;
+      sets = record { good = 0; live = 0 };
+      missed = false;
+      goals = 0;
+      live = 0;
+    }
 
-abbrev pub counts : ℕ → ℕ → Survey
-counts goals live = record { number = 0; place = 0; goals = goals; live = live }
+abbrev pub surveys : Sets → Bool → ℕ → ℕ → Survey
+surveys sets missed goals live =
+    record { number = 0; place = 0; sets = sets; missed = missed; goals = goals; live = live }
 
--- A survey is lent a chain alone: it refuses by 1 and 3 to 9, or counts the goals and the live states, the start included where it is live.
+-- A survey is lent a chain alone: it refuses by 1 and 3 to 9, or answers the chain's own sets, whether its expected reward is infinite, and
+-- counts the goals and the live states, the start included where it is live.
 pub data SurveyOutcome (l : Lent) (a : Survey) : Type 0 where
   refused : (number place : ℕ) → Refused bare l number place → a ≡ noSurvey number place → SurveyOutcome l a
-  surveyed : WellFormed bare l → (goals live : ℕ) → Count (Goal (l .chain)) (l .chain .states) goals
-      → Count (Live (l .chain)) (l .chain .states) live → a ≡ counts goals live → SurveyOutcome l a
+  surveyed : WellFormed bare l → (k : Sets) → Right (l .chain) k → (missed : Bool) → (missed ≡ true) ↔ Missed (l .chain) → (goals live : ℕ)
+      → Count (Goal (l .chain)) (l .chain .states) goals
+      → Count (Live (l .chain)) (l .chain .states) live
+      → a ≡ surveys k missed goals live
+      → SurveyOutcome l a

@@ -2,16 +2,18 @@
 use Prim.Native.Nat.{ℕ, zero, suc, _+_, _%_, _^_, _<_}
 use mathlib.Core.Path.{_≡_, refl, sym, ap, ap₂, subst, _∙_}
 use mathlib.Core.Logic.{_↔_, ⊎-elim}
+use mathlib.Core.Bool.{Bool, true, false}
 use native.Mathlib.Omega.{arith}
 use native.Mathlib.Nat.{mod-eq-of-lt, mod-lt, mod-one, zero-div}
 use lib.Pow.{mod-pow-add, pow-pos}
 use lib.Count.{ones, onesIn, ones-cat}
 use Rattle.meaning.specs.Number.{bit}
 use Rattle.meaning.specs.Chain.{Goal}
+use Rattle.meaning.specs.Step.{Sets}
 use Rattle.meaning.specs.Refusal.{Lent, Entry, WellFormed}
-use Rattle.meaning.specs.Survey.{Count, none, one, skip, Survey, noSurvey, counts, SurveyOutcome, refused, surveyed}
+use Rattle.meaning.specs.Survey.{Count, none, one, skip, Survey, noSurvey, surveys, SurveyOutcome, refused, surveyed}
 use Rattle.theory.specs.Sum.{same, last-or-below}
-use Rattle.theory.specs.Sets.{bit-below}
+use Rattle.theory.specs.Sets.{bit-below, right-one}
 use Rattle.theory.specs.Bits.{set-apart}
 use Rattle.theory.specs.Formed.{some-goal, goals-in}
 use Rattle.theory.specs.Determined.{refused-one}
@@ -52,11 +54,21 @@ module _ (P : ℕ → Type 0) (s : ℕ) (set : (i : ℕ) → (bit s i ≡ 1) ↔
   pub count-ones : (n : ℕ) → s < 2 ^ n → Count P n (ones s)
   count-ones n h = subst (λ z. Count P n (ones z)) (mod-eq-of-lt h) (low-ones n)
 
+-- A test of one thing has one answer.
+test-one : {P : Type 0} (b b′ : Bool) → (b ≡ true) ↔ P → (b′ ≡ true) ↔ P → b ≡ b′
+test-one true b′ t t′ = sym (t′ .1 (t .0 refl))
+test-one false true t t′ = t .1 (t′ .0 refl)
+test-one false false t t′ = refl
+
 pub survey-one : {l : Lent} {a a′ : Survey} → SurveyOutcome l a → SurveyOutcome l a′ → a ≡ a′
 survey-one (refused n p r e) (refused n′ p′ r′ e′) = let o = refused-one r r′ in e ∙ ap₂ noSurvey (o .0) (o .1) ∙ sym e′
-survey-one (refused n p r e) (surveyed w g k a b e′) = absurd (w .none n p (r .applies))
-survey-one (surveyed w g k a b e′) (refused n p r e) = absurd (w .none n p (r .applies))
-survey-one (surveyed w g k a b e) (surveyed w′ g′ k′ a′ b′ e′) = e ∙ ap₂ counts (count-one a a′) (count-one b b′) ∙ sym e′
+survey-one (refused n p r e) (surveyed w s t m d g k a b e′) = absurd (w .none n p (r .applies))
+survey-one (surveyed w s t m d g k a b e′) (refused n p r e) = absurd (w .none n p (r .applies))
+survey-one (surveyed w s t m d g k a b e) (surveyed w′ s′ t′ m′ d′ g′ k′ a′ b′ e′) =
+    e
+    ∙ ap₂ (λ (s : Sets) (m : Bool). surveys s m g k) (right-one t t′) (test-one m m′ d d′)
+    ∙ ap₂ (surveys s′ m′) (count-one a a′) (count-one b b′)
+    ∙ sym e′
 
 -- A well-formed chain has a goal to count.
 pub goals-some : (x : Entry) (l : Lent) → WellFormed x l → (k : ℕ) → Count (Goal (l .chain)) (l .chain .states) k → 0 < k

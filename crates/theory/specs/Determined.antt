@@ -9,7 +9,7 @@ use Rattle.meaning.specs.Refusal.{Lent, Entry, Refused, WellFormed}
 use Rattle.meaning.specs.Stop.{Unstopped, Stops, before-steps, in-step, at-turn}
 use Rattle.meaning.specs.Outcome.{Outcome, refused, stopped, answered}
 
-meet : (a b : ℕ) → (a < b → ⊥) → (b < a → ⊥) → a ≡ b
+pub meet : (a b : ℕ) → (a < b → ⊥) → (b < a → ⊥) → a ≡ b
 meet a b f g = omega arith
 
 -- The numbers 1 to 11: one number, at one place.

@@ -48,6 +48,7 @@ pub mod Head
 pub mod Listed
 pub mod FileOne
 pub mod Entails
+pub mod Bare
 pub mod ReportOne
 pub mod CallOne
 pub mod CallRead

@@ -1,8 +1,8 @@
 // A line of the test: the outcome, and what the work table holds.
-use chain::answer::Bounds;
-use chain::answer::Chance;
-use chain::answer::Reward;
 use chain::fraction::Fraction;
+use engines::answer::Bounds;
+use engines::answer::Chance;
+use engines::answer::Reward;
 use engines::answer::Survey;
 
 fn numbers(before: &[u8], a: u64, between: &[u8], b: u64) {

@@ -3,8 +3,8 @@ use borrow.Author.Needs.{needs}
 use mathlib.Core.Path.{subst}
 use Rattle.meaning.specs.Refusal.{Lent}
 use Rattle.meaning.specs.Survey.{SurveyOutcome}
-use Rattle.chain.specs.Says.{lent}
-use Rattle.engines.specs.Told.{toldSurvey}
+use Rattle.chain.specs.Lent.{lent}
+use Rattle.survey.specs.Told.{told}
 use Rattle.egorstream.proofs.Outcomes.{surveyed}
 use Rattle.egorstream.proofs.figures.counts.Statement.{statement}
 use Rattle.egorstream.proofs.figures.counts.Tie as tie

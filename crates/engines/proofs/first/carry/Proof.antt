@@ -2,7 +2,7 @@ use mathlib.Core.Path.{sym, _∙_}
 use native.Mathlib.Omega.{arith}
 use borrow.Author.Needs.{needs}
 use borrow.Author.Tests.{eqb-true, eqb-false, not-true, not-false}
-use Rattle.engines.specs.Sets.{setsOf}
+use Rattle.survey.specs.Sets.{setsOf}
 use Rattle.engines.proofs.Cells.{added-none, added-some}
 use Rattle.engines.proofs.first.carry.Statement.{statement}
 use Rattle.engines.proofs.first.carry.Tie as tie

@@ -27,7 +27,7 @@ mul-earns-2 : tie.Need-mul-earns-2 Inv-loop μ-loop
 mul-earns-2 c =
     let h = c .before .before .before .before .before .before .before .pre in
     let b = c .before .before .loop-test .taken in
-    rw (c .before .reward-of .ensures) (omega (arith, mul-le-mul (h .paid _ b) (h .small _ b)))
+    rw (c .before .at .ensures) (omega (arith, mul-le-mul (h .paid _ b) (h .small _ b)))
 
 finish-row-requires : tie.Need-finish-row-requires Inv-loop μ-loop
 finish-row-requires c κs =
@@ -35,13 +35,13 @@ finish-row-requires c κs =
     let h = p .before .before .before .before .pre in
     let z = p .loop .inv in
     let b = c .before .before .before .loop-test .taken in
-    (omega (arith, h .room, z .kept .len), h .few, b, rw (c .before .before .reward-of .ensures, z .old _ (omega arith) b) (h .gathered _ b))
+    (omega (arith, h .room, z .kept .len), h .few, b, rw (c .before .before .at .ensures, z .old _ (omega arith) b) (h .gathered _ b))
 
 returns : tie.Need-returns Inv-loop μ-loop
 returns c =
     let z = c .before .before .before .before .before .before .before .before .loop .inv in
     let b = c .before .before .before .before .before .before .before .loop-test .taken in
-    let r = c .before .before .before .before .before .before .reward-of .ensures in
+    let r = c .before .before .before .before .before .before .at .ensures in
     let o = z .old _ (omega arith) b in
     let e = c .before .before .before .finish-row .ensures in
     renewing-stop z b (rw (r, o) at e) (not-true _ (c .if1 .taken))
@@ -50,7 +50,7 @@ loop-again : tie.Need-loop-again Inv-loop μ-loop
 loop-again c =
     let z = c .before .before .before .before .before .before .before .before .loop .inv in
     let b = c .before .before .before .before .before .before .before .loop-test .taken in
-    let r = c .before .before .before .before .before .before .reward-of .ensures in
+    let r = c .before .before .before .before .before .before .at .ensures in
     let o = z .old _ (omega arith) b in
     let e = c .before .before .before .finish-row .ensures in
     renewing-more z b (rw (r, o) at e) (not-false _ (c .if1 .left))

@@ -1,7 +1,7 @@
 use borrow.Author.Needs.{needs}
 use Rattle.meaning.specs.Chain.{Chain}
 use Rattle.meaning.specs.Step.{Sets}
-use Rattle.engines.specs.Sets.{chainOf, setsOf}
+use Rattle.survey.specs.Sets.{chainOf, setsOf}
 use Rattle.engines.proofs.FirstRows.{makeable-gatherable, makeable-finishable, first-made}
 use Rattle.engines.proofs.first.first_rows.Statement.{statement}
 use Rattle.engines.proofs.first.first_rows.Tie as tie

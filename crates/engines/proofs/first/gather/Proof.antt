@@ -2,7 +2,7 @@ use Prim.Native.Nat.{_-_}
 use mathlib.Core.Path.{_∙_}
 use native.Mathlib.Omega.{arith}
 use borrow.Author.Needs.{needs}
-use Rattle.engines.specs.Sets.{setsOf}
+use Rattle.survey.specs.Sets.{setsOf}
 use Rattle.engines.proofs.Tables.{kept-more}
 use Rattle.engines.proofs.Cells.{zeros-kept, zeros-at, Gathering, gathering-none, gathering-more, gathering-all, gathering-addable}
 use Rattle.engines.proofs.first.gather.Statement.{statement}

@@ -6,8 +6,8 @@ use Rattle.meaning.specs.Chain.{Live}
 use Rattle.meaning.specs.Step.{Sets, first, after}
 use Rattle.meaning.specs.Stop.{earns}
 use Rattle.meaning.specs.Refusal.{Lent}
-use Rattle.chain.specs.Says.{lent as lentTo}
-use Rattle.engines.specs.Sets.{setsOf}
+use Rattle.chain.specs.Lent.{lent as lentTo}
+use Rattle.survey.specs.Sets.{setsOf}
 use Rattle.engines.specs.Run.{Begun}
 use Rattle.engines.specs.Table.{tableOf, Kept}
 use Rattle.engines.specs.Order.{going, Finished}

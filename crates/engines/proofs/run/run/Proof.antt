@@ -1,7 +1,7 @@
 use native.Mathlib.Omega.{arith}
 use mathlib.Core.Path.{_∙_}
 use borrow.Author.Needs.{needs}
-use Rattle.chain.specs.Says.{lent}
+use Rattle.chain.specs.Lent.{lent}
 use Rattle.engines.proofs.Course.{cleared-kept}
 use Rattle.engines.proofs.run.run.Statement.{statement}
 use Rattle.engines.proofs.run.run.Tie as tie

@@ -1,7 +1,7 @@
 use mathlib.Core.Path.{sym, ap}
 use borrow.Author.Needs.{needs}
 use Rattle.egorstream.proofs.Outcomes.{retold}
-use Rattle.chain.specs.Answer.{toldChance}
+use Rattle.engines.specs.Answer.{toldChance}
 use Rattle.egorstream.proofs.lines.Figure.of_chance.Statement.{statement}
 use Rattle.egorstream.proofs.lines.Figure.of_chance.Tie as tie
 

@@ -1,7 +1,7 @@
 use mathlib.Core.Path.{sym, _∙_, ap}
 use borrow.Author.Needs.{needs}
 use Rattle.egorstream.proofs.Outcomes.{retold}
-use Rattle.chain.specs.Answer.{toldReward}
+use Rattle.engines.specs.Answer.{toldReward}
 use mathlib.Core.Path.{ap₂}
 use Rattle.meaning.specs.Outcome.{fraction}
 use Rattle.egorstream.proofs.lines.Figure.of_reward.Statement.{statement}

@@ -1,6 +1,6 @@
 use mathlib.Core.Path.{sym, ap}
 use borrow.Author.Needs.{needs}
-use Rattle.chain.specs.Answer.{toldBounds}
+use Rattle.engines.specs.Answer.{toldBounds}
 use Rattle.egorstream.proofs.lines.Limits.of_bounds.Statement.{statement}
 use Rattle.egorstream.proofs.lines.Limits.of_bounds.Tie as tie
 

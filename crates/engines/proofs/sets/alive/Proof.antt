@@ -1,9 +1,0 @@
-use Rattle.engines.proofs.Members.{alive-set}
-use Rattle.engines.proofs.sets.alive.Statement.{statement}
-use Rattle.engines.proofs.sets.alive.Tie as tie
-
-returns : tie.Need-returns
-returns c = let a = c .args in alive-set (a .good) (a .reached) (a .goals)
-
-pub alive-spec : {M : Type 1} → statement M
-alive-spec = tie.close (tie.spec returns)

@@ -1,9 +1,0 @@
-use Rattle.engines.proofs.Members.{astray-set}
-use Rattle.engines.proofs.sets.astray.Statement.{statement}
-use Rattle.engines.proofs.sets.astray.Tie as tie
-
-returns : tie.Need-returns
-returns c = let a = c .args in astray-set (a .good) (a .reached)
-
-pub astray-spec : {M : Type 1} → statement M
-astray-spec = tie.close (tie.spec returns)

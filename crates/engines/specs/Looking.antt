@@ -1,0 +1,21 @@
+-- What the looking of an entry says.
+use Prim.Native.Nat.{ℕ}
+use mathlib.Core.Bool.{Bool, true}
+use Rattle.meaning.specs.Refusal.{Lent, Entry, Refused, WellFormed}
+use Rattle.look.specs.Says.{Upto}
+use Rattle.survey.specs.Sets.{Known}
+use Rattle.engines.specs.declared.looking.Looked.{Looked}
+use Rattle.engines.specs.declared.looking.Looked.the-variants.{Clear, Refused as Refusing}
+
+-- An entry that is lent an order and a work table, and rewards or not.
+abbrev pub ordered : Bool → Entry
+ordered b = record { order = true; rewards = b; work = true }
+
+-- What is said before the numbers from k on are looked at; the sets are the chain's own.
+abbrev pub upto : Entry → Lent → ℕ → Looked → Type 0
+upto x l k (Clear sets) = Upto x l k × Known (l .chain) sets
+upto x l k (Refusing number place) = Refused x l number place
+
+abbrev pub looked : Entry → Lent → Looked → Type 0
+looked x l (Clear sets) = WellFormed x l × Known (l .chain) sets
+looked x l (Refusing number place) = Refused x l number place

@@ -1,0 +1,119 @@
+// The looking of the entries: 1 and 2, then what the survey refuses, 3 to 9, then 10 and, where rewards are lent, 11.
+ghost use mathlib.Core.Bool.{Bool};
+ghost use mathlib.Core.List.{List, []};
+ghost use Prim.Native.Nat.{ℕ, _≤_, _<_};
+ghost use lib.ListN.{length};
+ghost use Rattle.meaning.specs.Chain.{mostStates};
+ghost use Rattle.meaning.specs.Refusal.{plain, paid, workSize};
+ghost use Rattle.chain.specs.Decide.{decides};
+ghost use Rattle.chain.specs.Lent.{lent};
+ghost use Rattle.look.specs.Says.{counted};
+ghost use Rattle.engines.specs.Looking.{ordered, upto, looked};
+use chain::Chain;
+use look::scan;
+use look::scan::Place;
+use look::shape::misshaped;
+use survey::Sets;
+use survey::Survey;
+
+// What the looking finds: the chain's sets where the input is well formed.
+pub(crate) enum Looked {
+    Clear(Sets),
+    Refused { number: u32, place: usize },
+}
+
+// The work table is too short.
+fn short(n: usize, work: usize) -> bool
+    requires { ⌜ n ≤ mostStates ⌝ }
+    ensures { λ r. ⌜ decides (work < workSize n) r ⌝ }
+{
+    work < n * (n + Chain::BESIDE)
+}
+
+// The numbers 1 to 10. Of the rewards only the length counts here; the caller gives n where none are lent.
+fn tables(
+    c: Chain,
+    denominators: &[u64],
+    edges: &[u64],
+    order: &[u64],
+    rewards: usize,
+    work: &[u64],
+) -> Looked
+    ensures { λ r.
+        let d = now (denominators .entry) in
+        let e = now (edges .entry) in
+        let o = now (order .entry) in
+        ⌜ ((b : Bool) (w : List ℕ) → counted b (length w) (c .states) rewards → upto (ordered b) (lent c d e o w (now (work .entry))) 11 r) ⌝ }
+{
+    let n = c.states;
+    if misshaped(n, denominators.len(), edges, order.len(), rewards) {
+        return Looked::Refused {
+            number: 1,
+            place: 0,
+        };
+    }
+    if short(n, work.len()) {
+        return Looked::Refused {
+            number: 2,
+            place: 0,
+        };
+    }
+    match survey::of(c, denominators, edges) {
+        Survey::Refused { number, place } => Looked::Refused { number, place },
+        Survey::Found {
+            sets,
+            goals: _,
+            live: _,
+        } => {
+            if let Place::At(p) = scan::order(n, order) {
+                return Looked::Refused {
+                    number: 10,
+                    place: p,
+                };
+            }
+            Looked::Clear(sets)
+        }
+    }
+}
+
+// The looking of an entry for the chance or the bounds: 1 to 10.
+pub(crate) fn look(
+    c: Chain,
+    denominators: &[u64],
+    edges: &[u64],
+    order: &[u64],
+    work: &[u64],
+) -> Looked
+    ensures { λ r.
+        let l = lent c (now (denominators .entry)) (now (edges .entry)) (now (order .entry)) [] (now (work .entry)) in
+        ⌜ looked plain l r ⌝ }
+{
+    tables(c, denominators, edges, order, c.states, work)
+}
+
+// The looking of an entry for the expected reward: 1 to 11.
+pub(crate) fn look_paid(
+    c: Chain,
+    denominators: &[u64],
+    edges: &[u64],
+    order: &[u64],
+    rewards: &[u64],
+    work: &[u64],
+) -> Looked
+    ensures { λ r.
+        let l = lent c (now (denominators .entry)) (now (edges .entry)) (now (order .entry)) (now (rewards .entry)) (now (work .entry)) in
+        ⌜ looked paid l r ⌝ }
+{
+    match tables(c, denominators, edges, order, rewards.len(), work) {
+        Looked::Refused { number, place } => Looked::Refused { number, place },
+        Looked::Clear(sets) => {
+            if let Place::At(i) = scan::rewards(c.states, rewards) {
+                return Looked::Refused {
+                    number: 11,
+                    place: i,
+                };
+            }
+            Looked::Clear(sets)
+        }
+    }
+}

@@ -1,0 +1,6 @@
+pub mod Passing
+pub mod Ends
+pub mod Seen
+pub mod Gather
+pub mod Refuse
+pub mod Unique

@@ -1,0 +1,51 @@
+use Prim.Native.Nat.{_-_}
+use mathlib.Core.Path.{sym, _∙_}
+use native.Mathlib.Omega.{arith}
+use Rattle.meaning.specs.Refusal.{SumFault}
+use Rattle.look.proofs.Passing.{Passed, stop, pass, done}
+use Rattle.look.proofs.Ends.{wide}
+use borrow.Author.Needs.{needs}
+use Rattle.look.proofs.sums.unequal.Statement.{statement}
+use Rattle.look.proofs.sums.unequal.Tie as tie
+
+abbrev Inv-loop : tie.InvT-loop
+Inv-loop n denominators edges sums i₀ i = Passed (SumFault n denominators edges) n i
+
+abbrev μ-loop : tie.MeasureT-loop
+μ-loop n denominators edges sums i₀ i = n - i
+
+row-sums-requires : tie.Need-row-sums-requires Inv-loop μ-loop
+row-sums-requires c κs =
+    let pre = c .before .before .pre in
+    (pre .0 .few-edges, (wide _ (c .before .before .args .edges .now) (pre .0 .few-states) (pre .1 .0), pre .1 .1))
+
+returns : tie.Need-returns Inv-loop μ-loop
+returns c =
+    let at = c .before .before .before in
+    stop (at .loop .inv) (search needs, λ e. c .if1 .taken (at .before .row-sums .ensures _ (omega (arith, at .before .before .before .before .pre .0 .few-states)) ∙ e))
+
+loop-again : tie.Need-loop-again Inv-loop μ-loop
+loop-again c =
+    let at = c .before .before .before in
+    pass (at .loop .inv) (search needs) (λ bad. bad .1 (sym (at .before .row-sums .ensures _ (omega (arith, at .before .before .before .before .pre .0 .few-states))) ∙ c .if1 .left))
+
+returns-2 : tie.Need-returns-2 Inv-loop μ-loop
+returns-2 c = done (c .before .loop .inv) (search needs) (λ k bad. bad .0)
+
+pub unequal-spec : {M : Type 1} → statement M
+unequal-spec =
+    tie.close
+    (tie.spec
+    Inv-loop
+    μ-loop
+    row-sums-requires
+    (λ c. search needs)
+    (λ c. search needs)
+    (λ c. search needs)
+    (λ c. search needs)
+    (λ c. search needs)
+    returns
+    (λ c. search needs)
+    (λ c. search needs)
+    loop-again
+    returns-2)

@@ -1,0 +1,116 @@
+// Faults of one table each, looked for from its first number on.
+ghost use mathlib.Core.Path.{_≡_};
+ghost use lib.ListN.{length};
+ghost use Rattle.look.specs.Least.{least};
+ghost use Rattle.chain.specs.Decide.{decides};
+ghost use Rattle.meaning.specs.Refusal.{OutOfRange, DenominatorFault, EndFault, WeightFault, Earlier, OrderFault, RewardFault};
+use chain::Chain;
+use chain::edge;
+use chain::table::at;
+
+// Where a scan finds what it looks for: at the least such place, or nowhere.
+pub enum Place {
+    Nowhere,
+    At(usize),
+}
+
+// Neither a denominator nor a weight.
+fn out_of_range(x: u64) -> bool
+    ensures { λ r. ⌜ decides (OutOfRange x) r ⌝ }
+{
+    if x == 0 {
+        return true;
+    }
+    Chain::LIMIT < x
+}
+
+pub(crate) fn denominators(n: usize, denominators: &[u64]) -> Place
+    requires { ⌜ length (now denominators) ≡ n ⌝ }
+    ensures { λ r. ⌜ least (DenominatorFault n (now (denominators .entry))) r ⌝ }
+{
+    let mut i = 0;
+    while i < n {
+        if out_of_range(denominators[i]) {
+            return Place::At(i);
+        }
+        i += 1;
+    }
+    Place::Nowhere
+}
+
+pub(crate) fn ends(n: usize, edges: &[u64]) -> Place
+    ensures { λ r. ⌜ least (EndFault n (now (edges .entry))) r ⌝ }
+{
+    let states = n as u64;
+    let count = edge::count(edges);
+    let mut e = 0;
+    while e < count {
+        if states <= edge::from(edges, e) {
+            return Place::At(e);
+        }
+        if states <= edge::to(edges, e) {
+            return Place::At(e);
+        }
+        e += 1;
+    }
+    Place::Nowhere
+}
+
+pub(crate) fn weights(edges: &[u64]) -> Place
+    ensures { λ r. ⌜ least (WeightFault (now (edges .entry))) r ⌝ }
+{
+    let count = edge::count(edges);
+    let mut e = 0;
+    while e < count {
+        if out_of_range(edge::weight(edges, e)) {
+            return Place::At(e);
+        }
+        e += 1;
+    }
+    Place::Nowhere
+}
+
+fn earlier(order: &[u64], p: usize) -> bool
+    ensures { λ r. ⌜ decides (Earlier (now (order .entry)) p) r ⌝ }
+{
+    let mut o = 0;
+    while o < p {
+        if at(order, o) == at(order, p) {
+            return true;
+        }
+        o += 1;
+    }
+    false
+}
+
+// The first fault of an order of n states.
+pub fn order(n: usize, order: &[u64]) -> Place
+    ensures { λ r. ⌜ least (OrderFault n (now (order .entry))) r ⌝ }
+{
+    let states = n as u64;
+    let mut p = 0;
+    while p < n {
+        if states <= at(order, p) {
+            return Place::At(p);
+        }
+        if earlier(order, p) {
+            return Place::At(p);
+        }
+        p += 1;
+    }
+    Place::Nowhere
+}
+
+// The first of the rewards of n states that is too large.
+pub fn rewards(n: usize, rewards: &[u64]) -> Place
+    ensures { λ r. ⌜ least (RewardFault n (now (rewards .entry))) r ⌝ }
+{
+    let mut i = 0;
+    while i < n {
+        if Chain::REWARD < at(rewards, i) {
+            return Place::At(i);
+        }
+        i += 1;
+    }
+    Place::Nowhere
+}

@@ -1,0 +1,89 @@
+-- What is in the sets of a chain.
+use Prim.Native.Nat.{ℕ, _^_}
+use mathlib.Core.Path.{_≡_, refl, sym, subst, _∙_}
+use mathlib.Core.Logic.{Iff·trans, ⊎-elim}
+use mathlib.Core.Bool.{Bool, true, false, not}
+use native.Mathlib.Omega.{arith}
+use native.Mathlib.Nat.{zero-div}
+use lib.Bits.{bitAnd, bitXor}
+use lib.Dec.{eqb}
+use borrow.Author.Tests.{eqb-true, eqb-false}
+use Rattle.meaning.specs.Number.{bit}
+use Rattle.meaning.specs.Chain.{Chain, PathTo, ToGoal, FromStart, Live}
+use Rattle.meaning.specs.Figure.{Missed}
+use Rattle.meaning.specs.Step.{Right}
+use Rattle.theory.specs.Bits.{in-both, in-first, in-one, set-apart}
+use Rattle.theory.specs.Sum.{same}
+use Rattle.chain.specs.Decide.{decides}
+use Rattle.survey.specs.Grow.{way, Grown, sown, joined}
+use Rattle.survey.specs.Sets.{Exactly, Alive, Astray}
+use Rattle.survey.proofs.Growth.{alike}
+
+module _ (c : Chain) where
+  -- The states with a path to a goal grow from the goals, backwards and with no barrier.
+  to-goal : {i : ℕ} → Grown (way true 0 (c .edges)) (c .goals) i → ToGoal c i
+  to-goal {i} (sown g) = PathTo.here i g
+  to-goal (joined e h g n) = PathTo.step e h (to-goal g)
+
+  from-goal : {i : ℕ} → ToGoal c i → Grown (way true 0 (c .edges)) (c .goals) i
+  from-goal (PathTo.here i g) = sown g
+  from-goal (PathTo.step e h p) = joined e h (from-goal p) (λ b. absurd (omega (arith, rw zero-div at b)))
+
+  pub goal-grown : (set : ℕ) → Exactly (Grown (way true 0 (c .edges)) (c .goals)) set → Exactly (ToGoal c) set
+  goal-grown set f i = Iff·trans (f i) (to-goal, from-goal)
+
+  -- The states that are reached grow from the start, up to the goals.
+  from-start : {i : ℕ} → Grown (way false (c .goals) (c .edges)) (2 ^ c .start) i → FromStart c i
+  from-start {i} (sown b) = subst (FromStart c) (sym (in-one (c .start) i .0 b)) FromStart.begin
+  from-start (joined e h g n) = FromStart.step e h (from-start g) n
+
+  to-start : {i : ℕ} → FromStart c i → Grown (way false (c .goals) (c .edges)) (2 ^ c .start) i
+  to-start FromStart.begin = sown (in-one (c .start) (c .start) .1 refl)
+  to-start (FromStart.step e h p n) = joined e h (to-start p) n
+
+  pub start-grown : (set : ℕ) → Exactly (Grown (way false (c .goals) (c .edges)) (2 ^ c .start)) set → Exactly (FromStart c) set
+  start-grown set f i = Iff·trans (f i) (from-start, to-start)
+
+module _ (good reached : ℕ) where
+  pub alive-set : (goals : ℕ) → Exactly (Alive good reached goals) (bitXor (bitAnd good reached) (bitAnd (bitAnd good reached) goals))
+  alive-set goals i = (
+    λ b.
+        let p = in-first (bitAnd good reached) goals i .0 b in
+        let q = in-both good reached i .0 (p .0) in
+        record { leads = q .0; comes = q .1; unwon = p .1 },
+    λ a. in-first (bitAnd good reached) goals i .1 (in-both good reached i .1 (a .leads, a .comes), a .unwon),
+  )
+
+  pub astray-set : decides (Astray good reached) (not (eqb (bitAnd good reached) reached))
+  astray-set = go (eqb (bitAnd good reached) reached) refl
+    where
+      go : (t : Bool) → eqb (bitAnd good reached) reached ≡ t → decides (Astray good reached) (not t)
+      go true e = λ w.
+          let q = eqb-true (bitAnd good reached) reached e in
+          w .2 (in-both good reached (w .0) .0 (subst (λ z. bit z (w .0) ≡ 1) (sym q) (w .1)) .0)
+      go false e =
+          let w = set-apart (bitAnd good reached) reached (eqb-false (bitAnd good reached) reached e) in
+          let i = w .0 in
+          ⊎-elim
+          (λ (b : bit reached i ≡ 1).
+          (i, b, λ g. w .1 (in-both good reached i .1 (g, b) ∙ sym b)))
+          (λ (n : bit reached i ≡ 1 → ⊥).
+          absurd (w .1 (let m : bit (bitAnd good reached) i ≡ 1 → ⊥ = λ b. n (in-both good reached i .0 b .1) in omega arith)))
+          (same (bit reached i) 1)
+
+-- What is known of the good, the reached and the live states together.
+module _ (c : Chain) (good reached : ℕ) (G : Exactly (ToGoal c) good) (R : Exactly (FromStart c) reached) where
+  pub sets-right : (live : ℕ) → Exactly (Alive good reached (c .goals)) live → Right c (record { good = good; live = live })
+  sets-right live A = record { good = G; live = λ i. Iff·trans (A i) (lives, alive) }
+    where
+      lives : {i : ℕ} → Alive good reached (c .goals) i → Live c i
+      lives {i} a = record { unwon = a .unwon; reached = R i .0 (a .comes); leads = G i .0 (a .leads) }
+
+      alive : {i : ℕ} → Live c i → Alive good reached (c .goals) i
+      alive {i} l = record { leads = G i .1 (l .leads); comes = R i .1 (l .reached); unwon = l .unwon }
+
+  pub sets-missed : (b : Bool) → decides (Astray good reached) b → decides (Missed c) b
+  sets-missed b =
+      alike b
+      (λ w. (w .0, R (w .0) .0 (w .1), λ g. w .2 (G (w .0) .1 g)))
+      (λ w. (w .0, R (w .0) .1 (w .1), λ g. w .2 (G (w .0) .0 g)))

@@ -1,0 +1,3 @@
+pub mod Grow
+pub mod Sets
+pub mod Told

@@ -1,0 +1,40 @@
+-- What is promised of the sets of a chain.
+use Prim.Native.Nat.{ℕ}
+use mathlib.Core.Path.{_≡_}
+use mathlib.Core.Logic.{_↔_}
+use mathlib.Core.List.{List, []}
+use Rattle.meaning.specs.Number.{bit}
+use Rattle.meaning.specs.Chain.{Chain}
+use Rattle.meaning.specs.Figure.{Missed}
+use Rattle.meaning.specs.Step.{Sets, Right}
+use Rattle.chain.specs.declared.Chain.{Chain as Given}
+use Rattle.chain.specs.Decide.{decides}
+use Rattle.chain.specs.Lent.{lent}
+use Rattle.survey.specs.declared.Sets.{Sets as Found}
+
+-- The chain of an input with these denominators and edges.
+abbrev pub chainOf : Given → List ℕ → List ℕ → Chain
+chainOf c denominators edges = lent c denominators edges [] [] [] .chain
+
+-- The set has the states with the property P, and no other.
+abbrev pub Exactly : (ℕ → Type 0) → ℕ → Type 0
+Exactly P set = (i : ℕ) → (bit set i ≡ 1) ↔ P i
+
+-- i is good and reached, and no goal.
+pub record Alive (good reached goals i : ℕ) : Type 0 where
+  pub leads : bit good i ≡ 1
+  pub comes : bit reached i ≡ 1
+  pub unwon : bit goals i ≡ 1 → ⊥
+
+-- Some state is reached and not good.
+abbrev pub Astray : ℕ → ℕ → Type 0
+Astray good reached = (i : ℕ) × (bit reached i ≡ 1) × (bit good i ≡ 1 → ⊥)
+
+-- The two sets that the elimination goes by.
+abbrev pub setsOf : Found → Sets
+setsOf s = record { good = s .good; live = s .live }
+
+-- The sets are the chain's own, and it is known whether its expected reward is infinite.
+pub record Known (c : Chain) (s : Found) : Type 0 where
+  pub right : Right c (setsOf s)
+  pub missed : decides (Missed c) (s .missed)

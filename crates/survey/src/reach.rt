@@ -1,0 +1,133 @@
+// Sets of states, each written as one number, that grow along the edges.
+ghost use mathlib.Core.Path.{_≡_};
+ghost use mathlib.Core.List.{List};
+ghost use Prim.Native.Nat.{ℕ, _^_, _<_};
+ghost use lib.Dec.{eqb};
+ghost use Rattle.meaning.specs.Number.{bit};
+ghost use Rattle.meaning.specs.Chain.{mostStates, edgeCount, ToGoal, FromStart};
+ghost use Rattle.meaning.specs.Refusal.{EndFault};
+ghost use Rattle.chain.specs.Decide.{decides};
+ghost use Rattle.survey.specs.Grow.{tail, Open, way, Grown, Joined, Passed};
+ghost use Rattle.survey.specs.Sets.{chainOf, Exactly, Alive, Astray, Known};
+use crate::Sets;
+use chain::Chain;
+use chain::edge;
+use chain::set::holds;
+
+// The set of one state.
+fn alone(i: usize) -> u64
+    requires { ⌜ i < mostStates ⌝ }
+    ensures { λ r. ⌜ r ≡ 2 ^ i ⌝ }
+{
+    1 << i
+}
+
+// Edges that leave state i lead on: it is in the set, and not in the barrier.
+fn is_open(barrier: u64, set: u64, i: usize) -> bool
+    ensures { λ r. ⌜ decides (Open barrier set i) r ⌝ }
+{
+    if holds(barrier, i) {
+        return false;
+    }
+    holds(set, i)
+}
+
+// The state from which edge e leads on. The head of an edge is its tail the other way.
+fn tail(back: bool, edges: &[u64], e: usize) -> usize
+    ensures { λ r. ⌜ r ≡ tail back (now (edges .entry)) e ⌝ }
+{
+    if back {
+        return edge::to(edges, e) as usize;
+    }
+    edge::from(edges, e) as usize
+}
+
+// The set with the head of edge e, where its tail is open.
+fn join(back: bool, barrier: u64, set: u64, edges: &[u64], e: usize) -> u64
+    requires { ⌜ e < edgeCount (now edges) ⌝ }
+    requires { ⌜ ((e : ℕ) → EndFault mostStates (now edges) e → ⊥) ⌝ }
+    ensures { λ r. ⌜ Joined (way back barrier (now (edges .entry))) e set r ⌝ }
+{
+    let i = tail(back, edges, e);
+    if is_open(barrier, set, i) {
+        let j = tail(!back, edges, e);
+        return set | alone(j);
+    }
+    set
+}
+
+// One pass over the edges, which adds to the set itself what each of them adds.
+fn pass(back: bool, barrier: u64, set: u64, edges: &[u64]) -> u64
+    requires { ⌜ ((e : ℕ) → EndFault mostStates (now edges) e → ⊥) ⌝ }
+    ensures { λ r. ⌜ Passed (way back barrier (now (edges .entry))) set r ⌝ }
+{
+    let count = edge::count(edges);
+    let mut larger = set;
+    let mut e = 0;
+    while e < count {
+        larger = join(back, barrier, larger, edges, e);
+        e += 1;
+    }
+    larger
+}
+
+// Passes until one adds nothing. A set that grows is a larger number, so that there is a last one.
+fn grow(back: bool, barrier: u64, seed: u64, edges: &[u64]) -> u64
+    requires { ⌜ ((e : ℕ) → EndFault mostStates (now edges) e → ⊥) ⌝ }
+    ensures { λ r. ⌜ Exactly (Grown (way back barrier (now (edges .entry))) seed) r ⌝ }
+{
+    let mut set = seed;
+    let mut larger = pass(back, barrier, seed, edges);
+    while set < larger {
+        set = larger;
+        larger = pass(back, barrier, set, edges);
+    }
+    set
+}
+
+// The states with a path to a goal: they grow from the goals, backwards.
+fn good(c: Chain, edges: &[u64]) -> u64
+    requires { ⌜ ((e : ℕ) → EndFault mostStates (now edges) e → ⊥) ⌝ }
+    ensures { λ r. ⌜ ((d : List ℕ) → Exactly (ToGoal (chainOf c d (now (edges .entry)))) r) ⌝ }
+{
+    grow(true, 0, c.goals, edges)
+}
+
+// The states that can be reached from the start without passing a goal.
+fn reached(c: Chain, edges: &[u64]) -> u64
+    requires { ⌜ c .start < mostStates ⌝ }
+    requires { ⌜ ((e : ℕ) → EndFault mostStates (now edges) e → ⊥) ⌝ }
+    ensures { λ r. ⌜ ((d : List ℕ) → Exactly (FromStart (chainOf c d (now (edges .entry)))) r) ⌝ }
+{
+    let start = alone(c.start);
+    grow(false, c.goals, start, edges)
+}
+
+// The live states: good and reached, and no goals.
+fn alive(good: u64, reached: u64, goals: u64) -> u64
+    ensures { λ r. ⌜ Exactly (Alive good reached goals) r ⌝ }
+{
+    let both = good & reached;
+    both ^ (both & goals)
+}
+
+// Some state is reached and not good.
+fn astray(good: u64, reached: u64) -> bool
+    ensures { λ r. ⌜ decides (Astray good reached) r ⌝ }
+{
+    good & reached != reached
+}
+
+pub(crate) fn sets(c: Chain, edges: &[u64]) -> Sets
+    requires { ⌜ c .start < mostStates ⌝ }
+    requires { ⌜ ((e : ℕ) → EndFault mostStates (now edges) e → ⊥) ⌝ }
+    ensures { λ r. ⌜ ((d : List ℕ) → Known (chainOf c d (now (edges .entry))) r) ⌝ }
+{
+    let good = good(c, edges);
+    let reached = reached(c, edges);
+    Sets {
+        good,
+        live: alive(good, reached, c.goals),
+        missed: astray(good, reached),
+    }
+}
