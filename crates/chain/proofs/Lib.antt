@@ -1,3 +1,4 @@
 pub mod Terms
 pub mod Law
+pub mod Passing
 pub mod Unique

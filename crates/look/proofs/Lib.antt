@@ -1,4 +1,4 @@
-pub mod Passing
+pub mod Found
 pub mod Ends
 pub mod Seen
 pub mod Gather

@@ -3,7 +3,8 @@ use native.Mathlib.Omega.{arith}
 use borrow.Author.Needs.{needs}
 use Rattle.meaning.specs.Block.{recordSize, edgeZeros, weightByte}
 use Rattle.meaning.specs.File.{NonZero}
-use Rattle.chain.proofs.Law.{Passed, pass, holds, fails}
+use Rattle.chain.proofs.Law.{holds, fails}
+use Rattle.chain.proofs.Passing.{Passed, pass}
 use Rattle.chainfile.specs.Input.{input}
 use Rattle.chainfile.proofs.records.reserved_wrong.Statement.{statement}
 use Rattle.chainfile.proofs.records.reserved_wrong.Tie as tie

@@ -3,7 +3,7 @@ use mathlib.Core.Bool.{true}
 use borrow.Author.Needs.{needs}
 use Rattle.meaning.specs.Refusal.{Lent, paid}
 use Rattle.chain.specs.Lent.{lent}
-use Rattle.look.proofs.Passing.{found, none}
+use Rattle.look.proofs.Found.{found, none}
 use Rattle.look.proofs.Refuse.{refuse, next, well}
 use Rattle.engines.specs.Looking.{upto}
 use Rattle.engines.proofs.Looked.{upto-refused, upto-clear}

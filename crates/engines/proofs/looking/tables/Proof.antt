@@ -9,7 +9,7 @@ use Rattle.meaning.specs.Refusal.{Lent}
 use Rattle.chain.specs.Lent.{lent}
 use Rattle.chain.proofs.Law.{holds, fails}
 use Rattle.look.specs.Says.{Upto, counted}
-use Rattle.look.proofs.Passing.{found, none}
+use Rattle.look.proofs.Found.{found, none}
 use Rattle.look.proofs.Refuse.{refuse, next, at-0, off, misshapen, shaped, sized}
 use Rattle.engines.specs.Looking.{ordered}
 use Rattle.engines.proofs.Looked.{survey-refuses, survey-clears}

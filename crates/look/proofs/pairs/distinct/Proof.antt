@@ -5,7 +5,7 @@ use native.Mathlib.Nat.{mod-eq-of-lt, one-mul}
 use lib.Pow.{pow-lt}
 use Rattle.meaning.specs.Chain.{mostStates, edgeCount}
 use Rattle.meaning.specs.Refusal.{PairFault}
-use Rattle.look.proofs.Passing.{Passed, pass, done}
+use Rattle.chain.proofs.Passing.{Passed, pass, done}
 use Rattle.look.proofs.Ends.{from-below, to-below}
 use Rattle.look.proofs.Seen.{Seen, none, stood, fresh, more}
 use borrow.Author.Needs.{needs}

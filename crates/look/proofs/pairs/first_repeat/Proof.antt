@@ -2,7 +2,8 @@ use Prim.Native.Nat.{_-_}
 use mathlib.Core.Logic.{⊎-elim}
 use native.Mathlib.Omega.{arith}
 use Rattle.chain.proofs.Law.{holds, fails}
-use Rattle.look.proofs.Passing.{Passed, stop, pass, done}
+use Rattle.chain.proofs.Passing.{Passed, pass, done}
+use Rattle.look.proofs.Found.{stop}
 use Rattle.meaning.specs.Refusal.{Same, PairFault}
 use Rattle.meaning.specs.Chain.{M, edgeCount}
 use borrow.Author.Needs.{needs}

@@ -1,6 +1,7 @@
 use Prim.Native.Nat.{_-_}
 use Rattle.chain.proofs.Law.{holds, fails}
-use Rattle.look.proofs.Passing.{Passed, stop, pass, done}
+use Rattle.chain.proofs.Passing.{Passed, pass, done}
+use Rattle.look.proofs.Found.{stop}
 use Rattle.meaning.specs.Refusal.{DenominatorFault}
 use borrow.Author.Needs.{needs}
 use Rattle.look.proofs.scan.denominators.Statement.{statement}

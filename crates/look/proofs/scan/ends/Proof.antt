@@ -1,7 +1,8 @@
 use Prim.Native.Nat.{_-_}
 use mathlib.Core.Logic.{⊎-elim, inl, inr}
 use native.Mathlib.Omega.{arith}
-use Rattle.look.proofs.Passing.{Passed, stop, pass, done}
+use Rattle.chain.proofs.Passing.{Passed, pass, done}
+use Rattle.look.proofs.Found.{stop}
 use Rattle.meaning.specs.Refusal.{EndFault}
 use Rattle.meaning.specs.Chain.{M, edgeCount}
 use borrow.Author.Needs.{needs}

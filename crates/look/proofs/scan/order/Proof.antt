@@ -5,7 +5,8 @@ use native.Mathlib.Omega.{arith}
 use borrow.Author.Needs.{needs}
 use Rattle.meaning.specs.Refusal.{OrderFault}
 use Rattle.chain.proofs.Law.{holds, fails}
-use Rattle.look.proofs.Passing.{Passed, stop, pass, done}
+use Rattle.chain.proofs.Passing.{Passed, pass, done}
+use Rattle.look.proofs.Found.{stop}
 use Rattle.look.proofs.scan.order.Statement.{statement}
 use Rattle.look.proofs.scan.order.Tie as tie
 

@@ -2,7 +2,8 @@ use Prim.Native.Nat.{_-_}
 use mathlib.Core.Path.{sym, _∙_}
 use native.Mathlib.Omega.{arith}
 use Rattle.meaning.specs.Refusal.{SumFault}
-use Rattle.look.proofs.Passing.{Passed, stop, pass, done}
+use Rattle.chain.proofs.Passing.{Passed, pass, done}
+use Rattle.look.proofs.Found.{stop}
 use Rattle.look.proofs.Ends.{wide}
 use borrow.Author.Needs.{needs}
 use Rattle.look.proofs.sums.unequal.Statement.{statement}
