@@ -1,9 +1,9 @@
 // Reads a chain file on standard input and prints its report.
 ghost use Prim.Native.Nat.{_≤_};
-use egorstream::report::Printed;
-use egorstream::report::report;
 use libc::STDIN_FILENO;
 use libc::STDOUT_FILENO;
+use report::Printed;
+use report::report;
 
 // What one read takes at most, and how many reads there are at most, some 2^63 bytes in all: a proved loop has to end, and nothing says that
 // the input does.
@@ -44,7 +44,7 @@ fn main() {
     } else {
         rest()
     };
-    let mut buffer = [0u8; egorstream::REPORT_ROOM];
+    let mut buffer = [0u8; report::REPORT_ROOM];
     if let Printed::Length(n) = report(&kept[..length], more, &mut buffer) {
         io::write_all(STDOUT_FILENO, &buffer[..n]);
     }

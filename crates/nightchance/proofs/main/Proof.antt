@@ -1,7 +1,7 @@
 use mathlib.Core.Path.{sym}
 use lib.Seq.{length-take-le}
 use borrow.Author.Needs.{needs}
-use Rattle.egorstream.proofs.Unique.{within}
+use Rattle.report.proofs.Unique.{within}
 use Rattle.nightchance.proofs.main.Statement.{statement}
 use Rattle.nightchance.proofs.main.Tie as tie
 
