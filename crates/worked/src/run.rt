@@ -88,6 +88,6 @@ pub(crate) fn lines(name: &[u8], lent: usize, c: Chain, d: &[u64], e: &[u64], o:
 }
 
 // The lines of a case whose work table is longer than the chain takes.
-pub fn case(name: &[u8], c: Chain, d: &[u64], e: &[u64], o: &[u64], r: &[u64]) {
+pub(crate) fn case(name: &[u8], c: Chain, d: &[u64], e: &[u64], o: &[u64], r: &[u64]) {
     lines(name, used(c.states) + SPARE, c, d, e, o, r);
 }
