@@ -35,9 +35,9 @@ extern "C" {
 
 /* The request is wrong: the caller must be mended. */
 
-/* The mode is above 2, or a table's length is wrong. */
+/* The mode is above 2. */
 #define EGORSTREAM_MODE_OR_LENGTH_WRONG UINT32_C(1)
-/* The answer has fewer than 16 bytes, or a work table is too short. */
+/* The answer has fewer than 16 bytes. */
 #define EGORSTREAM_ANSWER_TOO_SHORT UINT32_C(2)
 
 /* The file is whole, but it holds no chain: what wrote it must be mended. */

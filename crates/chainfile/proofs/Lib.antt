@@ -6,4 +6,6 @@ pub mod Content
 pub mod Tested
 pub mod Filling
 pub mod Flags
+pub mod Steps
+pub mod Storing
 pub mod Unique

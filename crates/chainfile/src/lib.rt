@@ -13,9 +13,11 @@ mod head;
 mod judge;
 mod layout;
 mod records;
+mod store;
 mod sums;
 
 pub use layout::LONGEST;
+pub use store::put_number;
 
 pub enum Reading {
     Chain { chain: Chain, edges: usize },

@@ -1,9 +1,9 @@
 // The dice chain of Knuth and Yao: prints the chance of each face.
 use chain::Chain;
-use egorstream::report::Printed;
-use egorstream::report::face;
 use engines::entry::chance;
 use libc::STDOUT_FILENO;
+use report::Printed;
+use report::face;
 
 // States 0 to 6 toss a coin, and states 7 to 12 are the faces.
 const STATES: usize = 13;
@@ -90,7 +90,7 @@ fn print(number: u64, goals: u64) {
         &ORDER,
         &mut work,
     );
-    let mut buffer = [0u8; egorstream::FACE_ROOM];
+    let mut buffer = [0u8; report::FACE_ROOM];
     if let Printed::Length(n) = face(number, found, &mut buffer) {
         io::write_all(STDOUT_FILENO, &buffer[..n]);
     }

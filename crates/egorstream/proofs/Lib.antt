@@ -1,11 +1,2 @@
-pub mod Steps
-pub mod Decimal
-pub mod Lengths
-pub mod Printed
-pub mod Near
-pub mod Room
-pub mod Opened
-pub mod Outcomes
 pub mod Called
-pub mod ChainLines
-pub mod Unique
+pub mod Replied

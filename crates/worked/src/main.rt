@@ -1,251 +1,119 @@
-// A test, no product: the chains that the scope works by hand, and each refusal from 1 to 12, are run through the entries with lent tables.
+// A test, no product: what only lent tables can show, the numbers 1, 2 and 11 and the work table, is run through the entries.
 // What it must write, the file stdout, was worked out from the scope and not copied from a run.
-ghost use Prim.Native.Nat.{_<_};
+ghost use Prim.Native.Nat.{_≤_};
 
 mod run;
 mod tell;
-mod third;
 
 use chain::Chain;
 use run::case;
 
-const M: u64 = Chain::LIMIT;
+// The scope's third chain: state 0 goes to itself, to the goal 1 and to the trap 2.
+const D: [u64; 3] = [3, 1, 1];
 
-const ADDRESS: [u64; 36] = [
-    0,
-    5,
-    7,
-    0,
-    1,
-    1,
-    1,
-    0,
-    4,
-    1,
-    2,
-    1,
-    2,
-    0,
-    4,
-    2,
-    3,
-    1,
-    3,
-    0,
-    4,
-    3,
-    4,
-    1,
-    4,
-    0,
-    4,
-    4,
-    6,
-    1,
-    5,
-    5,
-    1,
-    6,
-    6,
-    1,
-];
+const E: [u64; 15] = [0, 0, 1, 0, 1, 1, 0, 2, 1, 1, 1, 1, 2, 2, 1];
 
-fn address(name: &[u8], goals: u64, first: u64) {
+const O: [u64; 3] = [0, 1, 2];
+
+const R: [u64; 3] = [1, 1, 1];
+
+// With another start.
+fn from(name: &[u8], start: usize) {
+    case(name, Chain::new(3, start, 2), &D, &E, &O, &R);
+}
+
+// With other tables than its own.
+fn with(name: &[u8], d: &[u64], e: &[u64], o: &[u64], r: &[u64]) {
+    case(name, Chain::new(3, 0, 2), d, e, o, r);
+}
+
+fn lent(name: &[u8], work: usize)
+    requires { ⌜ work ≤ 4354 ⌝ }
+{
+    run::lines(name, work, Chain::new(3, 0, 2), &D, &E, &O, &R);
+}
+
+// The scope's chain for the first visit, with a finite reward.
+fn visits(name: &[u8]) {
+    let edges = [0, 1, 1, 1, 1, 1, 1, 2, 1, 2, 2, 1];
     case(
         name,
-        Chain::new(7, 0, goals),
-        &[8, 5, 5, 5, 5, 1, 1],
-        &ADDRESS,
-        &[0, 1, 2, 3, 4, 5, 6],
-        &[first, 0, 0, 0, 0, 0, 0],
-    );
-}
-
-const DICE: [u64; 60] = [
-    0,
-    1,
-    1,
-    0,
-    2,
-    1,
-    1,
-    3,
-    1,
-    1,
-    4,
-    1,
-    2,
-    5,
-    1,
-    2,
-    6,
-    1,
-    3,
-    1,
-    1,
-    3,
-    7,
-    1,
-    4,
-    8,
-    1,
-    4,
-    9,
-    1,
-    5,
-    10,
-    1,
-    5,
-    11,
-    1,
-    6,
-    2,
-    1,
-    6,
-    12,
-    1,
-    7,
-    7,
-    1,
-    8,
-    8,
-    1,
-    9,
-    9,
-    1,
-    10,
-    10,
-    1,
-    11,
-    11,
-    1,
-    12,
-    12,
-    1,
-];
-
-fn dice(name: &[u8], goals: u64) {
-    case(
-        name,
-        Chain::new(13, 0, goals),
-        &[2, 2, 2, 2, 2, 2, 2, 1, 1, 1, 1, 1, 1],
-        &DICE,
-        &[0, 1, 2, 3, 4, 5, 6, 7, 8, 9, 10, 11, 12],
-        &[1, 1, 1, 1, 1, 1, 1, 0, 0, 0, 0, 0, 0],
-    );
-}
-
-fn sources() {
-    address(b"address, goal 5", 32, 0);
-    address(b"address, goal 6", 64, 0);
-    address(b"address, goals 5 and 6, reward 1 on 0", 96, 1);
-    address(b"address, goals 5 and 6, no reward", 96, 0);
-    dice(b"dice, face 1", 128);
-    dice(b"dice, face 2", 256);
-    dice(b"dice, face 3", 512);
-    dice(b"dice, face 4", 1024);
-    dice(b"dice, face 5", 2048);
-    dice(b"dice, face 6", 4096);
-    dice(b"dice, all faces", 8064);
-}
-
-fn loops() {
-    case(
-        b"first visit and loop",
         Chain::new(3, 0, 4),
         &[1, 2, 1],
-        &[0, 1, 1, 1, 1, 1, 1, 2, 1, 2, 2, 1],
-        &[0, 1, 2],
+        &edges,
+        &O,
         &[1, 1, 0],
     );
-    case(
-        b"goal or a ring",
-        Chain::new(4, 0, 8),
-        &[2, 1, 1, 1],
-        &[0, 1, 1, 0, 3, 1, 1, 2, 1, 2, 1, 1, 3, 3, 1],
-        &[0, 1, 2, 3],
-        &[0, 0, 0, 0],
-    );
-    case(
-        b"goal with an edge back",
-        Chain::new(2, 0, 2),
-        &[1, 1],
-        &[0, 1, 1, 1, 0, 1],
-        &[0, 1],
-        &[1, 1],
-    );
 }
 
-fn limits() {
-    case(
-        b"M - 1 chain",
-        Chain::new(4, 0, 4),
-        &[M, 3, 1, 1],
-        &[0, 1, 1, 0, 3, M - 1, 1, 2, 1, 1, 3, 2, 2, 2, 1, 3, 3, 1],
-        &[0, 1, 2, 3],
-        &[0, 0, 0, 0],
-    );
-    let edges = [0, 1, 1, 0, 2, M - 1, 1, 1, 1, 2, 2, 1];
-    case(
-        b"one in M",
-        Chain::new(3, 0, 2),
-        &[M, 1, 1],
-        &edges,
-        &[0, 1, 2],
-        &[0, 0, 0],
-    );
-    case(
-        b"denominator M + 1",
-        Chain::new(3, 0, 2),
-        &[M + 1, 1, 1],
-        &edges,
-        &[0, 1, 2],
-        &[0, 0, 0],
-    );
-}
+// The scope's chain with a weight of M - 1, which does not fit.
+const DENOMINATORS: [u64; 4] = [Chain::LIMIT, 3, 1, 1];
 
-// One live state, with the greatest reward: its first row's Reward is that times the total.
-fn dear(name: &[u8], total: u64)
-    requires { ⌜ 0 < total ⌝ }
-{
+const EDGES: [u64; 18] = [
+    0,
+    1,
+    1,
+    0,
+    3,
+    2147483646,
+    1,
+    2,
+    1,
+    1,
+    3,
+    2,
+    2,
+    2,
+    1,
+    3,
+    3,
+    1,
+];
+
+fn no_fit(name: &[u8]) {
     case(
         name,
-        Chain::new(2, 0, 2),
-        &[total, 1],
-        &[0, 0, 1, 0, 1, total - 1, 1, 1, 1],
-        &[0, 1],
-        &[Chain::REWARD, 0],
+        Chain::new(4, 0, 4),
+        &DENOMINATORS,
+        &EDGES,
+        &[0, 1, 2, 3],
+        &[0, 0, 0, 0],
     );
 }
 
-// The largest chain: each state is a goal and goes to itself.
-fn largest() {
-    let mut edges = [1u64; 192];
-    let mut order = [0u64; 64];
-    let mut i: usize = 0;
-    while i < 64 {
-        edges[3 * i] = i as u64;
-        edges[3 * i + 1] = i as u64;
-        order[i] = i as u64;
-        i += 1;
-    }
+// Each way in which an entry ends that makes the work table zero: infinite, an answer without rows, one with rows, and no fit.
+fn cleared() {
+    from(b"itself, goal and trap", 0);
+    from(b"started on the goal", 1);
+    visits(b"first visit and loop");
+    no_fit(b"M - 1 chain");
+}
+
+fn edges_misshaped() {
+    let many = [0u64; 12291];
+    with(b"refusal 1, edges not in threes", &D, &E[..14], &O, &R);
+    with(b"refusal 1, 4097 edges", &D, &many, &O, &R);
+}
+
+fn tables_misshaped() {
+    let longer = [1u64; 65];
+    with(b"refusal 1, an order too short", &D, &E, &O[..2], &R);
+    with(b"refusal 1, a reward too many", &D, &E, &O, &[1, 1, 1, 1]);
     case(
-        b"64 goals",
-        Chain::new(64, 63, 18446744073709551615),
-        &[1u64; 64],
-        &edges,
-        &order,
-        &[1u64; 64],
+        b"refusal 1, 65 states",
+        Chain::new(65, 0, 2),
+        &longer,
+        &E,
+        &longer,
+        &longer,
     );
 }
 
 fn main() {
-    sources();
-    third::sound();
-    loops();
-    limits();
-    dear(b"greatest reward, 32768", 32768);
-    dear(b"greatest reward, 32769", 32769);
-    largest();
-    third::refusals();
+    cleared();
+    lent(b"work of 21 numbers", 21);
+    edges_misshaped();
+    tables_misshaped();
+    lent(b"refusal 2", 20);
+    with(b"refusal 11", &D, &E, &O, &[1, 65536, 1]);
 }

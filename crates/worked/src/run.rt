@@ -4,7 +4,6 @@ ghost use Prim.Native.Nat.{_≤_};
 use crate::tell;
 use chain::Chain;
 use engines::entry;
-use engines::survey::survey;
 
 const SPARE: usize = 2;
 
@@ -84,10 +83,10 @@ pub(crate) fn lines(name: &[u8], lent: usize, c: Chain, d: &[u64], e: &[u64], o:
     line(name, Entry::Reward, lent, c, d, e, o, r);
     line(name, Entry::Bounds, lent, c, d, e, o, r);
     io::write_all(1, name);
-    tell::survey(survey(c, d, e));
+    tell::survey(survey::of(c, d, e));
 }
 
 // The lines of a case whose work table is longer than the chain takes.
-pub fn case(name: &[u8], c: Chain, d: &[u64], e: &[u64], o: &[u64], r: &[u64]) {
+pub(crate) fn case(name: &[u8], c: Chain, d: &[u64], e: &[u64], o: &[u64], r: &[u64]) {
     lines(name, used(c.states) + SPARE, c, d, e, o, r);
 }

@@ -3,7 +3,7 @@ use chain::fraction::Fraction;
 use engines::answer::Bounds;
 use engines::answer::Chance;
 use engines::answer::Reward;
-use engines::answer::Survey;
+use survey::Survey;
 
 fn numbers(before: &[u8], a: u64, between: &[u8], b: u64) {
     io::write_all(1, before);
@@ -20,7 +20,7 @@ fn refused(number: u32, place: usize) {
     numbers(b"refused ", number as u64, b" at ", place as u64);
 }
 
-pub fn chance(a: Chance) {
+pub(crate) fn chance(a: Chance) {
     io::write_all(1, b": chance ");
     match a {
         Chance::Is(f) => fraction(b"", f),
@@ -28,7 +28,7 @@ pub fn chance(a: Chance) {
     }
 }
 
-pub fn reward(a: Reward) {
+pub(crate) fn reward(a: Reward) {
     io::write_all(1, b": reward ");
     match a {
         Reward::Is(f) => fraction(b"", f),
@@ -39,7 +39,7 @@ pub fn reward(a: Reward) {
     }
 }
 
-pub fn bounds(a: Bounds) {
+pub(crate) fn bounds(a: Bounds) {
     io::write_all(1, b": bounds ");
     match a {
         Bounds::Between { lower, upper } => {
@@ -50,10 +50,14 @@ pub fn bounds(a: Bounds) {
     }
 }
 
-pub fn survey(a: Survey) {
+pub(crate) fn survey(a: Survey) {
     io::write_all(1, b": survey ");
     match a {
-        Survey::Counts { goals, live } => numbers(b"goals ", goals as u64, b" live ", live as u64),
+        Survey::Found {
+            sets: _,
+            goals,
+            live,
+        } => numbers(b"goals ", goals as u64, b" live ", live as u64),
         Survey::Refused { number, place } => refused(number, place),
     }
     io::write_all(1, b"\n");

@@ -1,7 +1,7 @@
 use mathlib.Core.Path.{sym}
 use lib.Seq.{length-take-le}
 use borrow.Author.Needs.{needs}
-use Rattle.egorstream.proofs.Unique.{within}
+use Rattle.report.proofs.Unique.{within}
 use Rattle.dice.proofs.print.Statement.{statement}
 use Rattle.dice.proofs.print.Tie as tie
 

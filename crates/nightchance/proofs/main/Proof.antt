@@ -1,9 +1,15 @@
 use mathlib.Core.Path.{sym}
 use lib.Seq.{length-take-le}
 use borrow.Author.Needs.{needs}
-use Rattle.egorstream.proofs.Unique.{within}
+use Rattle.report.proofs.Unique.{within}
 use Rattle.nightchance.proofs.main.Statement.{statement}
 use Rattle.nightchance.proofs.main.Tie as tie
+
+array-share-prefix-kept : tie.Need-array-share-prefix-kept
+array-share-prefix-kept c = search needs
+
+slice-aggregate-report : tie.Need-slice-aggregate-report
+slice-aggregate-report c = sym (length-take-le _ _ (array-share-prefix-kept (c .before)))
 
 array-share-prefix-buffer : tie.Need-array-share-prefix-buffer
 array-share-prefix-buffer c = let r = c .before .before .before .before .report in within (r .result) (r .ensures) (c .before .n .given .1)
@@ -17,9 +23,8 @@ main-spec =
     (tie.spec
     (λ c. search needs)
     (λ c κs. search needs)
-    (λ c κs. search needs)
-    (λ c. search needs)
-    (λ c. search needs)
+    array-share-prefix-kept
+    slice-aggregate-report
     (λ c. search needs)
     (λ c κs. search needs)
     (λ c. search needs)

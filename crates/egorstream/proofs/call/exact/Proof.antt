@@ -1,30 +1,28 @@
-use mathlib.Core.Path.{refl}
 use native.Mathlib.Omega.{arith}
 use borrow.Author.Needs.{needs}
-use Rattle.egorstream.specs.Holds.{Replied}
-use Rattle.egorstream.specs.Told.{toldFigure}
+use Rattle.figures.proofs.Asked.{file-accepted}
+use Rattle.egorstream.proofs.Called.{refused-file, refused-chain, replied, exact-most, said-exactly}
 use Rattle.egorstream.proofs.call.exact.Statement.{statement}
 use Rattle.egorstream.proofs.call.exact.Tie as tie
 
 returns : tie.Need-returns
-returns c =
-    let x = c .before .before .chance in
-    record {
-      answer = toldFigure (x .result);
-      work = x .ensures .work;
-      outcome = x .ensures .outcome;
-      replied = Replied.refused (omega (arith, c .if1 .taken)) refl refl;
-    }
+returns c = λ mode m. refused-file (search needs) (exact-most m) (c .before .before .ask .ensures) (omega (arith, c .if1 .taken))
 
 returns-2 : tie.Need-returns-2
 returns-2 c =
-    let x = c .before .before .before .before .before .before .chance in
-    record {
-      answer = toldFigure (x .result);
-      work = x .ensures .work;
-      outcome = x .ensures .outcome;
-      replied = Replied.answered (omega (arith, c .before .before .before .before .if1 .left)) refl (c .before .before .reply .ensures);
-    }
+    λ mode m.
+    let e = c .before .before .before in
+    let x = file-accepted (e .before .before .ask .ensures) (omega (arith, e .if1 .left)) in
+    refused-chain (search needs) (exact-most m) (x .0) (said-exactly m (x .1)) (omega (arith, c .if2 .taken))
+
+returns-3 : tie.Need-returns-3
+returns-3 c =
+    λ mode m.
+    let p = c .before .before in
+    let e = p .before .before .before .before .before in
+    let x = file-accepted (e .before .before .ask .ensures) (omega (arith, e .if1 .left)) in
+    replied (search needs) (exact-most m) (x .0) (said-exactly m (x .1)) (omega (arith, p .before .before .if2 .left)) (p .reply .ensures)
 
 pub exact-spec : {M : Type 1} → statement M
-exact-spec = tie.close (tie.spec (λ c κs. search needs) returns (λ c κs. search needs) (λ c. search needs) returns-2)
+exact-spec =
+    tie.close (tie.spec (λ c κs. search needs) returns returns-2 (λ c κs. search needs) (λ c. search needs) returns-3)

@@ -1,4 +1,0 @@
-pub mod Written
-pub mod Told
-pub mod Found
-pub mod Holds

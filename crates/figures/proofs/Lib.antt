@@ -1,0 +1,4 @@
+pub mod Outcomes
+pub mod Opened
+pub mod Asked
+pub mod Unique

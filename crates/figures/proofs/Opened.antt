@@ -1,0 +1,111 @@
+-- What the reader's answer tells of a file: it is refused, or its chain and tables are those of the answer.
+use Prim.Native.Nat.{ℕ, _*_, _≤_}
+use mathlib.Core.Path.{_≡_, sym, ap, subst, _∙_}
+use mathlib.Core.Logic.{⊎-elim}
+use mathlib.Core.List.{List}
+use native.Mathlib.Omega.{arith}
+use lib.ListN.{length, take, drop, replicate, length-append, length-replicate}
+use lib.Seq.{take-at}
+use Rattle.meaning.specs.Number.{tabFrom, filled}
+use Rattle.meaning.specs.Chain.{mostStates, mostEdges, edgeSize, edgeNumber}
+use Rattle.meaning.specs.Refusal.{workSize}
+use Rattle.meaning.specs.Block.{Input, headEdges, denominatorIn, rewardIn, orderIn}
+use Rattle.meaning.specs.File.{FileRefused, edgeIn, Tables, Short, Reading as Numbers, reading, ReadOutcome}
+use Rattle.theory.specs.FileOne.{file-numbers}
+use Rattle.theory.specs.Tab.{tab-length}
+use Rattle.chain.specs.declared.Chain.{Chain as Frame}
+use Rattle.chainfile.specs.Tells.{told, tables}
+use Rattle.chainfile.specs.declared.Reading.{Reading}
+use Rattle.chainfile.specs.declared.Reading.the-variants.{Chain, Refused}
+use Rattle.chainfile.proofs.Tested.{bounded}
+use Rattle.figures.specs.Found.{Holds}
+
+module _ {a b : Numbers} (e : a ≡ b) where
+  number : a .number ≡ b .number
+  number = ap (λ (a : Numbers). a .number) e
+
+  place : a .place ≡ b .place
+  place = ap (λ (a : Numbers). a .place) e
+
+  states : a .states ≡ b .states
+  states = ap (λ (a : Numbers). a .states) e
+
+-- A list stands at the front of the table that it fills.
+at : (f : ℕ → ℕ) (t after : List ℕ) {m n : ℕ} → m ≡ n → after ≡ filled (tabFrom 0 n f) t → (m ≤ length after) × (take m after ≡ tabFrom 0 n f)
+at f t after {m} {n} h e =
+    let l = tabFrom 0 n f in
+    let size = tab-length 0 n f in (
+      omega (arith, ap length e ∙ length-append l (drop (length l) t)),
+      ap (take m) e ∙ take-at l (drop (length l) t) m (size ∙ sym h),
+    )
+
+-- The tables hold the chain at their front.
+pub record Opened (f : Input) (c : Frame) (count : ℕ) (t : Tables) : Type 0 where
+  pub few-edges : count ≤ mostEdges
+  pub denominators : c .states ≤ length (t .denominators)
+  pub edges : edgeSize * count ≤ length (t .edges)
+  pub order : c .states ≤ length (t .order)
+  pub rewards : c .states ≤ length (t .rewards)
+  pub holds : Holds f c (take (c .states) (t .denominators)) (take (edgeSize * count) (t .edges)) (take (c .states) (t .order)) (take (c .states) (t .rewards))
+
+-- Tables that are made at the largest chain's size are not short.
+abbrev made : Tables
+made = tables (replicate mostStates 0) (replicate (edgeSize * mostEdges) 0) (replicate mostStates 0) (replicate mostStates 0)
+
+pub room : Short made → ⊥
+room s =
+    let states = length-replicate {A = ℕ} mostStates 0 in
+    let edges = length-replicate {A = ℕ} (edgeSize * mostEdges) 0 in
+    ⊎-elim (λ h. omega arith) (⊎-elim (λ h. omega arith) (⊎-elim (λ h. omega arith) (λ h. omega arith))) s
+
+module _ {f : Input} {t after : Tables} (room : Short t → ⊥) where
+  pub file-refused : {r : Reading} {n p : ℕ} → ReadOutcome f t (told r) after → r ≡ Refused n p → FileRefused f n p
+  file-refused (ReadOutcome.short s e d) q = absurd (room s)
+  file-refused {p = p} (ReadOutcome.refused s n′ p′ w e d) q =
+      let z = sym (ap told q) ∙ e in
+      subst (λ n. FileRefused f n p) (sym (number z)) (subst (λ p. FileRefused f n′ p) (sym (place z)) w)
+  file-refused (ReadOutcome.accepted s w e d) q =
+      absurd (omega (arith, states (sym (ap told q) ∙ e), bounded f (w .blocks 0 (omega arith))))
+
+  pub file-opened : {r : Reading} {c : Frame} {count : ℕ} → ReadOutcome f t (told r) after → r ≡ Chain c count → Opened f c count after
+  file-opened (ReadOutcome.short s e d) q = absurd (room s)
+  file-opened (ReadOutcome.refused s n p w e d) q = absurd (omega (arith, number (sym (ap told q) ∙ e), file-numbers w))
+  file-opened {c = c} {count} (ReadOutcome.accepted s w e d) q =
+      let z : told (Chain c count) ≡ reading f = sym (ap told q) ∙ e in
+      let sn = states z in
+      let en : count ≡ headEdges f = ap (λ (a : Numbers). a .edges) z in
+      let b = bounded f (w .blocks 0 (omega arith)) in
+      let dd = ap (λ (t : Tables). t .denominators) d in
+      let de = ap (λ (t : Tables). t .edges) d in
+      let do′ = ap (λ (t : Tables). t .order) d in
+      let dr = ap (λ (t : Tables). t .rewards) d in
+      let fd = at (denominatorIn f) _ _ sn dd in
+      let fe = at (edgeNumber (edgeIn f)) _ _ (ap (λ k. edgeSize * k) en) de in
+      let fo = at (orderIn f) _ _ sn do′ in
+      let fr = at (rewardIn f) _ _ sn dr in
+      record {
+        few-edges = omega arith;
+        denominators = fd .0;
+        edges = fe .0;
+        order = fo .0;
+        rewards = fr .0;
+        holds =
+            record {
+              accepted = w;
+              paid =
+                  λ i.
+                  record {
+                    chain =
+                        record {
+                          states = sn i;
+                          start = ap (λ (a : Numbers). a .start) z i;
+                          goals = ap (λ (a : Numbers). a .goals) z i;
+                          denominators = fd .1 i;
+                          edges = fe .1 i;
+                        };
+                    order = fo .1 i;
+                    rewards = fr .1 i;
+                    work = replicate (workSize mostStates) 0;
+                  };
+            };
+      }

@@ -1,0 +1,72 @@
+-- What is promised of a file's figures determines every number of the answer.
+use Prim.Native.Nat.{ℕ}
+use mathlib.Core.Path.{_≡_, sym, ap, ap₂, _∙_}
+use Rattle.meaning.specs.Outcome.{Answer as Numbers, Bounds as BothNumbers, ChanceOutcome, RewardOutcome, BoundsOutcome}
+use Rattle.meaning.specs.Survey.{Survey}
+use Rattle.meaning.specs.Block.{Input}
+use Rattle.meaning.specs.File.{plainIn, paidIn}
+use Rattle.theory.specs.Counted.{survey-one}
+use Rattle.theory.specs.Entries.{chance-determined, reward-determined, bounds-determined}
+use Rattle.theory.specs.FileOne.{file-one, accepted-unrefused}
+use Rattle.figures.specs.Told.{toldAnswer, toldLimits, figures, noCounts, noAnswer, noLimits}
+use Rattle.figures.specs.Found.{Found, Counted, bareIn, ChanceAsked, BoundsAsked, ReportAsked, AskedOf, FiguresOutcome, refused, accepted}
+use Rattle.figures.specs.declared.answer.Counts.{Counts}
+use Rattle.figures.specs.declared.answer.Answer.{Answer}
+use Rattle.figures.specs.declared.answer.Limits.{Limits}
+use Rattle.figures.specs.declared.answer.Figures.{Figures}
+use Rattle.figures.specs.declared.Question.{Question}
+use Rattle.figures.specs.declared.Question.the-variants.{Chance, Bounds, Report}
+
+-- Its numbers are all that an answer has.
+answer-of : Numbers → Answer
+answer-of a = record { number = a .number; place = a .place; numerator = a .numerator; denominator = a .denominator }
+
+limits-of : BothNumbers → Limits
+limits-of a =
+    record {
+      number = a .number;
+      place = a .place;
+      p = a .lowerNumerator;
+      q = a .lowerDenominator;
+      s = a .upperNumerator;
+      t = a .upperDenominator;
+    }
+
+module _ (f : Input) where
+  chance-one : {a b : Answer} → Found (ChanceOutcome (plainIn f)) (toldAnswer a) → Found (ChanceOutcome (plainIn f)) (toldAnswer b) → a ≡ b
+  unfolding answer-of
+  chance-one x y = ap answer-of (chance-determined (plainIn f) (x .outcome) (y .outcome) .0)
+
+  reward-one : {a b : Answer} → Found (RewardOutcome (paidIn f)) (toldAnswer a) → Found (RewardOutcome (paidIn f)) (toldAnswer b) → a ≡ b
+  unfolding answer-of
+  reward-one x y = ap answer-of (reward-determined (paidIn f) (x .outcome) (y .outcome) .0)
+
+  bounds-one : {a b : Limits} → Found (BoundsOutcome (plainIn f)) (toldLimits a) → Found (BoundsOutcome (plainIn f)) (toldLimits b) → a ≡ b
+  unfolding limits-of
+  bounds-one x y = ap limits-of (bounds-determined (plainIn f) (x .outcome) (y .outcome) .0)
+
+  counts-one : {a b : Counts} → Counted (bareIn f) a → Counted (bareIn f) b → a ≡ b
+  counts-one x y =
+      let s = survey-one (x .outcome) (y .outcome) in
+      let states = x .states ∙ sym (y .states) in
+      let edges = x .edges ∙ sym (y .edges) in
+      let goals = x .goals ∙ ap (λ (s : Survey). s .goals) s ∙ sym (y .goals) in
+      let live = x .live ∙ ap (λ (s : Survey). s .live) s ∙ sym (y .live) in
+      λ i. record { states = states i; edges = edges i; goals = goals i; live = live i }
+
+  asked-one : (question : Question) {r r′ : Figures} → AskedOf f question r → AskedOf f question r′ → r ≡ r′
+  asked-one Chance x y = x .alone ∙ ap (λ (a : Answer). figures 0 0 noCounts a noAnswer noLimits) (chance-one (x .chance) (y .chance)) ∙ sym (y .alone)
+  asked-one Bounds x y = x .alone ∙ ap (λ (a : Limits). figures 0 0 noCounts noAnswer noAnswer a) (bounds-one (x .bounds) (y .bounds)) ∙ sym (y .alone)
+  asked-one Report x y =
+      let k = counts-one (x .counts) (y .counts) in
+      let a = chance-one (x .chance) (y .chance) in
+      let b = reward-one (x .reward) (y .reward) in
+      let l = bounds-one (x .bounds) (y .bounds) in
+      x .alone ∙ (λ i. figures 0 0 (k i) (a i) (b i) (l i)) ∙ sym (y .alone)
+
+pub figures-unique : {f : Input} {question : Question} {r r′ : Figures} → FiguresOutcome f question r → FiguresOutcome f question r′ → r ≡ r′
+figures-unique (refused n p w e) (refused n′ p′ w′ e′) =
+    let o = file-one w w′ in e ∙ ap₂ (λ n p. figures n p noCounts noAnswer noAnswer noLimits) (o .0) (o .1) ∙ sym e′
+figures-unique (refused n p w e) (accepted a x) = absurd (accepted-unrefused a w)
+figures-unique (accepted a x) (refused n p w e) = absurd (accepted-unrefused a w)
+figures-unique {f} {question} (accepted a x) (accepted a′ x′) = asked-one f question x x′

@@ -1,0 +1,75 @@
+-- What is found of a chain: its figures, each with a work table of its own, and its counts.
+use Prim.Native.Nat.{ℕ}
+use mathlib.Core.Path.{_≡_}
+use mathlib.Core.List.{List, []}
+use lib.ListN.{replicate}
+use Rattle.meaning.specs.Chain.{mostStates, edgeCount}
+use Rattle.meaning.specs.Refusal.{Lent, workSize}
+use Rattle.meaning.specs.Survey.{Survey, SurveyOutcome}
+use Rattle.meaning.specs.Outcome.{ChanceOutcome, RewardOutcome, BoundsOutcome}
+use Rattle.meaning.specs.Block.{Input}
+use Rattle.meaning.specs.File.{FileRefused, Accepted, chainIn, plainIn, paidIn}
+use Rattle.chain.specs.declared.Chain.{Chain}
+use Rattle.chain.specs.Lent.{lent}
+use Rattle.figures.specs.Told.{toldAnswer, toldLimits, figures, noCounts, noAnswer, noLimits}
+use Rattle.figures.specs.declared.answer.Counts.{Counts}
+use Rattle.figures.specs.declared.answer.Figures.{Figures}
+use Rattle.figures.specs.declared.Question.{Question}
+use Rattle.figures.specs.declared.Question.the-variants.{Chance, Bounds, Report}
+
+-- What is lent where the work table is the library's own, and holds zeros.
+abbrev pub ours : Chain → List ℕ → List ℕ → List ℕ → List ℕ → Lent
+ours c denominators edges order rewards = lent c denominators edges order rewards (replicate (workSize mostStates) 0)
+
+-- An entry's outcome, whatever its work table then holds.
+pub record Found {A : Type 0} (Outcome : A → List ℕ → Type 0) (a : A) : Type 0 where
+  pub work : List ℕ
+  pub outcome : Outcome a work
+
+-- The counts of a chain: of one that the survey refuses it counts no goals and no live states.
+pub record Counted (l : Lent) (r : Counts) : Type 0 where
+  pub states : r .states ≡ l .chain .states
+  pub edges : r .edges ≡ edgeCount (l .chain .edges)
+  pub survey : Survey
+  pub outcome : SurveyOutcome l survey
+  pub goals : r .goals ≡ survey .goals
+  pub live : r .live ≡ survey .live
+
+-- The input is accepted, and these are its chain and tables.
+pub record Holds (f : Input) (c : Chain) (denominators edges order rewards : List ℕ) : Type 0 where
+  pub accepted : Accepted f
+  pub paid : ours c denominators edges order rewards ≡ paidIn f
+
+-- A survey is lent the chain of an accepted file alone.
+abbrev pub bareIn : Input → Lent
+bareIn f = record { chain = chainIn f; order = []; rewards = []; work = [] }
+
+-- The chance, and nothing else.
+pub record ChanceAsked (f : Input) (r : Figures) : Type 0 where
+  pub chance : Found (ChanceOutcome (plainIn f)) (toldAnswer (r .chance))
+  pub alone : r ≡ figures 0 0 noCounts (r .chance) noAnswer noLimits
+
+-- The bounds, and nothing else.
+pub record BoundsAsked (f : Input) (r : Figures) : Type 0 where
+  pub bounds : Found (BoundsOutcome (plainIn f)) (toldLimits (r .bounds))
+  pub alone : r ≡ figures 0 0 noCounts noAnswer noAnswer (r .bounds)
+
+-- All that a report tells.
+pub record ReportAsked (f : Input) (r : Figures) : Type 0 where
+  pub counts : Counted (bareIn f) (r .counts)
+  pub chance : Found (ChanceOutcome (plainIn f)) (toldAnswer (r .chance))
+  pub reward : Found (RewardOutcome (paidIn f)) (toldAnswer (r .reward))
+  pub bounds : Found (BoundsOutcome (plainIn f)) (toldLimits (r .bounds))
+  pub alone : r ≡ figures 0 0 (r .counts) (r .chance) (r .reward) (r .bounds)
+
+-- What a question asks of an accepted file.
+abbrev pub AskedOf : Input → Question → Figures → Type 0
+AskedOf f Chance = ChanceAsked f
+AskedOf f Bounds = BoundsAsked f
+AskedOf f Report = ReportAsked f
+
+-- What is answered of an input: the file's refusal, or what is asked of its chain.
+pub data FiguresOutcome (f : Input) (question : Question) (r : Figures) : Type 0 where
+  refused : (number place : ℕ) → FileRefused f number place → r ≡ figures number place noCounts noAnswer noAnswer noLimits
+      → FiguresOutcome f question r
+  accepted : Accepted f → AskedOf f question r → FiguresOutcome f question r

@@ -1,0 +1,56 @@
+// The figures of the chain in a file.
+ghost use Rattle.chainfile.specs.Input.{input};
+ghost use Rattle.figures.specs.Found.{FiguresOutcome};
+use chain::Chain;
+use chain::edge;
+use chainfile::Reading;
+
+mod answer;
+mod found;
+
+pub use answer::Answer;
+pub use answer::Counts;
+pub use answer::Figures;
+pub use answer::Limits;
+
+// What is asked of a file: the exact chance, the bounds, or all that its report tells.
+pub enum Question {
+    Chance,
+    Bounds,
+    Report,
+}
+
+// Opens the chain file of which `kept` holds the first bytes and `more` counts the others, with tables of its own, and answers the question.
+pub fn ask(kept: &[u8], more: u64, question: Question) -> Figures
+    ensures { λ r. ⌜ FiguresOutcome (input (now (kept .entry)) more) question r ⌝ }
+{
+    let mut denominators = [0u64; Chain::STATES];
+    let mut edges = [0u64; edge::MOST];
+    let mut order = [0u64; Chain::STATES];
+    let mut rewards = [0u64; Chain::STATES];
+    match chainfile::read(
+        kept,
+        more,
+        &mut denominators,
+        &mut edges,
+        &mut order,
+        &mut rewards,
+    ) {
+        Reading::Refused { number, place } => Figures::refusal(number, place),
+        Reading::Chain {
+            chain,
+            edges: count,
+        } => {
+            let n = chain.states;
+            let e = edge::SIZE * count;
+            found::found(
+                question,
+                chain,
+                &denominators[..n],
+                &edges[..e],
+                &order[..n],
+                &rewards[..n],
+            )
+        }
+    }
+}

@@ -1,0 +1,84 @@
+-- How long the texts of the report can be.
+use Prim.Native.Nat.{ℕ, _^_, _≤_, _<_}
+use native.Mathlib.Omega.{arith}
+use mathlib.Core.Bool.{Bool, true, false}
+use mathlib.Core.List.{List, _++_}
+use lib.ListN.{length, length-append}
+use lib.Dec.{eqb}
+use Rattle.meaning.specs.Number.{choose}
+use Rattle.meaning.specs.Chain.{mostStates, mostEdges}
+use Rattle.meaning.specs.Outcome.{Answer, Bounds}
+use Rattle.meaning.specs.Text.{bytesOf}
+use Rattle.meaning.specs.Report.{fractionText, refusedText, answerText, boundsText, linesText, faceText, reportRoom, faceRoom}
+use Rattle.theory.specs.Small.{Small, BothSmall}
+use Rattle.chainfile.specs.Written.{Room}
+use Rattle.report.proofs.Decimal.{digits}
+
+-- A refusal's number has two digits and its place four.
+pub record Near (number place : ℕ) : Type 0 where
+  pub two : number ≤ 99
+  pub four : place ≤ 9999
+
+fraction-short : (p q : ℕ) → Small p q → length (fractionText p q) ≤ 21
+fraction-short p q s = simp length-append (omega (arith, digits 9 p (omega arith), digits 9 q (omega arith)))
+
+refused-short : (number place : ℕ) → Near number place → length (refusedText number place) ≤ 18
+refused-short number place n = simp length-append (omega (arith, digits 1 number (omega arith), digits 3 place (omega arith)))
+
+either : (b : Bool) (x y : List ℕ) (n : ℕ) → length x ≤ n → length y ≤ n → length (choose b x y) ≤ n
+either true x y n h k = h
+either false x y n h k = k
+
+answer-short : (a : Answer) → Near (a .number) (a .place) → Small (a .numerator) (a .denominator) → length (answerText a) ≤ 21
+answer-short a n s =
+    either (eqb (a .number) 0) _ _ 21
+    (either (eqb (a .denominator) 0) _ _ 21 (omega arith) (fraction-short (a .numerator) (a .denominator) s))
+    (omega (arith, refused-short (a .number) (a .place) n))
+
+bounds-short : (a : Bounds) → Near (a .number) (a .place) → BothSmall a → length (boundsText a) ≤ 43
+bounds-short a n s =
+    either (eqb (a .number) 0) _ _ 43
+    (simp length-append
+    (omega (
+      arith,
+      simp length-append at (fraction-short (a .lowerNumerator) (a .lowerDenominator) (s .0)),
+      simp length-append at (fraction-short (a .upperNumerator) (a .upperDenominator) (s .1)),
+    )))
+    (omega (arith, refused-short (a .number) (a .place) n))
+
+-- The seven lines of a report.
+pub lines-short : (states edges goals live : ℕ) (chance reward : Answer) (bounds : Bounds)
+    → states ≤ mostStates → edges ≤ mostEdges → goals ≤ mostStates → live ≤ mostStates
+    → Near (chance .number) (chance .place) → Small (chance .numerator) (chance .denominator)
+    → Near (reward .number) (reward .place) → Small (reward .numerator) (reward .denominator)
+    → Near (bounds .number) (bounds .place) → BothSmall bounds
+    → length (linesText states edges goals live chance reward bounds) ≤ reportRoom
+lines-short states edges goals live chance reward bounds hs he hg hl nc sc nr sr nb sb =
+    simp length-append
+    (omega (
+      arith,
+      digits 1 states (omega arith),
+      digits 3 edges (omega arith),
+      digits 1 goals (omega arith),
+      digits 1 live (omega arith),
+      answer-short chance nc sc,
+      answer-short reward nr sr,
+      bounds-short bounds nb sb,
+    ))
+
+-- The single line of a refusal.
+pub refusal-short : (number place : ℕ) → Near number place → length (refusedText number place ++ bytesOf "\n") ≤ reportRoom
+refusal-short number place n = simp length-append (omega (arith, digits 1 number (omega arith), digits 3 place (omega arith)))
+
+-- The line of a face, whatever 64-bit numbers stand in it.
+pub face-room : (buffer : List ℕ) (face : ℕ) (a : Answer) → faceRoom ≤ length buffer
+    → face < 2 ^ 64 → a .number < 2 ^ 32 → a .place < 2 ^ 64 → a .numerator < 2 ^ 64 → a .denominator < 2 ^ 64
+    → Room buffer 0 (faceText face a)
+face-room buffer face a room hf hn hp hu hd =
+    let refused : length (refusedText (a .number) (a .place)) ≤ 42 =
+    simp length-append (omega (arith, digits 9 (a .number) (omega arith), digits 19 (a .place) (omega arith))) in
+    let fraction : length (fractionText (a .numerator) (a .denominator)) ≤ 42 =
+    simp length-append (omega (arith, digits 19 (a .numerator) (omega arith), digits 19 (a .denominator) (omega arith))) in
+    let answer : length (answerText a) ≤ 42 =
+    either (eqb (a .number) 0) _ _ 42 (either (eqb (a .denominator) 0) _ _ 42 (omega arith) fraction) refused in
+    simp length-append (omega (arith, digits 19 face (omega arith)))

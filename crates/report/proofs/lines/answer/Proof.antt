@@ -1,0 +1,52 @@
+use borrow.Author.Needs.{needs}
+use borrow.Author.Tests.{eq-eqb, ne-eqb}
+use Rattle.report.proofs.lines.answer.Statement.{statement}
+use Rattle.report.proofs.lines.answer.Tie as tie
+
+refused-requires : tie.Need-refused-requires
+refused-requires c κs =
+    let at-start = c .before .before .before .before in
+    rw (ne-eqb (at-start .args .a .number) 0 (search needs)) at (at-start .pre)
+
+returns : tie.Need-returns
+returns c =
+    let at-refused = c .before .before in
+    let at-start = at-refused .before .before .before .before .before in
+    rw (ne-eqb (at-start .args .a .number) 0 (search needs)) (at-refused .refused .ensures)
+
+put-requires : tie.Need-put-requires
+put-requires c κs =
+    let at-start = c .before .before .before .before .before .before .before in
+    rw (eq-eqb (at-start .args .a .number) 0 (search needs), eq-eqb (at-start .args .a .denominator) 0 (search needs)) at (at-start .pre)
+
+returns-2 : tie.Need-returns-2
+returns-2 c =
+    let at-put = c .before .before in
+    let at-start = at-put .before .before .before .before .before .before .before .before in
+    rw (eq-eqb (at-start .args .a .number) 0 (search needs), eq-eqb (at-start .args .a .denominator) 0 (search needs)) (at-put .put .ensures)
+
+fraction-requires : tie.Need-fraction-requires
+fraction-requires c κs =
+    let at-start = c .before .before .before .before .before .before in
+    rw (eq-eqb (at-start .args .a .number) 0 (search needs), ne-eqb (at-start .args .a .denominator) 0 (search needs)) at (at-start .pre)
+
+returns-3 : tie.Need-returns-3
+returns-3 c =
+    let at-fraction = c .before .before in
+    let at-start = at-fraction .before .before .before .before .before .before .before in
+    rw (eq-eqb (at-start .args .a .number) 0 (search needs), ne-eqb (at-start .args .a .denominator) 0 (search needs)) (at-fraction .fraction .ensures)
+
+pub answer-spec : {M : Type 1} → statement M
+answer-spec =
+    tie.close
+    (tie.spec
+    refused-requires
+    (λ c. search needs)
+    returns
+    (λ c. search needs)
+    put-requires
+    (λ c. search needs)
+    returns-2
+    fraction-requires
+    (λ c. search needs)
+    returns-3)

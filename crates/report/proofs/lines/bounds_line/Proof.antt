@@ -1,0 +1,38 @@
+use native.Mathlib.Omega.{arith}
+use lib.ListN.{length-append}
+use borrow.Author.Needs.{needs}
+use Rattle.chainfile.proofs.Steps.{join}
+use Rattle.report.proofs.lines.bounds_line.Statement.{statement}
+use Rattle.report.proofs.lines.bounds_line.Tie as tie
+
+put-requires : tie.Need-put-requires
+put-requires c κs = omega (arith, simp length-append at (c .before .before .before .pre))
+
+bounds-requires : tie.Need-bounds-requires
+bounds-requires c κs =
+    let at-start = c .before .before .before .before .before .before .before in
+    omega (arith, simp length-append at (at-start .pre))
+
+put-requires-2 : tie.Need-put-requires-2
+put-requires-2 c κs =
+    let at-start = c .before .before .before .before .before .before .before .before .before .before .before .before in
+    omega (arith, simp length-append at (at-start .pre))
+
+returns : tie.Need-returns
+returns c =
+    let at-put2 = c .before .before in
+    let at-bounds = at-put2 .before .before .before .before .before in
+    let at-put = at-bounds .before .before .before .before in
+    join (join (at-put .put .ensures) (at-bounds .bounds .ensures)) (at-put2 .put2 .ensures)
+
+pub bounds-line-spec : {M : Type 1} → statement M
+bounds-line-spec =
+    tie.close
+    (tie.spec
+    (λ c. search needs)
+    put-requires
+    bounds-requires
+    (λ c. search needs)
+    put-requires-2
+    (λ c. search needs)
+    returns)

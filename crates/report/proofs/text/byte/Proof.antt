@@ -1,0 +1,11 @@
+use borrow.Author.Needs.{needs}
+use Rattle.chainfile.proofs.Steps.{one}
+use Rattle.report.proofs.text.byte.Statement.{statement}
+use Rattle.report.proofs.text.byte.Tie as tie
+
+returns : tie.Need-returns
+returns c = one (c .args .buffer .now) (c .args .at) (c .args .x) (search needs)
+
+pub byte-spec : {M : Type 1} → statement M
+byte-spec =
+    tie.close (tie.spec (λ c. search needs) (λ c. search needs) (λ c. search needs) (λ c. search needs) returns)

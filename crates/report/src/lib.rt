@@ -1,0 +1,65 @@
+// The report of a chain file, and the line of a face of the dice.
+ghost use Prim.Native.Nat.{_≤_};
+ghost use lib.ListN.{length};
+ghost use Rattle.meaning.specs.Report.{reportRoom, Report, ReportOutcome, FaceOutcome};
+ghost use Rattle.engines.specs.Answer.{toldChance};
+ghost use Rattle.chainfile.specs.Input.{input};
+ghost use Rattle.report.specs.Stands.{Stands, told};
+use engines::answer::Chance;
+use figures::Answer;
+use figures::Question;
+
+mod lines;
+mod text;
+
+pub use lines::FACE_ROOM;
+pub use lines::REPORT_ROOM;
+
+// What a text in a lent buffer answers: how long it is, or that the buffer is refused.
+pub enum Printed {
+    Length(usize),
+    Refused { number: u32, place: usize },
+}
+
+// What the reader refuses ends the report, and what the entry for the reward refuses by 1 to 11; what the other entries could refuse so, that
+// entry refuses too.
+fn file_lines(kept: &[u8], more: u64, buffer: &mut [u8]) -> usize
+    requires { ⌜ reportRoom ≤ length (now buffer) ⌝ }
+    ensures { λ r. ⌜ Stands (Report (input (now (kept .entry)) more)) (now (buffer .entry)) r (now (buffer .exit)) ⌝ }
+{
+    let found = figures::ask(kept, more, Question::Report);
+    if lines::ends(found.number) {
+        return lines::refusal_line(buffer, 0, found.number, found.place);
+    }
+    let reward = found.reward;
+    if lines::ends(reward.number) {
+        return lines::refusal_line(buffer, 0, reward.number, reward.place);
+    }
+    lines::seven_lines(buffer, 0, found)
+}
+
+// The report of a chain file of which `kept` holds the first bytes and `more` counts the others, at the front of the buffer.
+pub fn report(kept: &[u8], more: u64, buffer: &mut [u8]) -> Printed
+    ensures { λ r. ⌜ ReportOutcome (input (now (kept .entry)) more) (now (buffer .entry)) (told r) (now (buffer .exit)) ⌝ }
+{
+    if buffer.len() < lines::REPORT_ROOM {
+        return Printed::Refused {
+            number: 2,
+            place: 0,
+        };
+    }
+    Printed::Length(file_lines(kept, more, buffer))
+}
+
+// The line of a face of the dice, with its chance or why there is none, at the front of the buffer.
+pub fn face(face: u64, chance: Chance, buffer: &mut [u8]) -> Printed
+    ensures { λ r. ⌜ FaceOutcome face (toldChance chance) (now (buffer .entry)) (told r) (now (buffer .exit)) ⌝ }
+{
+    if buffer.len() < lines::FACE_ROOM {
+        return Printed::Refused {
+            number: 2,
+            place: 0,
+        };
+    }
+    Printed::Length(lines::face_line(buffer, 0, face, Answer::of_chance(chance)))
+}

@@ -1,0 +1,161 @@
+// The lines of the report. Each function asks for the room of what it writes, and answers the place after it.
+ghost use mathlib.Core.List.{_++_};
+ghost use Rattle.meaning.specs.Text.{bytesOf, decimal};
+ghost use Rattle.meaning.specs.Report.{fractionText, refusedText, answerText, boundsText, lineText, faceText};
+ghost use Rattle.chain.specs.Decide.{decides};
+ghost use Rattle.chainfile.specs.Written.{Room, Written};
+ghost use Rattle.figures.specs.Told.{toldAnswer, toldLimits};
+ghost use Rattle.report.specs.Lines.{toldLines, countsText, Ends};
+use crate::text;
+use figures::Answer;
+use figures::Counts;
+use figures::Figures;
+use figures::Limits;
+
+// Room for any report, each line at its longest: a line has a name, what stands in it, and a byte for its end.
+const FRACTION: usize = 10 + 1 + 10;
+
+const COUNT_LINES: usize = (7 + 2 + 1) + (6 + 4 + 1) + (6 + 2 + 1) + (5 + 2 + 1);
+
+const ANSWER_LINE: usize = 7 + FRACTION + 1;
+
+const BOUNDS_LINE: usize = 7 + FRACTION + 1 + FRACTION + 1;
+
+// Room for any line of a face: a number of 64 bits has 20 digits.
+pub const FACE_ROOM: usize = 5 + 20 + 1 + (8 + 10 + 4 + 20) + 1;
+
+pub const REPORT_ROOM: usize = COUNT_LINES + 2 * ANSWER_LINE + BOUNDS_LINE;
+
+// The numbers of refusal that end the report with a single line.
+pub(crate) fn ends(number: u32) -> bool
+    ensures { λ r. ⌜ decides (Ends number) r ⌝ }
+{
+    match number {
+        1..=11 | 20..=24 => true,
+        _ => false,
+    }
+}
+
+fn fraction(buffer: &mut [u8], at: usize, p: u64, q: u64) -> usize
+    requires { ⌜ Room (now buffer) at (fractionText p q) ⌝ }
+    ensures { λ r. ⌜ Written (now (buffer .entry)) at (fractionText p q) (now (buffer .exit)) r ⌝ }
+{
+    let bar = text::number(buffer, at, p);
+    let below = text::put(buffer, bar, b"/");
+    text::number(buffer, below, q)
+}
+
+fn refused(buffer: &mut [u8], at: usize, number: u32, place: usize) -> usize
+    requires { ⌜ Room (now buffer) at (refusedText number place) ⌝ }
+    ensures { λ r. ⌜ Written (now (buffer .entry)) at (refusedText number place) (now (buffer .exit)) r ⌝ }
+{
+    let first = text::put(buffer, at, b"refused ");
+    let second = text::number(buffer, first, number as u64);
+    let third = text::put(buffer, second, b" at ");
+    text::number(buffer, third, place as u64)
+}
+
+fn answer(buffer: &mut [u8], at: usize, a: Answer) -> usize
+    requires { ⌜ Room (now buffer) at (answerText (toldAnswer a)) ⌝ }
+    ensures { λ r. ⌜ Written (now (buffer .entry)) at (answerText (toldAnswer a)) (now (buffer .exit)) r ⌝ }
+{
+    if a.number != 0 {
+        return refused(buffer, at, a.number, a.place);
+    }
+    if a.denominator == 0 {
+        return text::put(buffer, at, b"infinite");
+    }
+    fraction(buffer, at, a.numerator, a.denominator)
+}
+
+fn fractions(buffer: &mut [u8], at: usize, p: u64, q: u64, s: u64, t: u64) -> usize
+    requires { ⌜ Room (now buffer) at (fractionText p q ++ bytesOf " " ++ fractionText s t) ⌝ }
+    ensures { λ r. ⌜ Written (now (buffer .entry)) at (fractionText p q ++ bytesOf " " ++ fractionText s t) (now (buffer .exit)) r ⌝ }
+{
+    let space = fraction(buffer, at, p, q);
+    let upper = text::put(buffer, space, b" ");
+    fraction(buffer, upper, s, t)
+}
+
+fn bounds(buffer: &mut [u8], at: usize, limits: Limits) -> usize
+    requires { ⌜ Room (now buffer) at (boundsText (toldLimits limits)) ⌝ }
+    ensures { λ r. ⌜ Written (now (buffer .entry)) at (boundsText (toldLimits limits)) (now (buffer .exit)) r ⌝ }
+{
+    if limits.number != 0 {
+        return refused(buffer, at, limits.number, limits.place);
+    }
+    fractions(buffer, at, limits.p, limits.q, limits.s, limits.t)
+}
+
+fn count_line(buffer: &mut [u8], at: usize, name: &[u8], x: u64) -> usize
+    requires { ⌜ Room (now buffer) at (lineText (now name) (decimal x)) ⌝ }
+    ensures { λ r. ⌜ Written (now (buffer .entry)) at (lineText (now (name .entry)) (decimal x)) (now (buffer .exit)) r ⌝ }
+{
+    let value = text::put(buffer, at, name);
+    let end = text::number(buffer, value, x);
+    text::put(buffer, end, b"\n")
+}
+
+fn answer_line(buffer: &mut [u8], at: usize, name: &[u8], a: Answer) -> usize
+    requires { ⌜ Room (now buffer) at (lineText (now name) (answerText (toldAnswer a))) ⌝ }
+    ensures { λ r. ⌜ Written (now (buffer .entry)) at (lineText (now (name .entry)) (answerText (toldAnswer a))) (now (buffer .exit)) r ⌝ }
+{
+    let value = text::put(buffer, at, name);
+    let end = answer(buffer, value, a);
+    text::put(buffer, end, b"\n")
+}
+
+fn bounds_line(buffer: &mut [u8], at: usize, limits: Limits) -> usize
+    requires { ⌜ Room (now buffer) at (lineText (bytesOf "bounds ") (boundsText (toldLimits limits))) ⌝ }
+    ensures { λ r. ⌜ Written (now (buffer .entry)) at (lineText (bytesOf "bounds ") (boundsText (toldLimits limits))) (now (buffer .exit)) r ⌝ }
+{
+    let value = text::put(buffer, at, b"bounds ");
+    let end = bounds(buffer, value, limits);
+    text::put(buffer, end, b"\n")
+}
+
+fn count_lines(buffer: &mut [u8], at: usize, counts: Counts) -> usize
+    requires { ⌜ Room (now buffer) at (countsText counts) ⌝ }
+    ensures { λ r. ⌜ Written (now (buffer .entry)) at (countsText counts) (now (buffer .exit)) r ⌝ }
+{
+    let second = count_line(buffer, at, b"states ", counts.states);
+    let third = count_line(buffer, second, b"edges ", counts.edges);
+    let fourth = count_line(buffer, third, b"goals ", counts.goals);
+    count_line(buffer, fourth, b"live ", counts.live)
+}
+
+// The seven lines.
+pub(crate) fn seven_lines(buffer: &mut [u8], at: usize, found: Figures) -> usize
+    requires { ⌜ Room (now buffer) at (toldLines found) ⌝ }
+    ensures { λ r. ⌜ Written (now (buffer .entry)) at (toldLines found) (now (buffer .exit)) r ⌝ }
+{
+    let counts = found.counts;
+    let chance = found.chance;
+    let reward = found.reward;
+    let limits = found.bounds;
+    let fifth = count_lines(buffer, at, counts);
+    let sixth = answer_line(buffer, fifth, b"chance ", chance);
+    let seventh = answer_line(buffer, sixth, b"reward ", reward);
+    bounds_line(buffer, seventh, limits)
+}
+
+// The single line of a refusal.
+pub(crate) fn refusal_line(buffer: &mut [u8], at: usize, number: u32, place: usize) -> usize
+    requires { ⌜ Room (now buffer) at (refusedText number place ++ bytesOf "\n") ⌝ }
+    ensures { λ r. ⌜ Written (now (buffer .entry)) at (refusedText number place ++ bytesOf "\n") (now (buffer .exit)) r ⌝ }
+{
+    let end = refused(buffer, at, number, place);
+    text::put(buffer, end, b"\n")
+}
+
+// The line of a face of the dice.
+pub(crate) fn face_line(buffer: &mut [u8], at: usize, face: u64, chance: Answer) -> usize
+    requires { ⌜ Room (now buffer) at (faceText face (toldAnswer chance)) ⌝ }
+    ensures { λ r. ⌜ Written (now (buffer .entry)) at (faceText face (toldAnswer chance)) (now (buffer .exit)) r ⌝ }
+{
+    let first = text::put(buffer, at, b"face ");
+    let second = text::number(buffer, first, face);
+    let third = text::put(buffer, second, b" ");
+    let end = answer(buffer, third, chance);
+    text::put(buffer, end, b"\n")
+}

@@ -1,0 +1,38 @@
+// Bytes and numbers, written into a lent buffer from a place on. Each step answers the place after what it wrote.
+ghost use mathlib.Core.List.{[], _∷_};
+ghost use Prim.Native.Nat.{_<_};
+ghost use Rattle.meaning.specs.Text.{decimal};
+ghost use Rattle.chainfile.specs.Written.{Room, Written};
+
+pub(crate) fn put(buffer: &mut [u8], at: usize, text: &[u8]) -> usize
+    requires { ⌜ Room (now buffer) at (now text) ⌝ }
+    ensures { λ r. ⌜ Written (now (buffer .entry)) at (now (text .entry)) (now (buffer .exit)) r ⌝ }
+{
+    let mut i = 0;
+    while i < text.len() {
+        buffer[at + i] = text[i];
+        i += 1;
+    }
+    at + i
+}
+
+pub(crate) fn byte(buffer: &mut [u8], at: usize, x: u64) -> usize
+    requires { ⌜ (x < 256) × Room (now buffer) at (x ∷ []) ⌝ }
+    ensures { λ r. ⌜ Written (now (buffer .entry)) at (x ∷ []) (now (buffer .exit)) r ⌝ }
+{
+    let next = at + 1;
+    buffer[at] = x as u8;
+    next
+}
+
+// x in decimal: the digits of x / 10, and then the last digit. The digit 0 is the byte 48.
+pub(crate) fn number(buffer: &mut [u8], at: usize, x: u64) -> usize
+    requires { ⌜ Room (now buffer) at (decimal x) ⌝ }
+    ensures { λ r. ⌜ Written (now (buffer .entry)) at (decimal x) (now (buffer .exit)) r ⌝ }
+{
+    if x < 10 {
+        return byte(buffer, at, 48 + x);
+    }
+    let last = number(buffer, at, x / 10);
+    byte(buffer, last, 48 + x % 10)
+}
