@@ -5,7 +5,7 @@ use native.Mathlib.Omega.{arith}
 use native.Mathlib.Nat.{dvd-refl, dvd-zero, zero-div, div-self}
 use borrow.Author.Tests.{eq-eqb, ne-eqb}
 use Rattle.meaning.specs.Number.{gcd, Reduced}
-use Rattle.theory.specs.Gcd.{gcd-greatest, greatest-one, gcd-zero, common-whole, fraction-reduced}
+use Rattle.theory.specs.Numbers.Gcd.{gcd-greatest, greatest-one, gcd-zero, common-whole, fraction-reduced}
 use Rattle.chain.specs.Reduce.{reduced}
 use Rattle.chain.specs.declared.fraction.Fraction.{Fraction}
 

@@ -5,7 +5,7 @@ use native.Mathlib.Nat.{mul-le-mul-right, pow-succ', pow-le-pow-right}
 use native.Mathlib.Numerals.{add-one}
 use native.Mathlib.Omega.{arith}
 use Rattle.meaning.specs.Number.{sumTo}
-use Rattle.theory.specs.Sum.{sum-next}
+use Rattle.theory.specs.Numbers.Sum.{sum-next}
 
 -- After i of the bytes: the number so far, and what the next byte counts.
 pub record Gathered (digit : ℕ → ℕ) (width i number unit : ℕ) : Type 0 where

@@ -12,8 +12,8 @@ use Rattle.meaning.specs.Number.{sumTo, tabFrom, filled}
 use Rattle.meaning.specs.Chain.{mostStates, mostEdges, edgeSize, edgeCount, edgeNumber}
 use Rattle.meaning.specs.Block.{Input, byte, numberAt, headStates, stateAt, orderByte}
 use Rattle.meaning.specs.File.{Tables, Short, denominatorsIn, ordersIn}
-use Rattle.theory.specs.Sum.{same, below, last-or-below}
-use Rattle.theory.specs.Tab.{tab-at, tab-past, tab-length}
+use Rattle.theory.specs.Numbers.Sum.{same, below, last-or-below}
+use Rattle.theory.specs.Numbers.Tab.{tab-at, tab-past, tab-length}
 use Rattle.chain.specs.Edge.{placed}
 
 -- The entries before k are new, the others as they were.

@@ -5,7 +5,7 @@ use native.Mathlib.Nat.{mul-le-mul-right, pow-succ', pow-le-pow-right, mod-eq-of
 use native.Mathlib.Numerals.{add-one}
 use native.Mathlib.Omega.{arith}
 use Rattle.meaning.specs.Number.{sumTo}
-use Rattle.theory.specs.Sum.{sum-next}
+use Rattle.theory.specs.Numbers.Sum.{sum-next}
 
 -- The flags before i.
 pub record Gathered (flag : ℕ → ℕ) (count i goals : ℕ) : Type 0 where

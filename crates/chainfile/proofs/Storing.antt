@@ -6,7 +6,7 @@ use native.Mathlib.Nat.{div-one, div-div-eq-div-mul, pow-succ'}
 use native.Mathlib.Numerals.{add-one}
 use native.Mathlib.Omega.{arith}
 use lib.ListN.{length, set}
-use Rattle.theory.specs.Tab.{tab-at, tab-length}
+use Rattle.theory.specs.Numbers.Tab.{tab-at, tab-length}
 use Rattle.chainfile.specs.Written.{Room, Written, Stored, written, full, littleEndian}
 use Rattle.chainfile.proofs.Steps.{Copied}
 use Rattle.chainfile.proofs.Steps as steps

@@ -17,7 +17,7 @@ use Rattle.meaning.specs.File.{
   FileRefused,
   Accepted,
 }
-use Rattle.theory.specs.Sum.{same, below}
+use Rattle.theory.specs.Numbers.Sum.{same, below}
 use Rattle.chainfile.specs.declared.block.Block.{Block}
 use Rattle.chainfile.specs.declared.block.Block.the-variants.{Right, Wrong}
 use Rattle.chainfile.specs.declared.judge.Verdict.{Verdict}

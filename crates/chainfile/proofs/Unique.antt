@@ -4,7 +4,7 @@ use mathlib.Core.Path.{_≡_, ap, ap₂}
 use native.Mathlib.Omega.{arith}
 use Rattle.meaning.specs.Block.{Input}
 use Rattle.meaning.specs.File.{Tables, Reading as Answer, ReadOutcome}
-use Rattle.theory.specs.FileOne.{file-numbers, read-one}
+use Rattle.theory.specs.Files.FileOne.{file-numbers, read-one}
 use Rattle.chain.specs.declared.Chain.{Chain as Frame}
 use Rattle.chain.proofs.Unique.{framed}
 use Rattle.chainfile.specs.declared.Reading.{Reading}

@@ -8,7 +8,7 @@ use lib.ListN.{length}
 use Rattle.meaning.specs.Number.{filled}
 use Rattle.meaning.specs.File.{Accepted}
 use Rattle.meaning.specs.Call.{defaultMode, exactMode, boundsMode, answerLength, answerBytes, wholeFile, Said, CallOutcome}
-use Rattle.theory.specs.Sum.{below}
+use Rattle.theory.specs.Numbers.Sum.{below}
 use Rattle.figures.specs.Told.{toldAnswer, toldLimits}
 use Rattle.figures.specs.Found.{ChanceAsked, BoundsAsked, FiguresOutcome}
 use Rattle.figures.specs.declared.answer.Figures.{Figures}

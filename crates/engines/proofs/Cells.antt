@@ -17,8 +17,8 @@ use Rattle.meaning.specs.Chain.{M, edgeCount, from, to, weight, carried, flow, 
 use Rattle.meaning.specs.Row.{Row, cell, reward, rounding, width, rewardColumn}
 use Rattle.meaning.specs.Refusal.{workSize}
 use Rattle.meaning.specs.Step.{Sets, noRow}
-use Rattle.theory.specs.Sum.{same, sum-ext, sum-le, sum-next, sum-up}
-use Rattle.theory.specs.Tab.{tab-of}
+use Rattle.theory.specs.Numbers.Sum.{same, sum-ext, sum-le, sum-next, sum-up}
+use Rattle.theory.specs.Numbers.Tab.{tab-of}
 use Rattle.engines.specs.Row.{Summable}
 use Rattle.engines.specs.Table.{rowAt, Kept, Put}
 use Rattle.engines.specs.First.{columnOf, share, Added, Held, Addable, Unfinished}

@@ -15,12 +15,12 @@ use Rattle.meaning.specs.Figure.{earned}
 use Rattle.meaning.specs.Row.{cell, trapColumn, unknownColumn, total, rounding}
 use Rattle.meaning.specs.Step.{row, Sets, Right, given, firstRow, noRow, first}
 use Rattle.meaning.specs.Refusal.{Lent, Entry, WellFormed}
-use Rattle.theory.specs.Sum.{same, below, sum-ext, sum-zero}
-use Rattle.theory.specs.Tab.{tab-ext}
-use Rattle.theory.specs.Flow.{flow-ext}
-use Rattle.theory.specs.Given.{Fate, live, won, lost, Alive, goes-to, given-state, given-goal, given-trap, given-unknown, given-reward, given-length, given-total}
-use Rattle.theory.specs.First.{first-row}
-use Rattle.theory.specs.Formed.{few-states, room, formed-fine, from-in, denominators-length, denominator-small, reward-small, reward-none}
+use Rattle.theory.specs.Numbers.Sum.{same, below, sum-ext, sum-zero}
+use Rattle.theory.specs.Numbers.Tab.{tab-ext}
+use Rattle.theory.specs.Chains.Flow.{flow-ext}
+use Rattle.theory.specs.Stages.Given.{Fate, live, won, lost, Alive, goes-to, given-state, given-goal, given-trap, given-unknown, given-reward, given-length, given-total}
+use Rattle.theory.specs.Stages.First.{first-row}
+use Rattle.theory.specs.Outcomes.Formed.{few-states, room, formed-fine, from-in, denominators-length, denominator-small, reward-small, reward-none}
 use Rattle.engines.specs.Table.{rowAt, Renewed}
 use Rattle.engines.specs.First.{columnOf, share, Held, Gatherable, finished, finishedAt, Finishable, Makeable, Made}
 use Rattle.engines.proofs.Rows.{noRow-fit}

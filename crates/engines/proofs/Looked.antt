@@ -9,7 +9,7 @@ use mathlib.Core.List.{List}
 use mathlib.Core.Logic.{inr}
 use Rattle.meaning.specs.Outcome.{cleared}
 use Rattle.meaning.specs.Survey.{SurveyOutcome}
-use Rattle.theory.specs.Bare.{alone, bare-refuses, bare-clears}
+use Rattle.theory.specs.Outcomes.Bare.{alone, bare-refuses, bare-clears}
 use Rattle.look.specs.Says.{Upto}
 use Rattle.survey.specs.Sets.{Known}
 use Rattle.survey.specs.Told.{told}
@@ -20,7 +20,7 @@ use Rattle.survey.specs.declared.Sets.{Sets as Found}
 use Rattle.engines.specs.Looking.{upto, looked}
 use Rattle.engines.specs.declared.looking.Looked.{Looked}
 use Rattle.engines.specs.declared.looking.Looked.the-variants.{Clear, Refused as Refusing}
-use Rattle.theory.specs.Formed.{start-in, order-length, order-in}
+use Rattle.theory.specs.Outcomes.Formed.{start-in, order-length, order-in}
 use Rattle.engines.specs.Run.{Begun, runs, entered}
 use Rattle.engines.specs.declared.run.Course.{Course}
 use Rattle.engines.specs.declared.run.Course.the-variants.{Ends, Stops}

@@ -9,7 +9,7 @@ use native.Mathlib.Omega.{arith}
 use lib.ListN.{length, getD, set, length-set, replicate, List·getD-eq-default}
 use lib.Seq.{getD-set-same, getD-set-other}
 use Rattle.meaning.specs.Number.{tabFrom}
-use Rattle.theory.specs.Tab.{tab-of}
+use Rattle.theory.specs.Numbers.Tab.{tab-of}
 
 -- After k turns over l: the numbers below k are new, the others as they were.
 pub record Walked (f : ℕ → ℕ) (l : List ℕ) (k : ℕ) (row : List ℕ) : Type 0 where

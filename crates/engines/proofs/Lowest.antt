@@ -12,8 +12,8 @@ use lib.Seq.{drop-cons, ext-getD}
 use borrow.Author.Tests.{eq-eqb, ne-eqb}
 use Rattle.meaning.specs.Number.{sumTo, gcd}
 use Rattle.meaning.specs.Row.{Row, cell, gcdOf, divisor, over, lowest}
-use Rattle.theory.specs.Sum.{same, sum-le, sum-scale}
-use Rattle.theory.specs.Tab.{tab-at, tab-length}
+use Rattle.theory.specs.Numbers.Sum.{same, sum-le, sum-scale}
+use Rattle.theory.specs.Numbers.Tab.{tab-at, tab-length}
 
 pub gcdOf-more : (l : List ℕ) (j : ℕ) → 0 < j → j ≤ length l → gcdOf (drop (j - 1) l) ≡ gcd (getD l (j - 1) 0) (gcdOf (drop j l))
 unfolding gcdOf

@@ -15,13 +15,13 @@ use Rattle.meaning.specs.Step.{row, Sets, outside}
 use Rattle.meaning.specs.Refusal.{Lent, Entry, plain, paid, Applies, Refused, WellFormed}
 use Rattle.meaning.specs.Stop.{earns, tableAt, Stopped}
 use Rattle.meaning.specs.Outcome.{cleared, refused, stopped, answered, refusal, ChanceFigure, ChanceOutcome, RewardFigure, noBounds, between, BoundsFigure, BoundsOutcome}
-use Rattle.theory.specs.Sum.{sum-two}
-use Rattle.theory.specs.Gcd.{reduced-share}
-use Rattle.theory.specs.Formed.{start-in, unpaid}
-use Rattle.theory.specs.Fits.{bounds-fit}
-use Rattle.theory.specs.Whole.{formed-prepared, exact-whole, exact-chance, exact-reward, bounds-whole, chance-won, chance-lost, reward-won}
-use Rattle.theory.specs.Outcomes.{passed-unstopped}
-use Rattle.theory.specs.DemandTwo.{stopped-twelve}
+use Rattle.theory.specs.Numbers.Sum.{sum-two}
+use Rattle.theory.specs.Numbers.Gcd.{reduced-share}
+use Rattle.theory.specs.Outcomes.Formed.{start-in, unpaid}
+use Rattle.theory.specs.Stages.Fits.{bounds-fit}
+use Rattle.theory.specs.Outcomes.Whole.{formed-prepared, exact-whole, exact-chance, exact-reward, bounds-whole, chance-won, chance-lost, reward-won}
+use Rattle.theory.specs.Outcomes.Computed.{passed-unstopped}
+use Rattle.theory.specs.Outcomes.DemandTwo.{stopped-twelve}
 use Rattle.chain.specs.Reduce.{reduced}
 use Rattle.chain.specs.declared.fraction.Fraction.{Fraction}
 use Rattle.engines.specs.declared.answer.Chance.the-variants as chance

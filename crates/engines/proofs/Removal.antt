@@ -12,8 +12,8 @@ use Rattle.meaning.specs.Number.{choose}
 use Rattle.meaning.specs.Row.{Row, cell, rewardColumn}
 use Rattle.meaning.specs.Step.{row, outside, combined, renewed, removed}
 use Rattle.meaning.specs.Stop.{Unfit}
-use Rattle.theory.specs.Sum.{sum-ext}
-use Rattle.theory.specs.Tab.{tab-at, tab-ext}
+use Rattle.theory.specs.Numbers.Sum.{sum-ext}
+use Rattle.theory.specs.Numbers.Tab.{tab-at, tab-ext}
 use Rattle.engines.specs.Row.{Fit}
 use Rattle.engines.specs.Table.{rowAt, tableOf, Kept, Placed, Renewed}
 use Rattle.engines.specs.Turn.{Reached}

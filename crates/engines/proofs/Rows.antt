@@ -14,9 +14,9 @@ use Rattle.meaning.specs.Number.{sumTo, choose}
 use Rattle.meaning.specs.Chain.{M}
 use Rattle.meaning.specs.Row.{Row, cell, total, reward, divisor, over, lowest, upTo, shiftOf, topped, roundedBy, rounded, bounded, settled, width, unknownColumn, rewardColumn}
 use Rattle.meaning.specs.Step.{noRow, combined, renewed}
-use Rattle.theory.specs.Sum.{sum-ext, sum-le, sum-zero, sum-next, sum-up, sum-mix, sum-term}
-use Rattle.theory.specs.Tab.{tab-at, tab-length}
-use Rattle.theory.specs.Shift.{pow-whole, shift-fits}
+use Rattle.theory.specs.Numbers.Sum.{sum-ext, sum-le, sum-zero, sum-next, sum-up, sum-mix, sum-term}
+use Rattle.theory.specs.Numbers.Tab.{tab-at, tab-length}
+use Rattle.theory.specs.Numbers.Shift.{pow-whole, shift-fits}
 use Rattle.engines.specs.Row.{Small, Summable, Fit, Tested, Became}
 use Rattle.engines.proofs.Loop.{zeros, getD-zeros}
 use Rattle.engines.proofs.Lowest.{over-at, over-sum, over-parts}

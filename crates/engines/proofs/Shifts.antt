@@ -6,8 +6,8 @@ use native.Mathlib.Nat.{pow-le-pow-right, mod-eq-of-lt, one-mul}
 use native.Mathlib.Omega.{arith}
 use Rattle.meaning.specs.Chain.{M}
 use Rattle.meaning.specs.Row.{upTo}
-use Rattle.theory.specs.Sum.{same}
-use Rattle.theory.specs.Shift.{up-least}
+use Rattle.theory.specs.Numbers.Sum.{same}
+use Rattle.theory.specs.Numbers.Shift.{up-least}
 
 pub pow-small : (k : ℕ) → k ≤ 33 → 2 ^ k ≤ 2 ^ 33
 pow-small k h = pow-le-pow-right {n = 2} (omega arith) h

@@ -8,7 +8,7 @@ use Rattle.meaning.specs.Step.{Sets}
 use Rattle.meaning.specs.Refusal.{Lent}
 use Rattle.meaning.specs.Stop.{Stops, before-steps, in-step, at-turn}
 use Rattle.meaning.specs.Outcome.{refused, stopped, answered, Answer, ChanceFigure, ChanceOutcome, Bounds as Numbers, BoundsFigure, BoundsOutcome}
-use Rattle.theory.specs.Entries.{chance-determined, reward-determined, bounds-determined}
+use Rattle.theory.specs.Outcomes.Entries.{chance-determined, reward-determined, bounds-determined}
 use Rattle.engines.specs.Answer.{toldChance, toldBounds, ProperChance, ProperBounds}
 use Rattle.engines.specs.declared.answer.Chance.{Chance}
 use Rattle.engines.specs.declared.answer.Chance.the-variants as chance

@@ -12,7 +12,7 @@ use Rattle.meaning.specs.Row.{Row, cell, width, total, goalColumn, trapColumn, 
 use Rattle.meaning.specs.Step.{Table, Sets, Right}
 use Rattle.meaning.specs.Refusal.{workSize}
 use Rattle.meaning.specs.Stop.{Unfit}
-use Rattle.theory.specs.Fine.{Fine}
+use Rattle.theory.specs.Chains.Fine.{Fine}
 use Rattle.engines.specs.Row.{Fit}
 use Rattle.engines.specs.Table.{rowAt, Kept}
 use Rattle.engines.specs.Turn.{Reached}

@@ -4,7 +4,7 @@ use mathlib.Core.Path.{_≡_, sym, ap, subst}
 use native.Mathlib.Omega.{arith}
 use Rattle.meaning.specs.Block.{Input}
 use Rattle.meaning.specs.File.{FileRefused, Accepted}
-use Rattle.theory.specs.FileOne.{file-numbers}
+use Rattle.theory.specs.Files.FileOne.{file-numbers}
 use Rattle.figures.specs.Found.{AskedOf, FiguresOutcome, refused, accepted}
 use Rattle.figures.specs.declared.answer.Figures.{Figures}
 use Rattle.figures.specs.declared.Question.{Question}

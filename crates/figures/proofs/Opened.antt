@@ -11,8 +11,8 @@ use Rattle.meaning.specs.Chain.{mostStates, mostEdges, edgeSize, edgeNumber}
 use Rattle.meaning.specs.Refusal.{workSize}
 use Rattle.meaning.specs.Block.{Input, headEdges, denominatorIn, rewardIn, orderIn}
 use Rattle.meaning.specs.File.{FileRefused, edgeIn, Tables, Short, Reading as Numbers, reading, ReadOutcome}
-use Rattle.theory.specs.FileOne.{file-numbers}
-use Rattle.theory.specs.Tab.{tab-length}
+use Rattle.theory.specs.Files.FileOne.{file-numbers}
+use Rattle.theory.specs.Numbers.Tab.{tab-length}
 use Rattle.chain.specs.declared.Chain.{Chain as Frame}
 use Rattle.chainfile.specs.Tells.{told, tables}
 use Rattle.chainfile.specs.declared.Reading.{Reading}

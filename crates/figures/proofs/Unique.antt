@@ -5,9 +5,9 @@ use Rattle.meaning.specs.Outcome.{Answer as Numbers, Bounds as BothNumbers, Cha
 use Rattle.meaning.specs.Survey.{Survey}
 use Rattle.meaning.specs.Block.{Input}
 use Rattle.meaning.specs.File.{plainIn, paidIn}
-use Rattle.theory.specs.Counted.{survey-one}
-use Rattle.theory.specs.Entries.{chance-determined, reward-determined, bounds-determined}
-use Rattle.theory.specs.FileOne.{file-one, accepted-unrefused}
+use Rattle.theory.specs.Chains.Counted.{survey-one}
+use Rattle.theory.specs.Outcomes.Entries.{chance-determined, reward-determined, bounds-determined}
+use Rattle.theory.specs.Files.FileOne.{file-one, accepted-unrefused}
 use Rattle.figures.specs.Told.{toldAnswer, toldLimits, figures, noCounts, noAnswer, noLimits}
 use Rattle.figures.specs.Found.{Found, Counted, bareIn, ChanceAsked, BoundsAsked, ReportAsked, AskedOf, FiguresOutcome, refused, accepted}
 use Rattle.figures.specs.declared.answer.Counts.{Counts}

@@ -12,7 +12,7 @@ use borrow.Author.Tests.{eq-eqb, ne-eqb}
 use Rattle.meaning.specs.Number.{sumTo}
 use Rattle.meaning.specs.Chain.{mostStates, M, edgeCount, from, weight, carried, rowSum, flow}
 use Rattle.meaning.specs.Refusal.{WeightFault}
-use Rattle.theory.specs.Sum.{same, sum-next}
+use Rattle.theory.specs.Numbers.Sum.{same, sum-next}
 
 -- What edge e adds to the row sum of i.
 abbrev share : List ℕ → ℕ → ℕ → ℕ

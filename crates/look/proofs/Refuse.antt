@@ -11,7 +11,7 @@ use borrow.Author.Count.{below-more}
 use Rattle.meaning.specs.Number.{only}
 use Rattle.meaning.specs.Chain.{mostStates, mostEdges, edgeSize}
 use Rattle.meaning.specs.Refusal.{Lent, Entry, paid, Misshaped, faults, whole, never, Applies, Refused, WellFormed, refused as refused-by, formed}
-use Rattle.theory.specs.Sum.{same}
+use Rattle.theory.specs.Numbers.Sum.{same}
 use Rattle.look.specs.declared.Finding.{Finding}
 use Rattle.look.specs.declared.Finding.the-variants.{Clear, Refused as Refusing}
 use Rattle.look.specs.Least.{Least}

@@ -11,8 +11,8 @@ use lib.Seq.{getD-set-same, getD-set-other}
 use Rattle.meaning.specs.Number.{bit}
 use Rattle.meaning.specs.Chain.{mostStates, edgeCount, from, to}
 use Rattle.meaning.specs.Refusal.{PairFault}
-use Rattle.theory.specs.Sum.{same, below}
-use Rattle.theory.specs.Bits.{in-either, in-one}
+use Rattle.theory.specs.Numbers.Sum.{same, below}
+use Rattle.theory.specs.Numbers.Bits.{in-either, in-one}
 
 -- One of the first e edges leads from i to j.
 abbrev Led : List ℕ → ℕ → ℕ → ℕ → Type 0

@@ -3,7 +3,7 @@ use Prim.Native.Nat.{ℕ, _<_}
 use mathlib.Core.Path.{_≡_, refl, ap, ap₂}
 use native.Mathlib.Omega.{arith}
 use Rattle.meaning.specs.Refusal.{Lent, Entry}
-use Rattle.theory.specs.Determined.{meet, refused-one}
+use Rattle.theory.specs.Outcomes.Determined.{meet, refused-one}
 use Rattle.look.specs.declared.Finding.{Finding}
 use Rattle.look.specs.declared.Finding.the-variants.{Clear, Refused as Refusing}
 use Rattle.look.specs.declared.scan.Place.{Place}

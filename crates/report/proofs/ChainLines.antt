@@ -13,9 +13,9 @@ use Rattle.meaning.specs.Block.{Input, headStates, headEdges}
 use Rattle.meaning.specs.File.{edgeIn, chainIn, paidIn, FileRefused, Accepted}
 use Rattle.meaning.specs.Text.{bytesOf}
 use Rattle.meaning.specs.Report.{refusedText, linesText, Report, printing, TextOutcome, reportRoom}
-use Rattle.theory.specs.Tab.{tab-length}
-use Rattle.theory.specs.Formed.{few-states, few-edges}
-use Rattle.theory.specs.Entails.{fewer-formed}
+use Rattle.theory.specs.Numbers.Tab.{tab-length}
+use Rattle.theory.specs.Outcomes.Formed.{few-states, few-edges}
+use Rattle.theory.specs.Outcomes.Entails.{fewer-formed}
 use Rattle.chainfile.specs.Written.{Room, Written}
 use Rattle.chainfile.proofs.Steps.{whole}
 use Rattle.figures.specs.Told.{toldAnswer, toldLimits}

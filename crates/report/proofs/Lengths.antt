@@ -10,7 +10,7 @@ use Rattle.meaning.specs.Chain.{mostStates, mostEdges}
 use Rattle.meaning.specs.Outcome.{Answer, Bounds}
 use Rattle.meaning.specs.Text.{bytesOf}
 use Rattle.meaning.specs.Report.{fractionText, refusedText, answerText, boundsText, linesText, faceText, reportRoom, faceRoom}
-use Rattle.theory.specs.Small.{Small, BothSmall}
+use Rattle.theory.specs.Outcomes.Small.{Small, BothSmall}
 use Rattle.chainfile.specs.Written.{Room}
 use Rattle.report.proofs.Decimal.{digits}
 

@@ -12,9 +12,9 @@ use Rattle.meaning.specs.Stop.{Stopped, Stops}
 use Rattle.meaning.specs.Block.{Input}
 use Rattle.meaning.specs.File.{FileRefused}
 use Rattle.meaning.specs.Step.{Sets}
-use Rattle.theory.specs.Sum.{below}
-use Rattle.theory.specs.Formed.{few-states}
-use Rattle.theory.specs.FileOne.{file-numbers}
+use Rattle.theory.specs.Numbers.Sum.{below}
+use Rattle.theory.specs.Outcomes.Formed.{few-states}
+use Rattle.theory.specs.Files.FileOne.{file-numbers}
 use Rattle.chainfile.proofs.Tested.{bounded}
 use Rattle.report.specs.Lines.{Ends, chain, file}
 use Rattle.report.proofs.Lengths.{Near}

@@ -17,7 +17,7 @@ use Rattle.meaning.specs.Outcome.{
   BoundsOutcome,
 }
 use Rattle.meaning.specs.Report.{linesText, reportRoom}
-use Rattle.theory.specs.Small.{chance-small, reward-small, bounds-small}
+use Rattle.theory.specs.Outcomes.Small.{chance-small, reward-small, bounds-small}
 use Rattle.report.proofs.Lengths.{Near, lines-short}
 use Rattle.report.proofs.Near.{refused-near, stopped-near}
 

@@ -7,7 +7,7 @@ use lib.ListN.{length, drop, length-append}
 use Rattle.meaning.specs.Outcome.{Answer}
 use Rattle.meaning.specs.Block.{Input}
 use Rattle.meaning.specs.Report.{Report, Printing, TextOutcome, ReportOutcome, FaceOutcome}
-use Rattle.theory.specs.ReportOne.{report-one, text-one}
+use Rattle.theory.specs.Files.ReportOne.{report-one, text-one}
 use Rattle.report.specs.Stands.{told}
 use Rattle.report.specs.declared.Printed.{Printed}
 use Rattle.report.specs.declared.Printed.the-variants.{Length, Refused}

@@ -14,7 +14,7 @@ use Rattle.look.proofs.Ends.{from-below, to-below}
 use Rattle.meaning.specs.Number.{bit}
 use Rattle.meaning.specs.Chain.{mostStates, edgeCount}
 use Rattle.meaning.specs.Refusal.{EndFault}
-use Rattle.theory.specs.Bits.{in-either, in-one}
+use Rattle.theory.specs.Numbers.Bits.{in-either, in-one}
 use Rattle.survey.specs.Grow.{tail, head, Open, Way, Grown, sown, joined, Idle, AllIdle, Larger}
 
 -- An equation that is tested decides what it is the same as.

@@ -12,8 +12,8 @@ use Rattle.meaning.specs.Number.{bit}
 use Rattle.meaning.specs.Chain.{Chain, PathTo, ToGoal, FromStart, Live}
 use Rattle.meaning.specs.Figure.{Missed}
 use Rattle.meaning.specs.Step.{Right}
-use Rattle.theory.specs.Bits.{in-both, in-first, in-one, set-apart}
-use Rattle.theory.specs.Sum.{same}
+use Rattle.theory.specs.Numbers.Bits.{in-both, in-first, in-one, set-apart}
+use Rattle.theory.specs.Numbers.Sum.{same}
 use Rattle.chain.specs.Decide.{decides}
 use Rattle.survey.specs.Grow.{way, Grown, sown, joined}
 use Rattle.survey.specs.Sets.{Exactly, Alive, Astray}

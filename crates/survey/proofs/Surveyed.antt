@@ -11,10 +11,10 @@ use Rattle.meaning.specs.Figure.{Missed}
 use Rattle.meaning.specs.Step.{Sets, Right}
 use Rattle.meaning.specs.Refusal.{Lent, bare, EndFault, Applies, Refused, WellFormed}
 use Rattle.meaning.specs.Survey.{Survey as Numbers, surveys, noSurvey, SurveyOutcome, refused, surveyed}
-use Rattle.theory.specs.Formed.{few-states, goals-in, start-in, from-in, to-in}
-use Rattle.theory.specs.Sets.{goal-state}
-use Rattle.theory.specs.Bits.{set-below}
-use Rattle.theory.specs.Counted.{count-ones, goals-some, survey-one}
+use Rattle.theory.specs.Outcomes.Formed.{few-states, goals-in, start-in, from-in, to-in}
+use Rattle.theory.specs.Chains.Sets.{goal-state}
+use Rattle.theory.specs.Numbers.Bits.{set-below}
+use Rattle.theory.specs.Chains.Counted.{count-ones, goals-some, survey-one}
 use Rattle.chain.specs.Decide.{decides}
 use Rattle.survey.specs.Sets.{setsOf, Known}
 use Rattle.survey.specs.Told.{told}

@@ -1,54 +1,15 @@
-pub mod Sum
-pub mod Tab
-pub mod Flow
-pub mod Gcd
-pub mod Search
-pub mod Fine
-pub mod System
-pub mod Path
-pub mod Solvable
-pub mod Shares
-pub mod Earnings
-pub mod Unique
-pub mod Sets
-pub mod Marks
-pub mod Terms
-pub mod Relation
-pub mod Shift
-pub mod Flip
-pub mod Round
-pub mod Settle
-pub mod Leads
-pub mod Removal
-pub mod Given
-pub mod First
-pub mod Stage
-pub mod Below
-pub mod Every
-pub mod Formed
+-- Theorems about the definitions, by subject.
+-- Sums, lists, divisors, bits and shifts; searches that end.
+pub mod Numbers
+-- Edges, paths and sets of states: what is decided and counted of a chain.
+pub mod Chains
+-- The equations: that each figure is there, and is one.
 pub mod Figures
-pub mod Lone
-pub mod Answer
-pub mod Fits
-pub mod Unrounded
-pub mod Whole
-pub mod Look
-pub mod Halt
-pub mod Begin
+-- What a row says of its columns, in lowest terms, rounded, settled, and left alone.
+pub mod Rows
+-- The table, from the first rows to the last: what each step keeps, and what the last row says.
+pub mod Stages
+-- From a well-formed input to the answer: every entry has one outcome, and what it is held to; the chains worked by hand.
 pub mod Outcomes
-pub mod Determined
-pub mod Bits
-pub mod Counted
-pub mod Entries
-pub mod DemandTwo
-pub mod DemandThree
-pub mod Small
-pub mod Fletcher
-pub mod Head
-pub mod Listed
-pub mod FileOne
-pub mod Entails
-pub mod Bare
-pub mod ReportOne
-pub mod CallOne
-pub mod CallRead
+-- Chain files, the report and the call from C: one outcome each.
+pub mod Files

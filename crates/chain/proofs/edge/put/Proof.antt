@@ -10,8 +10,8 @@ use borrow.Author.Tests.{eq-eqb, ne-eqb, lt-ltb, le-ltb}
 use borrow.Author.Needs.{needs}
 use Rattle.meaning.specs.Number.{choose}
 use Rattle.meaning.specs.Chain.{edgeSize, edge, edgeCount}
-use Rattle.theory.specs.Sum.{same}
-use Rattle.theory.specs.Tab.{tab-of}
+use Rattle.theory.specs.Numbers.Sum.{same}
+use Rattle.theory.specs.Numbers.Tab.{tab-of}
 use Rattle.chain.specs.Edge.{placed}
 use Rattle.chain.proofs.edge.put.Statement.{statement}
 use Rattle.chain.proofs.edge.put.Tie as tie

@@ -2,7 +2,7 @@ use mathlib.Core.Path.{_≡_, sym, _∙_}
 use native.Mathlib.Omega.{arith}
 use native.Mathlib.Nat.{mod-lt}
 use Rattle.meaning.specs.Number.{gcd}
-use Rattle.theory.specs.Gcd.{gcd-zero, gcd-step, gcd-greatest}
+use Rattle.theory.specs.Numbers.Gcd.{gcd-zero, gcd-step, gcd-greatest}
 use borrow.Author.Needs.{needs}
 use Rattle.chain.proofs.fraction.gcd.Statement.{statement}
 use Rattle.chain.proofs.fraction.gcd.Tie as tie

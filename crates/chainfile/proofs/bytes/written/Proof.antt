@@ -3,7 +3,7 @@ use mathlib.Core.Path.{_≡_, sym, _∙_}
 use native.Mathlib.Omega.{arith}
 use lib.ListN.{getD}
 use borrow.Author.Needs.{needs}
-use Rattle.theory.specs.Sum.{last-or-below}
+use Rattle.theory.specs.Numbers.Sum.{last-or-below}
 use Rattle.chainfile.proofs.bytes.written.Statement.{statement}
 use Rattle.chainfile.proofs.bytes.written.Tie as tie
 

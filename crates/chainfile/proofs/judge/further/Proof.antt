@@ -1,7 +1,7 @@
 use Prim.Native.Nat.{ℕ, _-_, _<_}
 use native.Mathlib.Omega.{arith}
 use borrow.Author.Needs.{needs}
-use Rattle.theory.specs.Sum.{last-or-below}
+use Rattle.theory.specs.Numbers.Sum.{last-or-below}
 use Rattle.chainfile.proofs.Tested.{found-wrong, found-right}
 use Rattle.meaning.specs.File.{BlockRight}
 use Rattle.chainfile.specs.Input.{input}

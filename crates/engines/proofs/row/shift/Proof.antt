@@ -4,7 +4,7 @@ use borrow.Author.Needs.{needs}
 use borrow.Author.Count.{below-more}
 use Rattle.meaning.specs.Chain.{M}
 use Rattle.meaning.specs.Row.{upTo}
-use Rattle.theory.specs.Shift.{shift-is}
+use Rattle.theory.specs.Numbers.Shift.{shift-is}
 use Rattle.engines.proofs.Shifts.{room-left}
 use Rattle.engines.proofs.row.shift.Statement.{statement}
 use Rattle.engines.proofs.row.shift.Tie as tie

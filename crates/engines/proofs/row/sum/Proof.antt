@@ -5,7 +5,7 @@ use native.Mathlib.Omega.{arith}
 use borrow.Author.Needs.{needs}
 use Rattle.meaning.specs.Number.{sumTo}
 use Rattle.meaning.specs.Row.{cell}
-use Rattle.theory.specs.Sum.{sum-next, sum-up}
+use Rattle.theory.specs.Numbers.Sum.{sum-next, sum-up}
 use Rattle.engines.proofs.row.sum.Statement.{statement}
 use Rattle.engines.proofs.row.sum.Tie as tie
 

@@ -1,6 +1,6 @@
 use native.Mathlib.Omega.{arith}
 use borrow.Author.Needs.{needs}
-use Rattle.theory.specs.Shift.{pow-whole}
+use Rattle.theory.specs.Numbers.Shift.{pow-whole}
 use Rattle.engines.proofs.Shifts.{pow-small, one-shifted}
 use Rattle.engines.proofs.row.up.Statement.{statement}
 use Rattle.engines.proofs.row.up.Tie as tie

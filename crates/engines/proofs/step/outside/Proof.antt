@@ -2,7 +2,7 @@ use Prim.Native.Nat.{_+_}
 use native.Mathlib.Omega.{arith}
 use borrow.Author.Needs.{needs}
 use Rattle.meaning.specs.Row.{cell}
-use Rattle.theory.specs.Sum.{sum-term}
+use Rattle.theory.specs.Numbers.Sum.{sum-term}
 use Rattle.engines.proofs.step.outside.Statement.{statement}
 use Rattle.engines.proofs.step.outside.Tie as tie
 

@@ -1,0 +1,7 @@
+-- Edges, paths and sets of states: what is decided and counted of a chain.
+pub mod Fine
+pub mod Flow
+pub mod Path
+pub mod Sets
+pub mod Marks
+pub mod Counted

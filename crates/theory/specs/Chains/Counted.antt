@@ -1,0 +1,79 @@
+-- The counts of a survey: the ones of a set count its states; and what a survey may answer is one.
+use Prim.Native.Nat.{ℕ, zero, suc, _+_, _%_, _^_, _<_}
+use mathlib.Core.Path.{_≡_, refl, sym, ap, ap₂, subst, _∙_}
+use mathlib.Core.Logic.{_↔_, ⊎-elim}
+use mathlib.Core.Bool.{Bool, true, false}
+use native.Mathlib.Omega.{arith}
+use native.Mathlib.Nat.{mod-eq-of-lt, mod-lt, mod-one, zero-div}
+use lib.Pow.{mod-pow-add, pow-pos}
+use lib.Count.{ones, onesIn, ones-cat}
+use Rattle.meaning.specs.Number.{bit}
+use Rattle.meaning.specs.Chain.{Goal}
+use Rattle.meaning.specs.Step.{Sets}
+use Rattle.meaning.specs.Refusal.{Lent, Entry, WellFormed}
+use Rattle.meaning.specs.Survey.{Count, none, one, skip, Survey, noSurvey, surveys, SurveyOutcome, refused, surveyed}
+use Rattle.theory.specs.Numbers.Sum.{same, last-or-below}
+use Rattle.theory.specs.Chains.Sets.{bit-below, right-one}
+use Rattle.theory.specs.Numbers.Bits.{set-apart}
+use Rattle.theory.specs.Outcomes.Formed.{some-goal, goals-in}
+use Rattle.theory.specs.Outcomes.Determined.{refused-one}
+
+pub count-one : {P : ℕ → Type 0} {n k k′ : ℕ} → Count P n k → Count P n k′ → k ≡ k′
+count-one none none = refl
+count-one (one p a) (one p′ a′) = ap suc (count-one a a′)
+count-one (one p a) (skip d a′) = absurd (d p)
+count-one (skip d a) (one p a′) = absurd (d p)
+count-one (skip d a) (skip d′ a′) = count-one a a′
+
+pub count-some : {P : ℕ → Type 0} {n k i : ℕ} → Count P n k → i < n → P i → 0 < k
+count-some none h q = absurd (omega arith)
+count-some (one p a) h q = omega arith
+count-some {P} (skip d a) h q = last-or-below h (λ e. absurd (d (subst P e q))) (λ l. count-some a l q)
+
+module _ (P : ℕ → Type 0) (s : ℕ) (set : (i : ℕ) → (bit s i ≡ 1) ↔ P i) where
+  -- The ones below bit n.
+  low-step : (n : ℕ) → ones (s % 2 ^ suc n) ≡ ones (bit s n) + ones (s % 2 ^ n)
+  low-step n =
+      let e : suc n ≡ 1 + n = omega arith in
+      ap (λ z. ones (s % 2 ^ z)) e ∙ ap ones (mod-pow-add s 1 n) ∙ ones-cat n (bit s n) (s % 2 ^ n) (mod-lt s (pow-pos n))
+
+  low-ones : (n : ℕ) → Count P n (ones (s % 2 ^ n))
+  unfolding ones onesIn
+  low-ones zero = rw (mod-one s) none
+  low-ones (suc n) =
+      ⊎-elim
+      (λ (q : bit s n ≡ 1).
+      let e : ones (s % 2 ^ suc n) ≡ suc (ones (s % 2 ^ n)) = low-step n ∙ rw q (omega arith) in
+      rw e (one (set n .0 q) (low-ones n)))
+      (λ (d : bit s n ≡ 1 → ⊥).
+      let q : bit s n ≡ 0 = omega arith in
+      let e : ones (s % 2 ^ suc n) ≡ ones (s % 2 ^ n) = low-step n ∙ rw q (omega arith) in
+      rw e (skip (λ p. d (set n .1 p)) (low-ones n)))
+      (same (bit s n) 1)
+
+  pub count-ones : (n : ℕ) → s < 2 ^ n → Count P n (ones s)
+  count-ones n h = subst (λ z. Count P n (ones z)) (mod-eq-of-lt h) (low-ones n)
+
+-- A test of one thing has one answer.
+test-one : {P : Type 0} (b b′ : Bool) → (b ≡ true) ↔ P → (b′ ≡ true) ↔ P → b ≡ b′
+test-one true b′ t t′ = sym (t′ .1 (t .0 refl))
+test-one false true t t′ = t .1 (t′ .0 refl)
+test-one false false t t′ = refl
+
+pub survey-one : {l : Lent} {a a′ : Survey} → SurveyOutcome l a → SurveyOutcome l a′ → a ≡ a′
+survey-one (refused n p r e) (refused n′ p′ r′ e′) = let o = refused-one r r′ in e ∙ ap₂ noSurvey (o .0) (o .1) ∙ sym e′
+survey-one (refused n p r e) (surveyed w s t m d g k a b e′) = absurd (w .none n p (r .applies))
+survey-one (surveyed w s t m d g k a b e′) (refused n p r e) = absurd (w .none n p (r .applies))
+survey-one (surveyed w s t m d g k a b e) (surveyed w′ s′ t′ m′ d′ g′ k′ a′ b′ e′) =
+    e
+    ∙ ap₂ (λ (s : Sets) (m : Bool). surveys s m g k) (right-one t t′) (test-one m m′ d d′)
+    ∙ ap₂ (surveys s′ m′) (count-one a a′) (count-one b b′)
+    ∙ sym e′
+
+-- A well-formed chain has a goal to count.
+pub goals-some : (x : Entry) (l : Lent) → WellFormed x l → (k : ℕ) → Count (Goal (l .chain)) (l .chain .states) k → 0 < k
+goals-some x l w k a =
+    let g = l .chain .goals in
+    let d = set-apart g 0 (λ e. omega (arith, some-goal x l w)) in
+    let b : bit g (d .0) ≡ 1 = omega (arith, d .1, zero-div (2 ^ d .0)) in
+    count-some a (bit-below g (l .chain .states) (d .0) (goals-in x l w) b) b

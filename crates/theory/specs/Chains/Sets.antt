@@ -1,0 +1,117 @@
+-- Sets of states, each written as one number: every set has its number, and one only; so the sets of a chain are there, and are one.
+use Prim.Native.Nat.{ℕ, zero, suc, _+_, _*_, _/_, _%_, _^_, _≤_, _<_}
+use mathlib.Core.Path.{_≡_, refl, sym, _∙_}
+use mathlib.Core.Logic.{_↔_, ⊎-elim}
+use mathlib.Core.Bool.{Bool, true, false}
+use native.Mathlib.Omega.{arith}
+use native.Mathlib.Nat.{div-one, div-div-eq-div-mul, pow-succ', div-eq-of-lt, pow-le-pow-right, zero-div}
+use Rattle.meaning.specs.Number.{only, bit}
+use Rattle.meaning.specs.Chain.{Chain, edgeCount, from, PathTo, ToGoal, Live}
+use Rattle.meaning.specs.Step.{Sets, Right}
+use Rattle.theory.specs.Numbers.Sum.{same, below}
+use Rattle.theory.specs.Chains.Path.{test, test-law, decToGoal, decLive}
+
+-- The number whose bits, up to n, are the tests.
+unfoldable pub packed : ℕ → (ℕ → Bool) → ℕ
+packed zero f = 0
+packed (suc n) f = only (f 0) 1 + 2 * packed n (λ i. f (suc i))
+
+pub bit-zero : (s : ℕ) → bit s 0 ≡ s % 2
+bit-zero s = rw (div-one s)
+
+pub bit-suc : (s i : ℕ) → bit s (suc i) ≡ bit (s / 2) i
+bit-suc s i = rw (pow-succ' 2 i, div-div-eq-div-mul s 2 (2 ^ i))
+
+-- A number below 2 ^ n has no bits from n on.
+pub bit-below : (s n i : ℕ) → s < 2 ^ n → bit s i ≡ 1 → i < n
+bit-below s n i l b =
+    ⊎-elim
+    (λ (h : i < n). h)
+    (λ (h : n ≤ i).
+    let m : 2 ^ n ≤ 2 ^ i = pow-le-pow-right {n = 2} (omega arith) h in
+    absurd (omega (arith, rw (div-eq-of-lt {n = s} {m = 2 ^ i} (omega arith)) at b)))
+    (below i n)
+
+only-low : (b : Bool) (t : ℕ) → (only b 1 + 2 * t) % 2 ≡ only b 1
+only-low true t = omega arith
+only-low false t = omega arith
+
+only-half : (b : Bool) (t : ℕ) → (only b 1 + 2 * t) / 2 ≡ t
+only-half true t = omega arith
+only-half false t = omega arith
+
+packed-suc : (n : ℕ) (f : ℕ → Bool) (i : ℕ) → bit (packed (suc n) f) (suc i) ≡ bit (packed n (λ j. f (suc j))) i
+unfolding packed
+packed-suc n f i = bit-suc _ i ∙ rw (only-half (f 0) (packed n (λ j. f (suc j))))
+
+pub packed-bit : (n : ℕ) (f : ℕ → Bool) (i : ℕ) → i < n → bit (packed n f) i ≡ only (f i) 1
+unfolding packed
+packed-bit zero f i h = absurd (omega arith)
+packed-bit (suc n) f zero h = bit-zero _ ∙ only-low (f 0) (packed n (λ j. f (suc j)))
+packed-bit (suc n) f (suc i) h = packed-suc n f i ∙ packed-bit n (λ j. f (suc j)) i (omega arith)
+
+pub packed-past : (n : ℕ) (f : ℕ → Bool) (i : ℕ) → n ≤ i → bit (packed n f) i ≡ 0
+unfolding packed
+packed-past zero f i h = rw (zero-div (2 ^ i))
+packed-past (suc n) f zero h = absurd (omega arith)
+packed-past (suc n) f (suc i) h = packed-suc n f i ∙ packed-past n (λ j. f (suc j)) i (omega arith)
+
+-- Two numbers with the same bits are one.
+bits-in : (k s t : ℕ) → s ≤ k → t ≤ k → ((i : ℕ) → bit s i ≡ bit t i) → s ≡ t
+bits-in zero s t h l e = omega arith
+bits-in (suc k) s t h l e =
+    let first : s % 2 ≡ t % 2 = sym (bit-zero s) ∙ e 0 ∙ bit-zero t in
+    let rest : s / 2 ≡ t / 2 =
+    bits-in k (s / 2) (t / 2) (omega arith) (omega arith) (λ i. sym (bit-suc s i) ∙ e (suc i) ∙ bit-suc t i) in
+    omega arith
+
+pub bits-same : {s t : ℕ} → ((i : ℕ) → bit s i ≡ bit t i) → s ≡ t
+bits-same {s} {t} e = bits-in (s + t) s t (omega arith) (omega arith) e
+
+-- Two numbers of one set are one.
+pub set-one : (P : ℕ → Type 0) (s t : ℕ) → ((i : ℕ) → (bit s i ≡ 1) ↔ P i) → ((i : ℕ) → (bit t i ≡ 1) ↔ P i) → s ≡ t
+set-one P s t p q =
+    bits-same (λ i.
+    ⊎-elim
+    (λ (e : bit s i ≡ 1). e ∙ sym (q i .1 (p i .0 e)))
+    (λ (n : bit s i ≡ 1 → ⊥). let m : bit t i ≡ 1 → ⊥ = λ e. n (p i .1 (q i .0 e)) in omega arith)
+    (same (bit s i) 1))
+
+pub right-one : {c : Chain} {k k' : Sets} → Right c k → Right c k' → k ≡ k'
+right-one {c} {k} {k'} R R' =
+    let g : k .good ≡ k' .good = set-one (ToGoal c) (k .good) (k' .good) (R .good) (R' .good) in
+    let l : k .live ≡ k' .live = set-one (Live c) (k .live) (k' .live) (R .live) (R' .live) in
+    λ i. record { good = g i; live = l i }
+
+-- The number of a set of states below n, by a test of it.
+pub packed-set : (n : ℕ) (f : ℕ → Bool) (P : ℕ → Type 0) → ((i : ℕ) → (f i ≡ true) ↔ P i) → ((i : ℕ) → P i → i < n)
+    → (i : ℕ) → (bit (packed n f) i ≡ 1) ↔ P i
+packed-set n f P law inside i = (
+  λ b.
+      ⊎-elim
+      (λ (h : i < n). law i .0 (tested (f i) (sym (packed-bit n f i h) ∙ b)))
+      (λ (h : n ≤ i). absurd (omega (arith, packed-past n f i h)))
+      (below i n),
+  λ p. packed-bit n f i (inside i p) ∙ rw (law i .1 p),
+)
+  where
+    tested : (b : Bool) → only b 1 ≡ 1 → b ≡ true
+    tested true e = refl
+    tested false e = absurd (omega arith)
+
+module _ (c : Chain) (goals : c .goals < 2 ^ c .states) (sources : (e : ℕ) → e < edgeCount (c .edges) → from (c .edges) e < c .states) where
+  -- What has a path to a goal is a state.
+  pub goal-state : (i : ℕ) → ToGoal c i → i < c .states
+  goal-state i (PathTo.here j g) = bit-below (c .goals) (c .states) j goals g
+  goal-state i (PathTo.step e l p) = sources e l
+
+  pub right-exists : (k : Sets) × Right c k
+  right-exists = (
+    record { good = packed (c .states) (λ i. test (decToGoal c i)); live = packed (c .states) (λ i. test (decLive c i)) },
+    record {
+      good = packed-set (c .states) (λ i. test (decToGoal c i)) (ToGoal c) (λ i. test-law (decToGoal c i)) goal-state;
+      live =
+          packed-set (c .states) (λ i. test (decLive c i)) (Live c) (λ i. test-law (decLive c i))
+          (λ i l. goal-state i (l .leads));
+    },
+  )

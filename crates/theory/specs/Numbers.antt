@@ -1,0 +1,8 @@
+-- Sums, lists, divisors, bits and shifts; searches that end.
+pub mod Sum
+pub mod Tab
+pub mod Gcd
+pub mod Bits
+pub mod Shift
+pub mod Every
+pub mod Search

@@ -1,0 +1,89 @@
+-- Laws of the bits of a number that is made from others.
+use Prim.Native.Nat.{ℕ, zero, suc, _+_, _*_, _/_, _%_, _^_, _≤_, _<_, min, max}
+use mathlib.Core.Path.{_≡_, refl, sym, _∙_}
+use mathlib.Core.Logic.{_⊎_, inl, inr, _↔_, ⊎-elim}
+use native.Mathlib.Omega.{arith}
+use native.Mathlib.Nat.{pow-succ', zero-div}
+use lib.Bits.{bitAnd, bitOr, bitXor, differ, and-shr, or-shr, xor-shr, and-step, or-step, xor-step}
+use Rattle.meaning.specs.Number.{bit}
+use Rattle.theory.specs.Numbers.Sum.{same}
+use Rattle.theory.specs.Chains.Sets.{bit-zero, bit-suc, bit-below, bits-same}
+
+-- The last digit of a number that is given by its digits.
+digit : (x r c : ℕ) → x ≡ r * 2 + c → c < 2 → x % 2 ≡ c
+digit x r c e h = omega arith
+
+differ-two : (x y : ℕ) → x < 2 → y < 2 → differ x y < 2
+differ-two zero y h l = l
+differ-two (suc zero) zero h l = h
+differ-two (suc zero) (suc zero) h l = omega arith
+differ-two (suc zero) (suc (suc y)) h l = absurd (omega arith)
+differ-two (suc (suc x)) y h l = absurd (omega arith)
+
+bit-and : (a b i : ℕ) → bit (bitAnd a b) i ≡ min (bit a i) (bit b i)
+bit-and a b i = rw and-shr (digit _ _ _ (and-step (a / 2 ^ i) (b / 2 ^ i)) (omega arith))
+
+bit-or : (a b i : ℕ) → bit (bitOr a b) i ≡ max (bit a i) (bit b i)
+bit-or a b i = rw or-shr (digit _ _ _ (or-step (a / 2 ^ i) (b / 2 ^ i)) (omega arith))
+
+bit-xor : (a b i : ℕ) → bit (bitXor a b) i ≡ differ (bit a i) (bit b i)
+bit-xor a b i = rw xor-shr (digit _ _ _ (xor-step (a / 2 ^ i) (b / 2 ^ i)) (differ-two (bit a i) (bit b i) (omega arith) (omega arith)))
+
+-- What is in both of two sets, in one of them, and in the first without the second.
+pub in-both : (a b i : ℕ) → (bit (bitAnd a b) i ≡ 1) ↔ ((bit a i ≡ 1) × (bit b i ≡ 1))
+in-both a b i = let e = bit-and a b i in (λ h. (omega arith, omega arith), λ h. omega (arith, h .0, h .1))
+
+pub in-either : (a b i : ℕ) → (bit (bitOr a b) i ≡ 1) ↔ ((bit a i ≡ 1) ⊎ (bit b i ≡ 1))
+in-either a b i = (there, back)
+  where
+    there : bit (bitOr a b) i ≡ 1 → (bit a i ≡ 1) ⊎ (bit b i ≡ 1)
+    there h =
+        ⊎-elim (λ (e : bit a i ≡ 1). inl e) (λ (n : bit a i ≡ 1 → ⊥). inr (omega (arith, bit-or a b i))) (same (bit a i) 1)
+
+    back : (bit a i ≡ 1) ⊎ (bit b i ≡ 1) → bit (bitOr a b) i ≡ 1
+    back (inl h) = omega (arith, bit-or a b i)
+    back (inr h) = omega (arith, bit-or a b i)
+
+apart : (x y z : ℕ) → x < 2 → y < 2 → z ≡ min x y → (differ x z ≡ 1) ↔ ((x ≡ 1) × (y ≡ 1 → ⊥))
+apart zero y z h l e = let n : z ≡ 0 = omega arith in rw n (λ q. absurd (omega arith), λ q. absurd (omega (arith, q .0)))
+apart (suc zero) zero z h l e = let n : z ≡ 0 = omega arith in rw n (λ q. (refl, λ r. omega arith), λ q. refl)
+apart (suc zero) (suc y) z h l e = let n : z ≡ 1 = omega arith in rw n (λ q. absurd (omega arith), λ q. absurd (q .1 (omega arith)))
+apart (suc (suc x)) y z h l e = absurd (omega arith)
+
+pub in-first : (a b i : ℕ) → (bit (bitXor a (bitAnd a b)) i ≡ 1) ↔ ((bit a i ≡ 1) × (bit b i ≡ 1 → ⊥))
+in-first a b i =
+    rw (bit-xor a (bitAnd a b) i) (apart (bit a i) (bit b i) (bit (bitAnd a b) i) (omega arith) (omega arith) (bit-and a b i))
+
+-- The set of one state.
+pub in-one : (j i : ℕ) → (bit (2 ^ j) i ≡ 1) ↔ (i ≡ j)
+in-one zero zero = (λ h. refl, λ h. refl)
+in-one zero (suc i) = (λ h. absurd (omega (arith, bit-below 1 1 (suc i) (omega arith) h)), λ h. absurd (omega arith))
+in-one (suc j) zero = (λ h. absurd (omega (arith, pow-succ' 2 j, bit-zero (2 ^ suc j))), λ h. absurd (omega arith))
+in-one (suc j) (suc i) =
+    let half : 2 ^ suc j / 2 ≡ 2 ^ j = omega (arith, pow-succ' 2 j) in
+    rw (bit-suc (2 ^ suc j) i, half)
+    (λ h. let e = in-one j i .0 h in omega arith, λ h. in-one j i .1 (omega arith))
+
+-- A set of states below n is a number below 2 ^ n.
+pub set-below : (n s : ℕ) → ((i : ℕ) → bit s i ≡ 1 → i < n) → s < 2 ^ n
+set-below zero s h =
+    let out : (i : ℕ) → bit s i ≡ 1 → ⊥ = λ i q. let k = h i q in omega arith in
+    let e : s ≡ 0 = bits-same (λ i. rw (zero-div (2 ^ i)) (omega (arith, out i))) in
+    omega arith
+set-below (suc n) s h =
+    let l : s / 2 < 2 ^ n = set-below n (s / 2) (λ i q. let k = h (suc i) (bit-suc s i ∙ q) in omega arith) in
+    omega (arith, pow-succ' 2 n)
+
+-- Of two sets that differ, one has a state that the other has not.
+pub set-apart : (s t : ℕ) → (s ≡ t → ⊥) → (i : ℕ) × (bit s i ≡ bit t i → ⊥)
+set-apart s t d = apart-in (s + t) s t (omega arith) (omega arith) d
+  where
+    apart-in : (k s t : ℕ) → s ≤ k → t ≤ k → (s ≡ t → ⊥) → (i : ℕ) × (bit s i ≡ bit t i → ⊥)
+    apart-in zero s t h l d = absurd (d (omega arith))
+    apart-in (suc k) s t h l d =
+        ⊎-elim
+        (λ (e : s % 2 ≡ t % 2).
+        let w = apart-in k (s / 2) (t / 2) (omega arith) (omega arith) (λ q. d (omega arith)) in
+        (suc (w .0), λ q. w .1 (sym (bit-suc s (w .0)) ∙ q ∙ bit-suc t (w .0))))
+        (λ (n : s % 2 ≡ t % 2 → ⊥). (0, λ q. n (sym (bit-zero s) ∙ q ∙ bit-zero t)))
+        (same (s % 2) (t % 2))

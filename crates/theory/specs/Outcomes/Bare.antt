@@ -1,0 +1,89 @@
+-- What refuses a chain alone refuses it among the tables of any entry, and clears the numbers 3 to 9 there.
+use Prim.Native.Nat.{ℕ, zero, suc, _+_, _-_, _≤_, _<_}
+use mathlib.Core.Path.{_≡_, refl, sym, subst}
+use mathlib.Core.Logic.{⊎-elim}
+use mathlib.Core.List.{[]}
+use native.Mathlib.Omega.{arith}
+use Rattle.meaning.specs.Refusal.{Lent, Entry, bare, whole, Misshaped, faults, Applies, Refused, WellFormed}
+use Rattle.theory.specs.Numbers.Sum.{below}
+use Rattle.theory.specs.Outcomes.Entails.{Entails, none, more, entails-at}
+
+-- What is lent of it to an entry that is lent a chain alone.
+abbrev pub alone : Lent → Lent
+alone l = record { chain = l .chain; order = []; rewards = []; work = [] }
+
+module _ (x : Entry) (l : Lent) where
+  shape : {n d e o w : ℕ} → Misshaped bare n d e 0 0 → Misshaped x n d e o w
+  shape (Misshaped.no-states h) = Misshaped.no-states h
+  shape (Misshaped.many-states h) = Misshaped.many-states h
+  shape (Misshaped.denominators-length h) = Misshaped.denominators-length h
+  shape (Misshaped.edges-ragged h) = Misshaped.edges-ragged h
+  shape (Misshaped.many-edges h) = Misshaped.many-edges h
+  shape (Misshaped.order-length h) = absurd (h refl)
+  shape (Misshaped.rewards-length h) = absurd (h refl)
+
+  misshaped : {n d e o w : ℕ} (p : ℕ) → whole (Misshaped bare n d e 0 0) p → whole (Misshaped x n d e o w) p
+  misshaped p a = (a .0, shape (a .1))
+
+  -- What applies to the chain alone applies among all that is lent.
+  among : Entails (faults bare (alone l)) (faults x l)
+  among =
+      more (λ p a. a)
+      (more misshaped
+      (more (λ p a. absurd a)
+      (more (λ p a. a)
+      (more (λ p a. a)
+      (more (λ p a. a)
+      (more (λ p a. a)
+      (more (λ p a. a)
+      (more (λ p a. a)
+      (more (λ p a. a)
+      (more (λ p a. absurd a)
+      (more (λ p a. absurd a) none)))))))))))
+
+  -- Of 3 to 9, what applies among all that is lent applies to the chain alone.
+  own : (k p : ℕ) → k < 7 → Applies x l (3 + k) p → Applies bare (alone l) (3 + k) p
+  own zero p h a = a
+  own (suc zero) p h a = a
+  own (suc (suc zero)) p h a = a
+  own (suc (suc (suc zero))) p h a = a
+  own (suc (suc (suc (suc zero)))) p h a = a
+  own (suc (suc (suc (suc (suc zero))))) p h a = a
+  own (suc (suc (suc (suc (suc (suc zero)))))) p h a = a
+  own (suc (suc (suc (suc (suc (suc (suc k))))))) p h a = absurd (omega arith)
+
+  -- Nothing from 10 on applies to a chain alone.
+  past : (k p : ℕ) → Applies bare (alone l) (suc (suc (suc (suc (suc (suc (suc (suc (suc (suc k)))))))))) p → ⊥
+  past zero p a = a
+  past (suc zero) p a = a
+  past (suc (suc k)) p a = a
+
+  numbered : (k p : ℕ) → Applies bare (alone l) k p → k < 10
+  numbered k p a =
+      ⊎-elim (λ h. h)
+      (λ (h : 10 ≤ k).
+      let e : k ≡ suc (suc (suc (suc (suc (suc (suc (suc (suc (suc (k - 10)))))))))) = omega arith in
+      absurd (past (k - 10) p (subst (λ k. Applies bare (alone l) k p) e a)))
+      (below k 10)
+
+  -- Where 1 and 2 do not apply.
+  module _ (clear : (k p : ℕ) → k < 3 → Applies x l k p → ⊥) where
+    back : (k p : ℕ) → k < 10 → Applies x l k p → Applies bare (alone l) k p
+    back k p h a =
+        ⊎-elim (λ (g : k < 3). absurd (clear k p g a))
+        (λ (g : 3 ≤ k).
+        let e : 3 + (k - 3) ≡ k = omega arith in
+        subst (λ k. Applies bare (alone l) k p) e (own (k - 3) p (omega arith) (subst (λ k. Applies x l k p) (sym e) a)))
+        (below k 3)
+
+    pub bare-refuses : {number place : ℕ} → Refused bare (alone l) number place → Refused x l number place
+    bare-refuses {number} {place} r =
+        let n = numbered number place (r .applies) in
+        record {
+          applies = entails-at among number place (r .applies);
+          number-least = λ k p h a. r .number-least k p h (back k p (omega arith) a);
+          place-least = λ p h a. r .place-least p h (back number p n a);
+        }
+
+    pub bare-clears : WellFormed bare (alone l) → (k p : ℕ) → k < 10 → Applies x l k p → ⊥
+    bare-clears formed k p h a = formed .none k p (back k p h a)

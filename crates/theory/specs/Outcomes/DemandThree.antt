@@ -1,0 +1,134 @@
+-- Demand 3 in its own words, from the outcome relation alone: for a well-formed chain and any order always two fractions, the chance between
+-- them, both equal to it if nothing was rounded.
+use Prim.Native.Nat.{ℕ, _+_, _*_, _≤_, _<_}
+use mathlib.Core.Path.{_≡_, refl, sym, ap, subst}
+use mathlib.Core.List.{List}
+use native.Mathlib.Omega.{arith}
+use native.Mathlib.Nat.{le-of-mul-le-mul-left, mul-le-mul-left, mul-pos}
+use Rattle.meaning.specs.Number.{Reduced}
+use Rattle.meaning.specs.Chain.{Chain, Live}
+use Rattle.meaning.specs.Figure.{Chance}
+use Rattle.meaning.specs.Row.{cell, goalColumn, unknownColumn, exact, rounding}
+use Rattle.meaning.specs.Step.{Sets, Right, outside}
+use Rattle.meaning.specs.Refusal.{Lent, plain, WellFormed}
+use Rattle.meaning.specs.Stop.{earns, Stops, before-steps, in-step, at-turn}
+use Rattle.meaning.specs.Outcome.{refused, stopped, answered, Bounds, between, lastRow, BoundsFigure, BoundsOutcome}
+use Rattle.meaning.specs.Demand.{AtMost, ChanceBetween, BothChance, Unrounded}
+use Rattle.theory.specs.Figures.Shares.{shares-exist}
+use Rattle.theory.specs.Outcomes.Formed.{formed-fine, start-in, unpaid}
+use Rattle.theory.specs.Outcomes.Whole.{
+  formed-prepared,
+  lower-bound,
+  upper-bound,
+  lower-chance,
+  upper-chance,
+  bounds-whole,
+  no-stuck,
+  chance-won,
+  chance-lost,
+}
+use Rattle.theory.specs.Figures.Unique.{chance-one}
+
+-- A fraction in lowest terms keeps its place beside x over d: a over b is x over d's lower, or upper, bound.
+below-share : (a b p q d x s t : ℕ) → 0 < b → 0 < d → Reduced a b p q → s * d ≡ x * t → a * d ≤ x * b → AtMost p q s t
+below-share a b p q d x s t whole above r e h =
+    le-of-mul-le-mul-left {k = b * d}
+    (omega (arith, ap (λ z. z * (d * t)) (r .same), ap (λ z. z * (b * q)) e, mul-le-mul-left (q * t) h)) (mul-pos whole above)
+
+above-share : (a b p q d x s t : ℕ) → 0 < b → 0 < d → Reduced a b p q → s * d ≡ x * t → x * b ≤ a * d → AtMost s t p q
+above-share a b p q d x s t whole above r e h =
+    le-of-mul-le-mul-left {k = b * d}
+    (omega (arith, ap (λ z. z * (d * t)) (r .same), ap (λ z. z * (b * q)) e, mul-le-mul-left (q * t) h)) (mul-pos whole above)
+
+module _ (l : Lent) (formed : WellFormed plain l) where
+  abbrev c : Chain
+  c = l .chain
+
+  -- A chance that is known is both of its bounds.
+  known : (u v : ℕ) → Chance c u v → ChanceBetween c (between u v u v)
+  known u v h =
+      record {
+        lower-lowest = h .lowest;
+        upper-lowest = h .lowest;
+        lower = λ p q k. let o = chance-one (formed-fine plain l formed) h k in rw (o .0, o .1) (omega arith);
+        upper = λ p q k. let o = chance-one (formed-fine plain l formed) h k in rw (o .0, o .1) (omega arith);
+      }
+
+  module _ (k : Sets) (right : Right c k) (alive : Live c (c .start)) (p q s t : ℕ)
+      (lowest : Reduced (cell (lastRow l k) (goalColumn (c .states))) (outside (c .states) (c .start) (lastRow l k)) p q)
+      (highest
+      : Reduced (cell (lastRow l k) (goalColumn (c .states)) + cell (lastRow l k) (unknownColumn (c .states)))
+      (outside (c .states) (c .start) (lastRow l k)) s t)
+    where
+      whole : 0 < outside (c .states) (c .start) (lastRow l k)
+      whole =
+          bounds-whole c k (l .order) (formed-prepared plain l formed refl k right) (earns l) alive (unpaid plain l formed refl)
+
+      live-holds : ChanceBetween c (between p q s t)
+      live-holds =
+          let ready = formed-prepared plain l formed refl k right in
+          let free = unpaid plain l formed refl in
+          let (d, x, share) = shares-exist (formed-fine plain l formed) in
+          record {
+            lower-lowest = lowest .lowest;
+            upper-lowest = highest .lowest;
+            lower = λ u v h.
+                below-share _ _ p q d (x (c .start)) u v whole (share .whole) lowest (h .share d x share)
+                (lower-bound c k (l .order) ready (earns l) alive free d x share);
+            upper = λ u v h.
+                above-share _ _ s t d (x (c .start)) u v whole (share .whole) highest (h .share d x share)
+                (upper-bound c k (l .order) ready (earns l) alive free d x share);
+          }
+
+      live-equal : Unrounded l → Chance c p q × Chance c s t
+      live-equal none =
+          let ready = formed-prepared plain l formed refl k right in (
+            lower-chance c k (l .order) ready (earns l) alive (none k right) p q lowest,
+            upper-chance c k (l .order) ready (earns l) alive (none k right) s t highest,
+          )
+
+  apart : rounding ≡ exact → ⊥
+  apart e = let z : _≡_ {A = ℕ} 0 1 = cc in omega arith
+
+  -- Nothing stops the bounds engine.
+  stop-none : (k : Sets) → Right c k → {number place : ℕ} → Stops rounding l k number place → ⊥
+  stop-none k right (before-steps f) = apart (f .0)
+  stop-none k right (in-step p h w d f) = apart (f .0)
+  stop-none k right (at-turn p h w d) = no-stuck rounding plain l formed refl k right (λ _. unpaid plain l formed refl) p h d
+
+  -- Two fractions: what holds of every figure holds of every outcome.
+  module _ (P : Bounds → Type 0) (a : Bounds) (w : List ℕ) (figure : (b : Bounds) → BoundsFigure l b → P b) where
+    outcome : BoundsOutcome l a w → P a
+    outcome (refused n p r e s) = absurd (formed .none n p (r .applies))
+    outcome (stopped n p f t e s) = absurd (stop-none (t .sets) (t .right) (t .stops))
+    outcome (answered f t g s) = figure a g
+
+  module _ (a : Bounds) (w : List ℕ) where
+    -- The entry for the bounds never refuses a well-formed chain.
+    pub bounds-answer : BoundsOutcome l a w → a .number ≡ 0
+    bounds-answer = outcome (λ b. b .number ≡ 0) a w nought
+      where
+        nought : (b : Bounds) → BoundsFigure l b → b .number ≡ 0
+        nought b (BoundsFigure.won g e) = ap (λ (z : Bounds). z .number) e
+        nought b (BoundsFigure.lost g e) = ap (λ (z : Bounds). z .number) e
+        nought b (BoundsFigure.live k r v p q s t f e) = ap (λ (z : Bounds). z .number) e
+
+    -- The chance lies between its two fractions, which are in lowest terms.
+    pub bounds-hold : BoundsOutcome l a w → ChanceBetween c a
+    bounds-hold = outcome (ChanceBetween c) a w held
+      where
+        held : (b : Bounds) → BoundsFigure l b → ChanceBetween c b
+        held b (BoundsFigure.won g e) = subst (ChanceBetween c) (sym e) (known 1 1 (chance-won c (start-in plain l formed) g))
+        held b (BoundsFigure.lost g e) = subst (ChanceBetween c) (sym e) (known 0 1 (chance-lost c (start-in plain l formed) g))
+        held b (BoundsFigure.live k r v p q s t f e) = subst (ChanceBetween c) (sym e) (live-holds k r v p q s t (f .0) (f .1))
+
+    -- Both are the chance where no row was rounded.
+    pub bounds-equal : Unrounded l → BoundsOutcome l a w → BothChance c a
+    bounds-equal none = outcome (BothChance c) a w equal
+      where
+        equal : (b : Bounds) → BoundsFigure l b → BothChance c b
+        equal b (BoundsFigure.won g e) =
+            let h = chance-won c (start-in plain l formed) g in subst (BothChance c) (sym e) (h, h)
+        equal b (BoundsFigure.lost g e) =
+            let h = chance-lost c (start-in plain l formed) g in subst (BothChance c) (sym e) (h, h)
+        equal b (BoundsFigure.live k r v p q s t f e) = subst (BothChance c) (sym e) (live-equal k r v p q s t (f .0) (f .1) none)

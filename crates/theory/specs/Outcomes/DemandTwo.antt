@@ -1,0 +1,155 @@
+-- Demand 2 in its own words, from the outcome relations alone: for a well-formed chain and any order the exact entries give the figure in
+-- lowest terms, and refuse exactly when a kept row in lowest terms does not fit.
+use Prim.Native.Nat.{ℕ, suc, _<_}
+use mathlib.Core.Path.{_≡_, refl, sym, ap, subst, _∙_}
+use mathlib.Core.Logic.{_⊎_, inl, inr, _↔_}
+use mathlib.Core.Bool.{true}
+use mathlib.Core.List.{List}
+use native.Mathlib.Omega.{arith}
+use Rattle.meaning.specs.Chain.{Live}
+use Rattle.meaning.specs.Figure.{Chance, Missed, Expected}
+use Rattle.meaning.specs.Row.{exact, rounding}
+use Rattle.meaning.specs.Step.{Sets, Right}
+use Rattle.meaning.specs.Refusal.{Lent, Entry, plain, paid, WellFormed}
+use Rattle.meaning.specs.Stop.{earns, NoWay, Stops, before-steps, in-step, at-turn, Stopped}
+use Rattle.meaning.specs.Outcome.{refused, stopped, answered, Answer, infinite, ChanceFigure, ChanceOutcome, RewardFigure, RewardOutcome}
+use Rattle.meaning.specs.Demand.{NoFitAnywhere}
+use Rattle.theory.specs.Figures.Unique.{chance-one, expected-one}
+use Rattle.theory.specs.Outcomes.Formed.{formed-fine, start-in}
+use Rattle.theory.specs.Outcomes.Whole.{no-stuck}
+use Rattle.theory.specs.Outcomes.Halt.{Halted, stops, runs, halt}
+
+module _ (x : Entry) (l : Lent) (formed : WellFormed x l) (ordered : x .order ≡ true) where
+  never-stuck : (k : Sets) → Right (l .chain) k → (p : ℕ) → p < l .chain .states → NoWay exact l k p → ⊥
+  never-stuck k right = no-stuck exact x l formed ordered k right (λ e. absurd (apart e))
+    where
+      apart : exact ≡ rounding → ⊥
+      apart e = let z : _≡_ {A = ℕ} 0 1 = cc in omega arith
+
+  -- What stops the exact engine is 12, and a row that is large.
+  stop-twelve : (k : Sets) → Right (l .chain) k → {number place : ℕ} → Stops exact l k number place → number ≡ 12
+  stop-twelve k right (before-steps f) = refl
+  stop-twelve k right (in-step p h w d f) = refl
+  stop-twelve k right (at-turn p h w d) = absurd (never-stuck k right p h d)
+
+  pub stopped-twelve : {number place : ℕ} → Stopped exact l number place → number ≡ 12
+  stopped-twelve s = stop-twelve (s .sets) (s .right) (s .stops)
+
+  stop-large : (k : Sets) → Right (l .chain) k → Live (l .chain) (l .chain .start) → {number place : ℕ} → Stops exact l k number place → NoFitAnywhere l
+  stop-large k right alive (before-steps f) =
+      record { sets = k; right = right; alive = alive; position = 0; inside = omega arith; large = f }
+  stop-large k right alive (in-step p h w d f) =
+      record { sets = k; right = right; alive = alive; position = suc p; inside = h; large = f }
+  stop-large k right alive (at-turn p h w d) = absurd (never-stuck k right p h d)
+
+  pub stopped-large : {number place : ℕ} → Stopped exact l number place → NoFitAnywhere l
+  stopped-large s = stop-large (s .sets) (s .right) (s .alive) (s .stops)
+
+  -- And a row that is large stops it.
+  pub large-stopped : NoFitAnywhere l → (number : ℕ) × (place : ℕ) × Stopped exact l number place
+  large-stopped h = go (halt exact l (h .sets))
+    where
+      go : Halted exact l (h .sets) → (number : ℕ) × (place : ℕ) × Stopped exact l number place
+      go (stops number place s) =
+          (number, place, record { sets = h .sets; right = h .right; alive = h .alive; stops = s })
+      go (runs w) = absurd (w .fits (h .position) (h .inside) (h .large))
+
+number-is : {a b : Answer} → a ≡ b → a .number ≡ b .number
+number-is e = ap (λ (z : Answer). z .number) e
+
+nought-and-twelve : (number : ℕ) → number ≡ 0 → number ≡ 12 → ⊥
+nought-and-twelve number e f = omega arith
+
+pub chance-of : {l : Lent} {a : Answer} → ChanceFigure l a → Chance (l .chain) (a .numerator) (a .denominator)
+chance-of {l} (ChanceFigure.chance p q h e) = subst (λ (z : Answer). Chance (l .chain) (z .numerator) (z .denominator)) (sym e) h
+
+-- The entry for the chance.
+module _ (l : Lent) (formed : WellFormed plain l) (a : Answer) (w : List ℕ) where
+  -- It answers, or refuses with 12.
+  pub chance-answers : ChanceOutcome l a w → (a .number ≡ 0) ⊎ (a .number ≡ 12)
+  chance-answers (refused n p r e s) = absurd (formed .none n p (r .applies))
+  chance-answers (stopped n p f t e s) = inr (number-is e ∙ stopped-twelve plain l formed refl t)
+  chance-answers (answered f t (ChanceFigure.chance p q h e) s) = inl (number-is e)
+
+  -- The fraction is the chance in lowest terms.
+  pub chance-is : ChanceOutcome l a w → a .number ≡ 0 → Chance (l .chain) (a .numerator) (a .denominator)
+  chance-is (refused n p r e s) z = absurd (formed .none n p (r .applies))
+  chance-is (stopped n p f t e s) z =
+      absurd (nought-and-twelve (a .number) z (number-is e ∙ stopped-twelve plain l formed refl t))
+  chance-is (answered f t g s) z = chance-of g
+
+  -- It refuses exactly when a kept row in lowest terms does not fit.
+  pub chance-refuses : ChanceOutcome l a w → (a .number ≡ 12) ↔ NoFitAnywhere l
+  chance-refuses (refused n p r e s) = absurd (formed .none n p (r .applies))
+  chance-refuses (stopped n p f t e s) =
+      (λ _. stopped-large plain l formed refl t, λ _. number-is e ∙ stopped-twelve plain l formed refl t)
+  chance-refuses (answered f t (ChanceFigure.chance p q h e) s) = (
+    λ z. absurd (nought-and-twelve (a .number) (number-is e) z),
+    λ large. let u = large-stopped plain l formed refl large in absurd (t (u .0) (u .1) (u .2)),
+  )
+
+-- Two orders that both answer give one fraction.
+pub chance-any-order : (l l′ : Lent) → WellFormed plain l → WellFormed plain l′ → l .chain ≡ l′ .chain → (a a′ : Answer) (w w′ : List ℕ)
+    → ChanceOutcome l a w → ChanceOutcome l′ a′ w′ → a .number ≡ 0 → a′ .number ≡ 0
+    → (a .numerator ≡ a′ .numerator) × (a .denominator ≡ a′ .denominator)
+chance-any-order l l′ formed formed′ same a a′ w w′ o o′ z z′ =
+    chance-one (formed-fine plain l formed) (chance-is l formed a w o z)
+    (subst (λ c. Chance c (a′ .numerator) (a′ .denominator)) (sym same) (chance-is l′ formed′ a′ w′ o′ z′))
+
+-- The entry for the expected reward.
+module _ (l : Lent) (formed : WellFormed paid l) (a : Answer) (w : List ℕ) where
+  pub reward-answers : RewardOutcome l a w → (a .number ≡ 0) ⊎ (a .number ≡ 12)
+  reward-answers (refused n p r e s) = absurd (formed .none n p (r .applies))
+  reward-answers (stopped n p f t e s) = inr (number-is e ∙ stopped-twelve paid l formed refl (t .1))
+  reward-answers (answered f t (RewardFigure.missed m e) s) = inl (number-is e)
+  reward-answers (answered f t (RewardFigure.expected u p q h e) s) = inl (number-is e)
+
+  -- It is infinite exactly when the goal may be missed.
+  pub reward-infinite : RewardOutcome l a w → (a ≡ infinite) ↔ Missed (l .chain)
+  reward-infinite (refused n p r e s) = absurd (formed .none n p (r .applies))
+  reward-infinite (stopped n p f t e s) = (
+    λ i.
+        absurd
+        (nought-and-twelve (a .number) (number-is i)
+        (number-is e ∙ stopped-twelve paid l formed refl (t .1))),
+    λ m. absurd (t .0 m),
+  )
+  reward-infinite (answered f t (RewardFigure.missed m e) s) = (λ _. m, λ _. e)
+  reward-infinite (answered f t (RewardFigure.expected u p q h e) s) = (
+    λ i. absurd (let z : q ≡ 0 = ap (λ (z : Answer). z .denominator) (sym e ∙ i) in omega (arith, h .lowest .whole)),
+    λ m. absurd (u m),
+  )
+
+  -- Otherwise the fraction is the expected reward in lowest terms.
+  pub reward-is : RewardOutcome l a w → a .number ≡ 0 → (Missed (l .chain) → ⊥)
+      → Expected (l .chain) (earns l) (a .numerator) (a .denominator)
+  reward-is (refused n p r e s) z u = absurd (formed .none n p (r .applies))
+  reward-is (stopped n p f t e s) z u =
+      absurd (nought-and-twelve (a .number) z (number-is e ∙ stopped-twelve paid l formed refl (t .1)))
+  reward-is (answered f t (RewardFigure.missed m e) s) z u = absurd (u m)
+  reward-is (answered f t (RewardFigure.expected u p q h e) s) z _ =
+      subst (λ (z : Answer). Expected (l .chain) (earns l) (z .numerator) (z .denominator)) (sym e) h
+
+  -- It refuses exactly when the goal is not missed and a kept row in lowest terms does not fit.
+  pub reward-refuses : RewardOutcome l a w → (a .number ≡ 12) ↔ ((Missed (l .chain) → ⊥) × NoFitAnywhere l)
+  reward-refuses (refused n p r e s) = absurd (formed .none n p (r .applies))
+  reward-refuses (stopped n p f t e s) = (
+    λ _. (t .0, stopped-large paid l formed refl (t .1)),
+    λ _. number-is e ∙ stopped-twelve paid l formed refl (t .1),
+  )
+  reward-refuses (answered f t g s) = (
+    λ z. absurd (nought-and-twelve (a .number) (zero-number g) z),
+    λ large. let u = large-stopped paid l formed refl (large .1) in absurd (t (u .0) (u .1) (large .0, u .2)),
+  )
+    where
+      zero-number : RewardFigure l a → a .number ≡ 0
+      zero-number (RewardFigure.missed m e) = number-is e
+      zero-number (RewardFigure.expected u p q h e) = number-is e
+
+pub reward-any-order : (l l′ : Lent) → WellFormed paid l → WellFormed paid l′ → l .chain ≡ l′ .chain → l .rewards ≡ l′ .rewards
+    → (Missed (l .chain) → ⊥) → (a a′ : Answer) (w w′ : List ℕ)
+    → RewardOutcome l a w → RewardOutcome l′ a′ w′ → a .number ≡ 0 → a′ .number ≡ 0
+    → (a .numerator ≡ a′ .numerator) × (a .denominator ≡ a′ .denominator)
+reward-any-order l l′ formed formed′ same paid′ sure a a′ w w′ o o′ z z′ =
+    expected-one (formed-fine paid l formed) (start-in paid l formed) sure (reward-is l formed a w o z sure)
+    (rw (same, paid′) (reward-is l′ formed′ a′ w′ o′ z′ (rw same at sure)))

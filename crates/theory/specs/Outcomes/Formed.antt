@@ -1,0 +1,137 @@
+-- What a well-formed input has, said positively.
+use Prim.Native.Nat.{ℕ, _%_, _^_, _≤_, _<_}
+use mathlib.Core.Path.{_≡_, refl, sym}
+use mathlib.Core.Logic.{inl, inr, ⊎-elim}
+use mathlib.Core.Bool.{Bool, true, false}
+use native.Mathlib.Omega.{arith}
+use lib.ListN.{length, getD, List·getD-eq-default}
+use Rattle.meaning.specs.Chain.{mostStates, mostEdges, M, mostReward, Chain, denominator, edgeSize, edgeCount, from, to, weight, along}
+use Rattle.meaning.specs.Refusal.{Lent, Entry, workSize, Misshaped, OrderFault, RewardFault, whole, lentFault, WellFormed}
+use Rattle.meaning.specs.Stop.{rewardOf, earns}
+use Rattle.theory.specs.Numbers.Sum.{below}
+use Rattle.theory.specs.Numbers.Every.{holds-every}
+use Rattle.theory.specs.Chains.Fine.{Fine}
+
+-- Facts whose contrary cannot be.
+equal : (x y : ℕ) → ((x ≡ y → ⊥) → ⊥) → x ≡ y
+equal x y f = meet (λ h. f (λ e. omega arith)) (λ h. f (λ e. omega arith))
+  where
+    meet : (x < y → ⊥) → (y < x → ⊥) → x ≡ y
+    meet f g = omega arith
+
+inside : (x y : ℕ) → (y ≤ x → ⊥) → x < y
+inside x y f = omega arith
+
+atMost : (x y : ℕ) → (y < x → ⊥) → x ≤ y
+atMost x y f = omega arith
+
+positive : (x : ℕ) → (x ≡ 0 → ⊥) → 0 < x
+positive x f = omega arith
+
+-- A table that is lent has its faults.
+lends : (b : Bool) (F : ℕ → Type 0) (p : ℕ) → b ≡ true → F p → lentFault b F p
+lends b F p e f = rw e f
+
+module _ (x : Entry) (l : Lent) (formed : WellFormed x l) where
+  abbrev c : Chain
+  c = l .chain
+
+  shape : Misshaped x (c .states) (length (c .denominators)) (length (c .edges)) (length (l .order)) (length (l .rewards)) → ⊥
+  shape f = formed .none 1 0 (refl, f)
+
+  pub some-states : 0 < c .states
+  some-states = positive _ (λ e. shape (Misshaped.no-states e))
+
+  pub few-states : c .states ≤ mostStates
+  few-states = atMost _ _ (λ h. shape (Misshaped.many-states h))
+
+  pub denominators-length : length (c .denominators) ≡ c .states
+  denominators-length = equal _ _ (λ f. shape (Misshaped.denominators-length f))
+
+  pub edges-whole : length (c .edges) % edgeSize ≡ 0
+  edges-whole = equal _ _ (λ f. shape (Misshaped.edges-ragged f))
+
+  pub few-edges : edgeCount (c .edges) ≤ mostEdges
+  few-edges = atMost _ _ (λ h. shape (Misshaped.many-edges h))
+
+  pub start-in : c .start < c .states
+  start-in = inside _ _ (λ h. formed .none 3 0 (refl, h))
+
+  pub some-goal : 0 < c .goals
+  some-goal = positive _ (λ e. formed .none 4 0 (refl, inl e))
+
+  pub goals-in : c .goals < 2 ^ c .states
+  goals-in = inside _ _ (λ h. formed .none 4 0 (refl, inr h))
+
+  module _ (i : ℕ) (h : i < c .states) where
+    pub denominator-small : denominator c i ≤ M
+    denominator-small = atMost _ _ (λ k. formed .none 5 i (h, inr k))
+
+    pub row-sum : along c i (λ _. 1) ≡ denominator c i
+    row-sum = equal _ _ (λ f. formed .none 9 i (h, f))
+
+  module _ (e : ℕ) (h : e < edgeCount (c .edges)) where
+    pub from-in : from (c .edges) e < c .states
+    from-in = inside _ _ (λ k. formed .none 6 e (h, inl k))
+
+    pub to-in : to (c .edges) e < c .states
+    to-in = inside _ _ (λ k. formed .none 6 e (h, inr k))
+
+    pub weight-positive : 0 < weight (c .edges) e
+    weight-positive = positive _ (λ z. formed .none 7 e (h, inl z))
+
+    pub weight-small : weight (c .edges) e ≤ M
+    weight-small = atMost _ _ (λ k. formed .none 7 e (h, inr k))
+
+  pub formed-fine : Fine c
+  formed-fine = record { targets = to-in; weights = weight-positive; sums = row-sum }
+
+  pub room : x .work ≡ true → workSize (c .states) ≤ length (l .work)
+  room lent =
+      atMost _ _ (λ h. formed .none 2 0 (lends (x .work) (whole (length (l .work) < workSize (c .states))) 0 lent (refl, h)))
+
+  -- The order is each state once.
+  module _ (lent : x .order ≡ true) where
+    order-fault : (p : ℕ) → OrderFault (c .states) (l .order) p → ⊥
+    order-fault p f = formed .none 10 p (lends (x .order) (OrderFault (c .states) (l .order)) p lent f)
+
+    pub order-length : length (l .order) ≡ c .states
+    order-length = equal _ _ (λ f. shape (Misshaped.order-length (λ e. f (rw lent at e))))
+
+    pub order-in : (p : ℕ) → p < c .states → getD (l .order) p 0 < c .states
+    order-in p h = inside _ _ (λ k. order-fault p (h, inl k))
+
+    pub order-new : (p : ℕ) → p < c .states → (o : ℕ) → o < p → getD (l .order) o 0 ≡ getD (l .order) p 0 → ⊥
+    order-new p h o k e = order-fault p (h, inr (o, (k, e)))
+
+    pub order-every : (i : ℕ) → i < c .states → (p : ℕ) × (p < c .states) × (getD (l .order) p 0 ≡ i)
+    order-every = holds-every (c .states) (λ p. getD (l .order) p 0) order-in once
+      where
+        once : (p q : ℕ) → p < c .states → q < c .states → getD (l .order) p 0 ≡ getD (l .order) q 0 → p ≡ q
+        once p q h k e =
+            ⊎-elim
+            (λ (a : p < q). absurd (order-new q k p a e))
+            (λ (a : q ≤ p).
+            ⊎-elim
+            (λ (b : q < p). absurd (order-new p h q b (sym e)))
+            (λ (b : p ≤ q). omega arith)
+            (below q p))
+            (below p q)
+
+  module _ (lent : x .rewards ≡ true) where
+    pub rewards-length : length (l .rewards) ≡ c .states
+    rewards-length = equal _ _ (λ f. shape (Misshaped.rewards-length (λ e. f (rw lent at e))))
+
+    pub reward-small : (i : ℕ) → i < c .states → getD (l .rewards) i 0 ≤ mostReward
+    reward-small i h =
+        atMost _ _ (λ k. formed .none 11 i (lends (x .rewards) (RewardFault (c .states) (l .rewards)) i lent (h, k)))
+
+  -- An entry that is not lent rewards has none.
+  pub reward-none : x .rewards ≡ false → (i : ℕ) → rewardOf l i ≡ 0
+  reward-none lent i =
+      List·getD-eq-default (l .rewards) 0 {n = i}
+      (let e : length (l .rewards) ≡ 0 = equal _ _ (λ f. shape (Misshaped.rewards-length (λ e. f (rw lent at e)))) in omega arith)
+
+  -- So nothing is earned there.
+  pub unpaid : x .rewards ≡ false → (i : ℕ) → earns l i ≡ 0
+  unpaid lent i = rw (reward-none lent i) (omega arith)
