@@ -13,7 +13,7 @@ use Rattle.figures.specs.Told.{toldAnswer, toldLimits}
 use Rattle.figures.specs.Found.{ChanceAsked, BoundsAsked, FiguresOutcome}
 use Rattle.figures.specs.declared.answer.Figures.{Figures}
 use Rattle.figures.specs.declared.Question.{Question}
-use Rattle.figures.proofs.Asked.{file-refused}
+use Rattle.figures.proofs.Numbered.{file-refused}
 
 -- A mode below that of the bounds is the default or exact.
 pub exact-mode : {mode : ℕ} → mode < boundsMode → (mode ≡ defaultMode) ⊎ (mode ≡ exactMode)

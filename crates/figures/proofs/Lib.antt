@@ -1,4 +1,4 @@
 pub mod Outcomes
 pub mod Opened
-pub mod Asked
+pub mod Numbered
 pub mod Unique

@@ -22,7 +22,7 @@ use Rattle.figures.specs.Told.{toldAnswer, toldLimits}
 use Rattle.figures.specs.Found.{Counted, bareIn, ReportAsked, FiguresOutcome, refused, accepted}
 use Rattle.figures.specs.declared.answer.Figures.{Figures}
 use Rattle.figures.specs.declared.Question.the-variants as question
-use Rattle.figures.proofs.Asked.{file-refused}
+use Rattle.figures.proofs.Numbered.{file-refused}
 use Rattle.report.specs.Lines.{Ends, chain, file, toldLines}
 use Rattle.report.specs.Stands.{Stands}
 use Rattle.report.proofs.Near.{refused-near, stopped-near, file-near}

@@ -22,9 +22,17 @@ fn from(name: &[u8], start: usize) {
     case(name, Chain::new(3, start, 2), &D, &E, &O, &R);
 }
 
-// With other tables than its own.
-fn with(name: &[u8], d: &[u64], e: &[u64], o: &[u64], r: &[u64]) {
-    case(name, Chain::new(3, 0, 2), d, e, o, r);
+// With another table than its own.
+fn with_edges(name: &[u8], edges: &[u64]) {
+    case(name, Chain::new(3, 0, 2), &D, edges, &O, &R);
+}
+
+fn with_order(name: &[u8], order: &[u64]) {
+    case(name, Chain::new(3, 0, 2), &D, &E, order, &R);
+}
+
+fn with_rewards(name: &[u8], rewards: &[u64]) {
+    case(name, Chain::new(3, 0, 2), &D, &E, &O, rewards);
 }
 
 fn lent(name: &[u8], work: usize)
@@ -89,31 +97,28 @@ fn cleared() {
     no_fit(b"M - 1 chain");
 }
 
-fn edges_misshaped() {
+fn many_edges(name: &[u8]) {
     let many = [0u64; 12291];
-    with(b"refusal 1, edges not in threes", &D, &E[..14], &O, &R);
-    with(b"refusal 1, 4097 edges", &D, &many, &O, &R);
+    with_edges(name, &many);
 }
 
-fn tables_misshaped() {
+fn many_states(name: &[u8]) {
     let longer = [1u64; 65];
-    with(b"refusal 1, an order too short", &D, &E, &O[..2], &R);
-    with(b"refusal 1, a reward too many", &D, &E, &O, &[1, 1, 1, 1]);
-    case(
-        b"refusal 1, 65 states",
-        Chain::new(65, 0, 2),
-        &longer,
-        &E,
-        &longer,
-        &longer,
-    );
+    case(name, Chain::new(65, 0, 2), &longer, &E, &longer, &longer);
+}
+
+fn misshaped() {
+    with_edges(b"refusal 1, edges not in threes", &E[..14]);
+    many_edges(b"refusal 1, 4097 edges");
+    with_order(b"refusal 1, an order too short", &O[..2]);
+    with_rewards(b"refusal 1, a reward too many", &[1, 1, 1, 1]);
+    many_states(b"refusal 1, 65 states");
 }
 
 fn main() {
     cleared();
     lent(b"work of 21 numbers", 21);
-    edges_misshaped();
-    tables_misshaped();
+    misshaped();
     lent(b"refusal 2", 20);
-    with(b"refusal 11", &D, &E, &O, &[1, 65536, 1]);
+    with_rewards(b"refusal 11", &[1, 65536, 1]);
 }

@@ -1,6 +1,6 @@
 use native.Mathlib.Omega.{arith}
 use borrow.Author.Needs.{needs}
-use Rattle.figures.proofs.Asked.{file-accepted}
+use Rattle.figures.proofs.Numbered.{file-accepted}
 use Rattle.egorstream.proofs.Called.{refused-file, refused-chain, replied, said-bounds}
 use Rattle.egorstream.proofs.call.between.Statement.{statement}
 use Rattle.egorstream.proofs.call.between.Tie as tie

@@ -1,6 +1,6 @@
 use native.Mathlib.Omega.{arith}
 use borrow.Author.Needs.{needs}
-use Rattle.figures.proofs.Asked.{file-accepted}
+use Rattle.figures.proofs.Numbered.{file-accepted}
 use Rattle.egorstream.proofs.Called.{refused-file, refused-chain, replied, exact-most, said-exactly}
 use Rattle.egorstream.proofs.call.exact.Statement.{statement}
 use Rattle.egorstream.proofs.call.exact.Tie as tie
