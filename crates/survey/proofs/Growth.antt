@@ -1,5 +1,5 @@
 -- How a set grows along the edges until it is whole.
-use Prim.Native.Nat.{ℕ, _+_, _^_, _≤_, _<_}
+use Prim.Native.Nat.{ℕ, _+_, _-_, _^_, _≤_, _<_}
 use mathlib.Core.Path.{_≡_, refl, sym, subst, _∙_}
 use mathlib.Core.Logic.{_↔_, ⊎-elim, inl, inr}
 use mathlib.Core.Bool.{Bool, true, false}
@@ -15,7 +15,7 @@ use Rattle.meaning.specs.Number.{bit}
 use Rattle.meaning.specs.Chain.{mostStates, edgeCount}
 use Rattle.meaning.specs.Refusal.{EndFault}
 use Rattle.theory.specs.Numbers.Bits.{in-either, in-one}
-use Rattle.survey.specs.Grow.{tail, head, Open, Way, Grown, sown, joined, Idle, AllIdle, Larger}
+use Rattle.survey.specs.Grow.{tail, head, Open, Way, Grown, sown, joined, inTurn, Idle, AllIdle, Larger}
 
 -- An equation that is tested decides what it is the same as.
 pub equals : (P : Type 0) (a b : ℕ) → (a ≡ b → P) → (P → a ≡ b) → decides P (eqb a b)
@@ -80,9 +80,27 @@ pub whole-set : {w : Way} {seed set i : ℕ} → ((i : ℕ) → bit seed i ≡ 1
 whole-set k idle (sown b) = k _ b
 whole-set k idle (joined e h g n) = idle e h (record { inside = whole-set k idle g; free = n })
 
--- One more edge of a pass.
-pub one-more : (w : Way) {set larger next e : ℕ} → Larger w (AllIdle w e) set larger → Larger w (Idle w e) larger next → Larger w (AllIdle w (e + 1)) set next
-one-more w {e = e} a b = again (λ z f g. below-more (λ d. Idle w d z) e f g) a b
+-- A pass over n edges: none of those at its first k places adds anything.
+abbrev pub Past : Way → ℕ → ℕ → ℕ → Type 0
+Past w n k set = (d : ℕ) → d < k → Idle w (inTurn (w .back) n d) set
+
+pub one-more : (w : Way) (n : ℕ) {set larger next e : ℕ} → Larger w (Past w n e) set larger
+    → Larger w (Idle w (inTurn (w .back) n e)) larger next → Larger w (Past w n (e + 1)) set next
+one-more w n {e = e} a b = again (λ z f g. below-more (λ d. Idle w (inTurn (w .back) n d) z) e f g) a b
+
+pub turn-below : (back : Bool) (n e : ℕ) → e < n → inTurn back n e < n
+turn-below true n e h = omega arith
+turn-below false n e h = h
+
+turn-back : (back : Bool) (n e : ℕ) → e < n → inTurn back n (inTurn back n e) ≡ e
+turn-back true n e h = omega arith
+turn-back false n e h = refl
+
+pub all-past : (w : Way) (n : ℕ) {set larger : ℕ} → Larger w (Past w n n) set larger → Larger w (AllIdle w n) set larger
+all-past w n a =
+    again
+    (λ z f u e h. subst (λ d. Idle w d z) (turn-back (w .back) n e h) (f (inTurn (w .back) n e) (turn-below (w .back) n e h)))
+    a (unchanged {Known = λ _. Unit {0}} tt)
 
 -- Once a pass adds nothing, the set is what grows from the seed.
 pub all-grown : (w : Way) (seed set larger : ℕ) → Larger w (λ _. Unit {0}) seed set → Larger w (AllIdle w (edgeCount (w .edges))) set larger

@@ -15,7 +15,7 @@ use Rattle.meaning.specs.Step.{Right}
 use Rattle.theory.specs.Numbers.Bits.{in-both, in-first, in-one, set-apart}
 use Rattle.theory.specs.Numbers.Sum.{same}
 use Rattle.chain.specs.Decide.{decides}
-use Rattle.survey.specs.Grow.{way, Grown, sown, joined}
+use Rattle.survey.specs.Grow.{Open, way, Grown, sown, joined}
 use Rattle.survey.specs.Sets.{Exactly, Alive, Astray}
 use Rattle.survey.proofs.Growth.{alike}
 
@@ -43,6 +43,27 @@ module _ (c : Chain) where
 
   pub start-grown : (set : ℕ) → Exactly (Grown (way false (c .goals) (c .edges)) (2 ^ c .start)) set → Exactly (FromStart c) set
   start-grown set f i = Iff·trans (f i) (from-start, to-start)
+
+-- A state is open where it is in what is left of the set once the barrier is taken out.
+pub open-set : (barrier set i : ℕ) → decides (Open barrier set i) (not (eqb (bitAnd (bitXor set (bitAnd set barrier)) (2 ^ i)) 0))
+open-set barrier set i = go (eqb there 0) refl
+  where
+    left : ℕ
+    left = bitXor set (bitAnd set barrier)
+
+    there : ℕ
+    there = bitAnd left (2 ^ i)
+
+    go : (t : Bool) → eqb there 0 ≡ t → decides (Open barrier set i) (not t)
+    go true e = λ o.
+        let b = in-both left (2 ^ i) i .1 (in-first set barrier i .1 (o .inside, o .free), in-one i i .1 refl) in
+        omega (arith, rw (eqb-true there 0 e, zero-div) at b)
+    go false e =
+        let w = set-apart there 0 (eqb-false there 0 e) in
+        let b : bit there (w .0) ≡ 1 = omega (arith, w .1, zero-div (2 ^ w .0)) in
+        let p = in-both left (2 ^ i) (w .0) .0 b in
+        let q = in-first set barrier i .0 (subst (λ j. bit left j ≡ 1) (in-one i (w .0) .0 (p .1)) (p .0)) in
+        record { inside = q .0; free = q .1 }
 
 module _ (good reached : ℕ) where
   pub alive-set : (goals : ℕ) → Exactly (Alive good reached goals) (bitXor (bitAnd good reached) (bitAnd (bitAnd good reached) goals))

@@ -1,5 +1,5 @@
 -- A set of states that grows along the edges: one pass over them makes it larger, and it is whole once a pass adds nothing.
-use Prim.Native.Nat.{ℕ, _≤_, _<_}
+use Prim.Native.Nat.{ℕ, _+_, _-_, _≤_, _<_}
 use mathlib.Core.Path.{_≡_}
 use mathlib.Core.Bool.{Bool, not}
 use mathlib.Core.List.{List}
@@ -36,6 +36,10 @@ pub data Grown (w : Way) (seed : ℕ) : ℕ → Type 0 where
 -- Edge e adds nothing to a set.
 abbrev pub Idle : Way → ℕ → ℕ → Type 0
 Idle w e set = Open (w .barrier) set (tail (w .back) (w .edges) e) → bit set (head (w .back) (w .edges) e) ≡ 1
+
+-- The edge at place e of a pass over n edges: backwards the last edge comes first.
+abbrev pub inTurn : Bool → ℕ → ℕ → ℕ
+inTurn back n e = choose back (n - (e + 1)) e
 
 -- None of the first k edges does.
 abbrev pub AllIdle : Way → ℕ → ℕ → Type 0

@@ -7,12 +7,11 @@ ghost use Rattle.meaning.specs.Number.{bit};
 ghost use Rattle.meaning.specs.Chain.{mostStates, edgeCount, ToGoal, FromStart};
 ghost use Rattle.meaning.specs.Refusal.{EndFault};
 ghost use Rattle.chain.specs.Decide.{decides};
-ghost use Rattle.survey.specs.Grow.{tail, Open, way, Grown, Joined, Passed};
+ghost use Rattle.survey.specs.Grow.{tail, Open, way, Grown, Joined, Passed, inTurn};
 ghost use Rattle.survey.specs.Sets.{chainOf, Exactly, Alive, Astray, Known};
 use crate::Sets;
 use chain::Chain;
 use chain::edge;
-use chain::set::holds;
 
 // The set of one state.
 fn alone(i: usize) -> u64
@@ -24,12 +23,11 @@ fn alone(i: usize) -> u64
 
 // Edges that leave state i lead on: it is in the set, and not in the barrier.
 fn is_open(barrier: u64, set: u64, i: usize) -> bool
+    requires { ⌜ i < mostStates ⌝ }
     ensures { λ r. ⌜ decides (Open barrier set i) r ⌝ }
 {
-    if holds(barrier, i) {
-        return false;
-    }
-    holds(set, i)
+    let open = set ^ (set & barrier);
+    open & alone(i) != 0
 }
 
 // The state from which edge e leads on. The head of an edge is its tail the other way.
@@ -56,6 +54,17 @@ fn join(back: bool, barrier: u64, set: u64, edges: &[u64], e: usize) -> u64
     set
 }
 
+// The edge at place e of a pass. Backwards the last edge comes first: where the states are numbered along the way, one pass then does most of it.
+fn turn(back: bool, count: usize, e: usize) -> usize
+    requires { ⌜ e < count ⌝ }
+    ensures { λ r. ⌜ r ≡ inTurn back count e ⌝ }
+{
+    if back {
+        return count - (e + 1);
+    }
+    e
+}
+
 // One pass over the edges, which adds to the set itself what each of them adds.
 fn pass(back: bool, barrier: u64, set: u64, edges: &[u64]) -> u64
     requires { ⌜ ((e : ℕ) → EndFault mostStates (now edges) e → ⊥) ⌝ }
@@ -65,7 +74,7 @@ fn pass(back: bool, barrier: u64, set: u64, edges: &[u64]) -> u64
     let mut larger = set;
     let mut e = 0;
     while e < count {
-        larger = join(back, barrier, larger, edges, e);
+        larger = join(back, barrier, larger, edges, turn(back, count, e));
         e += 1;
     }
     larger

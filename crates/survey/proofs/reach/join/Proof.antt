@@ -6,6 +6,11 @@ use borrow.Author.Needs.{needs}
 use Rattle.survey.proofs.reach.join.Statement.{statement}
 use Rattle.survey.proofs.reach.join.Tie as tie
 
+is-open-requires : tie.Need-is-open-requires
+is-open-requires c κs =
+    let a = c .before .before in
+    rw (c .tail .ensures) (end-below (a .args .back) (a .args .edges .now) (a .args .e) (a .pre .0) (a .pre .1))
+
 alone-requires : tie.Need-alone-requires
 alone-requires c κs =
     let a = c .before .before .before .before .before in
@@ -33,4 +38,4 @@ returns-2 c =
 pub join-spec : {M : Type 1} → statement M
 join-spec =
     tie.close
-    (tie.spec (λ c κs. search needs) (λ c κs. search needs) (λ c κs. search needs) alone-requires returns returns-2)
+    (tie.spec (λ c κs. search needs) is-open-requires (λ c κs. search needs) alone-requires returns returns-2)
