@@ -1,9 +1,9 @@
 -- The divisor of a row, and the row divided.
 use mathlib.Core.Path.{_≡_, sym, ap, _∙_}
 use mathlib.Core.Logic.{dite, ⊎-elim}
-use mathlib.Core.List.{List}
+use mathlib.Core.List.{List, [], _∷_}
 use Prim.Native.Nat.{ℕ, zero, suc, _-_, _*_, _/_, _≤_, _<_}
-use native.Mathlib.Nat.{div-le-self, zero-div, div-one, mul-div-le}
+use native.Mathlib.Nat.{div-le-self, zero-div, div-one, mul-div-le, mod-one}
 use native.Mathlib.Numerals.{sub-one}
 use native.Mathlib.Decide.{decLt}
 use native.Mathlib.Omega.{arith}
@@ -13,12 +13,23 @@ use borrow.Author.Tests.{eq-eqb, ne-eqb}
 use Rattle.meaning.specs.Number.{sumTo, gcd}
 use Rattle.meaning.specs.Row.{Row, cell, gcdOf, divisor, over, lowest}
 use Rattle.theory.specs.Numbers.Sum.{same, sum-le, sum-scale}
+use Rattle.theory.specs.Numbers.Gcd.{gcd-zero, gcd-step}
 use Rattle.theory.specs.Numbers.Tab.{tab-at, tab-length}
 
 pub gcdOf-more : (l : List ℕ) (j : ℕ) → 0 < j → j ≤ length l → gcdOf (drop (j - 1) l) ≡ gcd (getD l (j - 1) 0) (gcdOf (drop j l))
 unfolding gcdOf
 gcdOf-more l zero h g = absurd (omega arith)
 gcdOf-more l (suc j) h g = rw (sub-one, drop-cons l j 0)
+
+-- A divisor of 1 stays 1, whatever stands before it.
+gcd-one : (a : ℕ) → gcd a 1 ≡ 1
+gcd-one a = gcd-step a 1 ∙ rw (mod-one a) (gcd-zero 1)
+
+pub gcdOf-one : (j : ℕ) (l : List ℕ) → gcdOf (drop j l) ≡ 1 → gcdOf l ≡ 1
+unfolding gcdOf
+gcdOf-one zero l h = h
+gcdOf-one (suc j) [] h = h
+gcdOf-one (suc j) (x ∷ l) h = rw (gcdOf-one j l h) (gcd-one x)
 
 pub over-length : (d : ℕ) (r : Row) → length (over d r) ≡ length r
 unfolding over

@@ -17,7 +17,7 @@ pub(crate) const UNKNOWN: usize = 2;
 
 pub(crate) const REWARD: usize = 3;
 
-// The greatest common divisor of the numbers of a row, 0 where all are 0.
+// The greatest common divisor of the numbers of a row, 0 where all are 0. Once it is 1 the other numbers are not read.
 fn common(row: &[u64]) -> u64
     ensures { λ r. ⌜ r ≡ gcdOf (now (row .entry)) ⌝ }
 {
@@ -26,6 +26,9 @@ fn common(row: &[u64]) -> u64
     while 0 < j {
         j -= 1;
         g = gcd(row[j], g);
+        if g == 1 {
+            return 1;
+        }
     }
     g
 }

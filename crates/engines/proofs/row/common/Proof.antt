@@ -1,11 +1,11 @@
-use Prim.Native.Nat.{_≤_}
-use mathlib.Core.Path.{_≡_, sym, ap}
+use Prim.Native.Nat.{_≤_, _-_}
+use mathlib.Core.Path.{_≡_, sym, ap, _∙_}
 use native.Mathlib.Omega.{arith}
 use lib.ListN.{length, drop}
 use borrow.Author.Needs.{needs}
 use lib.Seq.{drop-length}
 use Rattle.meaning.specs.Row.{gcdOf}
-use Rattle.engines.proofs.Lowest.{gcdOf-more}
+use Rattle.engines.proofs.Lowest.{gcdOf-more, gcdOf-one}
 use Rattle.engines.proofs.row.common.Statement.{statement}
 use Rattle.engines.proofs.row.common.Tie as tie
 
@@ -19,14 +19,20 @@ loop-holds : tie.Need-loop-holds Inv-loop μ-loop
 unfolding gcdOf
 loop-holds c = (search needs, sym (ap gcdOf (drop-length (c .before .args .row .now))))
 
-loop-again : tie.Need-loop-again Inv-loop μ-loop
-loop-again c =
-    let k = c .before .before .before in
-    let m = gcdOf-more (k .before .before .args .row .now) (k .loop .j) (omega arith) (k .loop .inv .0) in
-    (omega arith, cc (m, c .gcd .ensures .is))
-
 returns : tie.Need-returns Inv-loop μ-loop
 returns c =
+    let k = c .before .before .before .before in
+    let m = gcdOf-more (k .before .before .args .row .now) (k .loop .j) (omega arith) (k .loop .inv .0) in
+    sym (gcdOf-one (k .loop .j - 1) (k .before .before .args .row .now) (cc (m, c .before .gcd .ensures .is, c .if1 .taken)))
+
+loop-again : tie.Need-loop-again Inv-loop μ-loop
+loop-again c =
+    let k = c .before .before .before .before in
+    let m = gcdOf-more (k .before .before .args .row .now) (k .loop .j) (omega arith) (k .loop .inv .0) in
+    (omega arith, cc (m, c .before .gcd .ensures .is))
+
+returns-2 : tie.Need-returns-2 Inv-loop μ-loop
+returns-2 c =
     let z : c .before .loop .j ≡ 0 = omega arith in
     rw z at (c .before .loop .inv .1)
 
@@ -41,6 +47,7 @@ common-spec =
     (λ c. search needs)
     (λ c. search needs)
     (λ c κs. search needs)
+    returns
     (λ c. search needs)
     loop-again
-    returns)
+    returns-2)
