@@ -1,12 +1,13 @@
--- What the exact entries and the bounds are held to: the words of demands 2 and 3.
-use Prim.Native.Nat.{ℕ, _*_, _≤_}
+-- What the exact entries and the bounds are held to: the words of demands 2 and 3, and that every D is above 0.
+use Prim.Native.Nat.{ℕ, _*_, _≤_, _<_}
+use mathlib.Core.Bool.{Bool}
 use Rattle.meaning.specs.Number.{Lowest}
 use Rattle.meaning.specs.Chain.{Chain, Live}
 use Rattle.meaning.specs.Figure.{Chance}
 use Rattle.meaning.specs.Row.{exact}
-use Rattle.meaning.specs.Step.{Sets, Right, RoundedAt}
+use Rattle.meaning.specs.Step.{row, Sets, Right, outside, RoundedAt}
 use Rattle.meaning.specs.Refusal.{Lent}
-use Rattle.meaning.specs.Stop.{earns, NoFit}
+use Rattle.meaning.specs.Stop.{earns, turn, tableAt, NoFit}
 use Rattle.meaning.specs.Outcome.{Bounds}
 
 -- In the exact engine a kept row in lowest terms does not fit, after some of the positions of the order. With the start a goal or not live
@@ -37,3 +38,15 @@ BothChance c a = Chance c (a .lowerNumerator) (a .lowerDenominator) × Chance c 
 -- The bounds engine rounds no row.
 abbrev pub Unrounded : Lent → Type 0
 Unrounded l = (k : Sets) → Right (l .chain) k → (p : ℕ) → p ≤ l .chain .states → RoundedAt (l .chain) k (earns l) (l .order) p → ⊥
+
+-- A live state has, at its turn, weight outside its own loop: D is above 0.
+abbrev pub OutsideAtTurn : Bool → Lent → Type 0
+OutsideAtTurn b l =
+    (k : Sets) → Right (l .chain) k → (p : ℕ) → p < l .chain .states → Live (l .chain) (turn l p)
+    → 0 < outside (l .chain .states) (turn l p) (row (tableAt b l k p) (turn l p))
+
+-- So has a live start at the end.
+abbrev pub OutsideAtEnd : Bool → Lent → Type 0
+OutsideAtEnd b l =
+    let c = l .chain in (k : Sets) → Right c k → Live c (c .start)
+    → 0 < outside (c .states) (c .start) (row (tableAt b l k (c .states)) (c .start))

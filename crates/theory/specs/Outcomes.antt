@@ -6,6 +6,7 @@ pub mod Look
 pub mod Halt
 pub mod Begin
 pub mod Whole
+pub mod Outside
 pub mod Computed
 pub mod Determined
 pub mod Entries

@@ -2,7 +2,7 @@
 use Prim.Native.Nat.{ℕ, _+_, _*_, _-_, _≤_, _<_}
 use mathlib.Core.Path.{_≡_, sym, ap}
 use mathlib.Core.Logic.{⊎-elim}
-use mathlib.Core.Bool.{Bool, true}
+use mathlib.Core.Bool.{Bool}
 use mathlib.Core.List.{List}
 use native.Mathlib.Omega.{arith}
 use native.Mathlib.Nat.{le-of-eq}
@@ -18,7 +18,7 @@ use Rattle.theory.specs.Stages.Removal.{steady-least, steady-most, stead
 use Rattle.theory.specs.Chains.Fine.{Fine}
 use Rattle.theory.specs.Stages.Given.{Alive, Columns, columns, columns-are, given-shares, given-earns}
 use Rattle.theory.specs.Stages.First.{first-least, first-most, first-known, first-sound}
-use Rattle.theory.specs.Stages.Stage.{Kept, sound-stage, loose-stage, steady-stage, kept-start, kept-turn, only-start, leaving}
+use Rattle.theory.specs.Stages.Stage.{Kept, sound-stage, loose-stage, steady-stage, kept-start, kept-turn, only-start}
 use Rattle.theory.specs.Figures.Below.{share-below}
 use Rattle.theory.specs.Rows.Flip.{Flips, flip-most, flipped}
 use Rattle.theory.specs.Rows.Lone.{lone-outside, lone-least, lone-most}
@@ -48,9 +48,11 @@ module _ (c : Chain) (k : Sets) (o : List ℕ) (ready : Prepared c k o) (b : Boo
   pub kept-loose : (p : ℕ) → p ≤ n → (i : ℕ) → Kept c k o p i → 0 < outside n i (row (stage b c k pay o p) i)
   kept-loose = loose-stage b c k pay o (ready .orders) sound
 
-  -- So has a state at its turn.
-  pub turn-loose : (p : ℕ) → p < n → leaving c k o p ≡ true → 0 < outside n (getD o p 0) (row (stage b c k pay o p) (getD o p 0))
-  turn-loose p h g = kept-loose p (omega arith) (getD o p 0) (kept-turn c k o p (ready .orders p h) (ready .once p h) g)
+  -- So has a live state at its turn.
+  pub turn-loose : (p : ℕ) → p < n → Live c (getD o p 0) → 0 < outside n (getD o p 0) (row (stage b c k pay o p) (getD o p 0))
+  turn-loose p h live =
+      kept-loose p (omega arith) (getD o p 0)
+      (kept-turn c k o p (ready .orders p h) (ready .once p h) (ready .right .live (getD o p 0) .1 live))
 
   -- In the exact engine nothing is Unknown.
   pub kept-known : b ≡ exact → (p : ℕ) → p ≤ n → (i : ℕ) → Kept c k o p i → cell (row (stage b c k pay o p) i) (n + 2) ≡ 0

@@ -5,9 +5,8 @@ use mathlib.Core.Logic.{⊎-elim}
 use mathlib.Core.Bool.{Bool, true, false}
 use mathlib.Core.List.{List}
 use native.Mathlib.Omega.{arith}
-use lib.Dec.{eqb}
 use lib.ListN.{getD}
-use borrow.Author.Tests.{eq-eqb, ne-eqb, eqb-true}
+use borrow.Author.Tests.{eq-eqb, ne-eqb}
 use Rattle.meaning.specs.Number.{choose, bit}
 use Rattle.meaning.specs.Chain.{Chain}
 use Rattle.meaning.specs.Row.{Row}
@@ -114,15 +113,11 @@ module _ (c : Chain) (k : Sets) (o : List ℕ) where
   only-start all i h q = let a = all i h in kept-not (c .states) i (a .0) q (a .1) (a .2)
 
   -- A state is kept until its turn.
-  pub kept-turn : (p : ℕ) → getD o p 0 < c .states → ((q : ℕ) → q < p → getD o q 0 ≡ getD o p 0 → ⊥) → leaving c k o p ≡ true
+  pub kept-turn : (p : ℕ) → getD o p 0 < c .states → ((q : ℕ) → q < p → getD o q 0 ≡ getD o p 0 → ⊥) → bit (k .live) (getD o p 0) ≡ 1
       → Kept c k o p (getD o p 0)
   unfolding Kept
-  kept-turn p h new g = go p (omega arith)
+  kept-turn p h new live = go p (omega arith)
     where
-      live : (t u : Bool) → choose t false u ≡ true → u ≡ true
-      live true u e = absurd (let z : _≡_ {A = ℕ} 0 1 = cc in omega arith)
-      live false u e = e
-
       go : (q : ℕ) → q ≤ p → Kept c k o q (getD o p 0)
-      go zero l = (h, eqb-true (bit (k .live) (getD o p 0)) 1 (live (eqb (getD o p 0) (c .start)) _ g))
+      go zero l = (h, live)
       go (suc q) l = (go q (omega arith), λ _ e. new q (omega arith) (sym e))
