@@ -17,7 +17,7 @@ use Rattle.engines.specs.Run.{endOf, won, lost, live, runs}
 use Rattle.engines.specs.declared.run.Course.{Course}
 use Rattle.engines.specs.declared.run.Course.the-variants.{Ends}
 use Rattle.engines.specs.declared.walk.Walk.{Walk}
-use Rattle.engines.specs.declared.walk.Walk.the-variants.{Done, NoFit, NoWay}
+use Rattle.engines.specs.declared.walk.Walk.the-variants.{Done, NoFit}
 use Rattle.engines.proofs.Removal.{row-is}
 
 -- A row of a table that was reached.
@@ -28,10 +28,9 @@ reached-row {n = n} {v = v} z i h = sym (row-is n v i h) ∙ ap (λ (t : Table).
 pub walk-kept : (b : Bool) (n : ℕ) (go : ℕ → Bool) (o v u : List ℕ) (r : Walk) → walked b n go o v u r → Kept n v u
 walk-kept b n go o v u Done z = z .reached .kept
 walk-kept b n go o v u (NoFit p) z = z .kept
-walk-kept b n go o v u (NoWay p) z = z .kept
 
 pub walk-done : (b : Bool) (n : ℕ) (go : ℕ → Bool) (o v u : List ℕ) (r : Walk) → walked b n go o v u r → r ≡ Done
-    → Finished b n go o (after b n go o (tableOf n v)) v u
+    → Finished b n (after b n go o (tableOf n v)) v u
 walk-done b n go o v u r z e = subst (walked b n go o v u) e z
 
 module _ (b : Bool) (l : Lent) (k : Sets) (right : Right (l .chain) k) where
@@ -65,18 +64,13 @@ module _ (b : Bool) (l : Lent) (k : Sets) (right : Right (l .chain) k) where
 
     -- The walk through the order, which begins with the first table, in v.
     module _ (v u : List ℕ) (same : tableOf n v ≡ firstTable) (r : Walk) (z : walked b n go (l .order) v u r) where
-      passed : (p : ℕ) → UnstoppedWalk b n go (l .order) (after b n go (l .order) (tableOf n v)) p → Passed b l k p
-      passed p c = record { fits = rw same at (c .fits); turns = rw same at (c .turns) }
+      passed : (p : ℕ) → UnstoppedWalk b n (after b n go (l .order) (tableOf n v)) p → Passed b l k p
+      passed p c = rw same at c
 
       pub stops-unfit : (p : ℕ) → r ≡ NoFit p → Stopped b l 12 p
       stops-unfit p e =
           let o = subst (walked b n go (l .order) v u) e z in
-          stops (Stops.in-step p (o .inside) (passed p (o .clear)) (rw same at (o .free)) (rw same at (o .unfit)))
-
-      pub stops-stuck : (p : ℕ) → r ≡ NoWay p → Stopped b l 13 p
-      stops-stuck p e =
-          let o = subst (walked b n go (l .order) v u) e z in
-          stops (Stops.at-turn p (o .inside) (passed p (o .clear)) (rw same at (o .stuck)))
+          stops (Stops.in-step p (o .inside) (passed p (o .clear)) (rw same at (o .unfit)))
 
       -- What is read off the start's row then.
       pub reads : l .chain .start < n → r ≡ Done → (c : Course) → c ≡ endOf n (l .chain .start) (rowAt n u (l .chain .start)) → runs b l c

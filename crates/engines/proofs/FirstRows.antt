@@ -22,7 +22,8 @@ use Rattle.theory.specs.Stages.Given.{Fate, live, won, lost, Alive, goes-to, gi
 use Rattle.theory.specs.Stages.First.{first-row}
 use Rattle.theory.specs.Outcomes.Formed.{few-states, room, formed-fine, from-in, denominators-length, denominator-small, reward-small, reward-none}
 use Rattle.engines.specs.Table.{rowAt, Renewed}
-use Rattle.engines.specs.First.{columnOf, share, Held, Gatherable, finished, finishedAt, Finishable, Makeable, Made}
+use Rattle.engines.specs.First.{columnOf, share, Held, Gatherable, finished, finishedAt, Finishable, Makeable}
+use Rattle.engines.specs.Turn.{Made}
 use Rattle.engines.proofs.Rows.{noRow-fit}
 use Rattle.engines.proofs.Tables.{kept-more, length-row}
 use Rattle.engines.proofs.Cells.{zero-row, share-dead, share-live}

@@ -1,18 +1,17 @@
 -- From what the figures are read off to the outcome of each entry.
-use Prim.Native.Nat.{ℕ, _+_, _≤_, _<_}
+use Prim.Native.Nat.{ℕ, _+_, _≤_}
 use mathlib.Core.Path.{_≡_, refl, sym, ap, ap₂, subst, _∙_}
 use mathlib.Core.Bool.{Bool}
 use mathlib.Core.List.{List}
 use mathlib.Core.Logic.{⊎-elim}
 use native.Mathlib.Omega.{arith}
-use native.Mathlib.Nat.{eq-zero-or-pos}
 use Rattle.meaning.specs.Number.{gcdIn, gcd, Reduced}
 use Rattle.meaning.specs.Chain.{M, Chain, FromStart}
 use Rattle.meaning.specs.Figure.{Chance, Missed, Expected}
 use Rattle.meaning.specs.Row.{cell, goalColumn, unknownColumn, exact, rounding, rewardColumn}
 use Rattle.meaning.specs.Row.{reward as rewardIn}
 use Rattle.meaning.specs.Step.{row, Sets, outside}
-use Rattle.meaning.specs.Refusal.{Lent, Entry, plain, paid, Applies, Refused, WellFormed}
+use Rattle.meaning.specs.Refusal.{Lent, plain, paid, Refused, WellFormed}
 use Rattle.meaning.specs.Stop.{earns, tableAt, Stopped}
 use Rattle.meaning.specs.Outcome.{cleared, refused, stopped, answered, refusal, ChanceFigure, ChanceOutcome, RewardFigure, noBounds, between, BoundsFigure, BoundsOutcome}
 use Rattle.theory.specs.Numbers.Sum.{sum-two}
@@ -187,4 +186,4 @@ module _ (l : Lent) (formed : WellFormed paid l) {w : List ℕ} (s : w ≡ clear
     pub reward-stops : {number place : ℕ} → r ≡ Stops number place → runs exact l r → Rewarded l (reward.Refused number place) w
     reward-stops q z =
         let y = subst (runs exact l) q z in
-        record { outcome = stopped _ _ formed (sure, y) refl s; proper = omega (arith, stopped-twelve paid l formed refl y) }
+        record { outcome = stopped _ _ formed (sure, y) refl s; proper = omega (arith, stopped-twelve y) }

@@ -11,12 +11,11 @@ use lib.ListN.{length}
 use Rattle.meaning.specs.Number.{choose}
 use Rattle.meaning.specs.Row.{Row, cell, rewardColumn}
 use Rattle.meaning.specs.Step.{row, outside, combined, renewed, removed}
-use Rattle.meaning.specs.Stop.{Unfit}
 use Rattle.theory.specs.Numbers.Sum.{sum-ext}
 use Rattle.theory.specs.Numbers.Tab.{tab-at, tab-ext}
 use Rattle.engines.specs.Row.{Fit}
 use Rattle.engines.specs.Table.{rowAt, tableOf, Kept, Placed, Renewed}
-use Rattle.engines.specs.Turn.{Reached}
+use Rattle.engines.specs.Turn.{Made}
 use Rattle.engines.proofs.Rows.{apart}
 use Rattle.engines.proofs.Tables.{kept-same, kept-more}
 
@@ -95,10 +94,6 @@ fit-same n p q h f =
 pub row-is : (n : ℕ) (w : List ℕ) (i : ℕ) → i < n → row (tableOf n w) i ≡ rowAt n w i
 row-is n w i h = tab-at n (rowAt n w) [] i h
 
--- D of the table's row of s.
-pub outside-is : (n s : ℕ) (w : List ℕ) → s < n → {d : ℕ} → d ≡ outside n s (rowAt n w s) → outside n s (row (tableOf n w) s) ≡ d
-outside-is n s w h e = rw (row-is n w s h) (sym e)
-
 module _ (b : Bool) (n s : ℕ) (w : List ℕ) (hs : s < n) (d : ℕ) (ed : d ≡ outside n s (rowAt n w s)) (p : Row)
     (ep : (j : ℕ) → cell p j ≡ cell (rowAt n w s) j) where
   next : ℕ → Row
@@ -119,15 +114,13 @@ module _ (b : Bool) (n s : ℕ) (w : List ℕ) (hs : s < n) (d : ℕ) (ed : d �
   table-removed v h = tab-ext n (rowAt n v) next (λ k l. h k l ∙ row-next k l)
 
   module _ {v : List ℕ} {answer : Bool} (z : Renewed b (λ k. renewed b n s d p (eqb k s) (rowAt n w k)) n w v answer) where
-    pub removed-all : answer ≡ true → Reached b n (removed b n s (tableOf n w)) w v
-    removed-all e =
+    pub removed-made : Made b n (removed b n s (tableOf n w)) w v answer
+    removed-made =
         record {
           kept = z .kept;
-          same = table-removed v (z .all e);
-          fit = λ i h. rw (row-removed i h) at (z .fit e i h);
+          reached = λ e.
+              record { kept = z .kept; same = table-removed v (z .all e); fit = λ i h. rw (row-removed i h) at (z .fit e i h) };
+          unfit = λ e.
+              let l = z .large e in
+              (l .0, (l .1 .0, (l .1 .1 .0, rw (row-removed (l .1 .0) (l .1 .1 .0)) at (l .1 .1 .1))));
         }
-
-    pub removed-unfit : answer ≡ false → Unfit b n (removed b n s (tableOf n w))
-    removed-unfit e =
-        let l = z .large e in
-        (l .0, (l .1 .0, (l .1 .1 .0, rw (row-removed (l .1 .0) (l .1 .1 .0)) at (l .1 .1 .1))))

@@ -1,13 +1,11 @@
 -- What an entry promises determines its answer, case and all, and the work table afterwards.
 use Prim.Native.Nat.{ℕ, _<_}
 use mathlib.Core.Path.{_≡_, ap}
-use mathlib.Core.Bool.{Bool}
 use mathlib.Core.List.{List}
 use native.Mathlib.Omega.{arith}
-use Rattle.meaning.specs.Step.{Sets}
 use Rattle.meaning.specs.Refusal.{Lent}
-use Rattle.meaning.specs.Stop.{Stops, before-steps, in-step, at-turn}
 use Rattle.meaning.specs.Outcome.{refused, stopped, answered, Answer, ChanceFigure, ChanceOutcome, Bounds as Numbers, BoundsFigure, BoundsOutcome}
+use Rattle.theory.specs.Outcomes.DemandTwo.{stopped-twelve}
 use Rattle.theory.specs.Outcomes.Entries.{chance-determined, reward-determined, bounds-determined}
 use Rattle.engines.specs.Answer.{toldChance, toldBounds, ProperChance, ProperBounds}
 use Rattle.engines.specs.declared.answer.Chance.{Chance}
@@ -19,12 +17,6 @@ use Rattle.engines.proofs.Told.{chance-told, reward-told, bounds-told}
 use Rattle.engines.specs.Told.{Rewarded}
 use Rattle.look.proofs.Refuse.{refused-some}
 
--- What stops an engine is 12 or 13, and so no answer.
-stop-some : {b : Bool} {l : Lent} {k : Sets} {number place : ℕ} → Stops b l k number place → 0 < number
-stop-some (before-steps f) = omega arith
-stop-some (in-step p h w d f) = omega arith
-stop-some (at-turn p h w d) = omega arith
-
 module _ {a b : Answer} (e : a ≡ b) where
   number : a .number ≡ b .number
   number = ap (λ (a : Answer). a .number) e
@@ -35,10 +27,10 @@ module _ {a b : Answer} (e : a ≡ b) where
 -- A fraction has a denominator above 0, and a refusal a number above 0.
 chance-proper : (l : Lent) (r : Chance) (w : List ℕ) → ChanceOutcome l (toldChance r) w → ProperChance r
 chance-proper l (chance.Is f) w (refused n p z e s) = absurd (omega (arith, number e, refused-some z))
-chance-proper l (chance.Is f) w (stopped n p v t e s) = absurd (omega (arith, number e, stop-some (t .stops)))
+chance-proper l (chance.Is f) w (stopped n p v t e s) = absurd (omega (arith, number e, stopped-twelve t))
 chance-proper l (chance.Is f) w (answered v t (ChanceFigure.chance p q h e) s) = omega (arith, denominator e, h .lowest .whole)
 chance-proper l (chance.Refused k i) w (refused n p z e s) = omega (arith, number e, refused-some z)
-chance-proper l (chance.Refused k i) w (stopped n p v t e s) = omega (arith, number e, stop-some (t .stops))
+chance-proper l (chance.Refused k i) w (stopped n p v t e s) = omega (arith, number e, stopped-twelve t)
 chance-proper l (chance.Refused k i) w (answered v t (ChanceFigure.chance p q h e) s) =
     absurd (omega (arith, denominator e, h .lowest .whole))
 
@@ -61,10 +53,10 @@ figure-proper l a (BoundsFigure.live k r v p q s t f e) =
 
 bounds-proper : (l : Lent) (r : Bounds) (w : List ℕ) → BoundsOutcome l (toldBounds r) w → ProperBounds r
 bounds-proper l (bounds.Between f h) w (refused n p z e s) = absurd (omega (arith, which e, refused-some z))
-bounds-proper l (bounds.Between f h) w (stopped n p v t e s) = absurd (omega (arith, which e, stop-some (t .stops)))
+bounds-proper l (bounds.Between f h) w (stopped n p v t e s) = absurd (omega (arith, which e, stopped-twelve t))
 bounds-proper l (bounds.Between f h) w (answered v t g s) = figure-proper l _ g
 bounds-proper l (bounds.Refused k i) w (refused n p z e s) = omega (arith, which e, refused-some z)
-bounds-proper l (bounds.Refused k i) w (stopped n p v t e s) = omega (arith, which e, stop-some (t .stops))
+bounds-proper l (bounds.Refused k i) w (stopped n p v t e s) = omega (arith, which e, stopped-twelve t)
 bounds-proper l (bounds.Refused k i) w (answered v t g s) = absurd (omega (arith, figure-proper l _ g .0))
 
 module _ (l : Lent) (w w′ : List ℕ) where

@@ -9,13 +9,11 @@ use Rattle.meaning.specs.Number.{only, choose, bit}
 use Rattle.meaning.specs.Chain.{mostStates, M, mostReward, Chain, denominator, edgeCount, from, to, weight, carried, rowSum}
 use Rattle.meaning.specs.Figure.{earned}
 use Rattle.meaning.specs.Row.{Row, cell, width, total, goalColumn, trapColumn, rewardColumn, settled, rounding}
-use Rattle.meaning.specs.Step.{Table, Sets, Right}
+use Rattle.meaning.specs.Step.{Sets, Right}
 use Rattle.meaning.specs.Refusal.{workSize}
-use Rattle.meaning.specs.Stop.{Unfit}
 use Rattle.theory.specs.Chains.Fine.{Fine}
 use Rattle.engines.specs.Row.{Fit}
 use Rattle.engines.specs.Table.{rowAt, Kept}
-use Rattle.engines.specs.Turn.{Reached}
 
 -- The column of a target in the row of a live state: its own where it is live, else Goal where it has a path to a goal, since then it is one,
 -- else Trap.
@@ -96,9 +94,3 @@ pub record Makeable (b : Bool) (c : Chain) (k : Sets) (rewards work : List ℕ) 
   pub right : Right c k
   pub paid : (i : ℕ) → i < c .states → getD rewards i 0 ≤ mostReward
   pub unpaid : b ≡ rounding → (i : ℕ) → getD rewards i 0 ≡ 0
-
--- The table t is made in v and each row of it fits, or one does not.
-pub record Made (b : Bool) (n : ℕ) (t : Table) (w v : List ℕ) (answer : Bool) : Type 0 where
-  pub kept : Kept n w v
-  pub reached : answer ≡ true → Reached b n t w v
-  pub unfit : answer ≡ false → Unfit b n t

@@ -1,45 +1,35 @@
 -- What the walk through the order does to the table, and what stops it.
 use mathlib.Core.Bool.{Bool}
 use mathlib.Core.List.{List}
-use Prim.Native.Nat.{ℕ, suc, _<_}
-use lib.ListN.{getD}
+use Prim.Native.Nat.{ℕ, suc, _≤_, _<_}
 use Rattle.meaning.specs.Step.{Table, goes, after}
-use Rattle.meaning.specs.Stop.{Unfit, Stuck, Unstopped}
+use Rattle.meaning.specs.Stop.{Unfit}
 use Rattle.engines.specs.Table.{tableOf, Kept}
 use Rattle.engines.specs.Turn.{Reached}
 use Rattle.engines.specs.declared.run.Elimination.{Elimination}
 use Rattle.engines.specs.declared.walk.Walk.{Walk}
-use Rattle.engines.specs.declared.walk.Walk.the-variants.{Done, NoFit, NoWay}
+use Rattle.engines.specs.declared.walk.Walk.the-variants.{Done, NoFit}
 
 -- Which states are removed at their turn.
 abbrev pub going : Elimination → ℕ → Bool
 going e = goes (e .chain .start) (e .sets .live)
 
--- Nothing stopped the walk up to the first p positions of the order o; t q is the table after the first q.
-abbrev pub UnstoppedWalk : Bool → ℕ → (ℕ → Bool) → List ℕ → (ℕ → Table) → ℕ → Type 0
-UnstoppedWalk b n go o t = Unstopped (λ q. Unfit b n (t q)) (λ q. Stuck n go (getD o q 0) (t q))
+-- Nothing stopped the walk up to the first p positions of the order; t q is the table after the first q.
+abbrev pub UnstoppedWalk : Bool → ℕ → (ℕ → Table) → ℕ → Type 0
+UnstoppedWalk b n t p = (q : ℕ) → q ≤ p → Unfit b n (t q) → ⊥
 
 -- The walk is done: the table in w has become t n, in v.
-pub record Finished (b : Bool) (n : ℕ) (go : ℕ → Bool) (o : List ℕ) (t : ℕ → Table) (w v : List ℕ) : Type 0 where
-  pub clear : UnstoppedWalk b n go o t n
+pub record Finished (b : Bool) (n : ℕ) (t : ℕ → Table) (w v : List ℕ) : Type 0 where
+  pub clear : UnstoppedWalk b n t n
   pub reached : Reached b n (t n) w v
 
 -- A row of the table after the step of position p does not fit.
-pub record Overflown (b : Bool) (n : ℕ) (go : ℕ → Bool) (o : List ℕ) (t : ℕ → Table) (w v : List ℕ) (p : ℕ) : Type 0 where
+pub record Overflown (b : Bool) (n : ℕ) (t : ℕ → Table) (w v : List ℕ) (p : ℕ) : Type 0 where
   pub inside : p < n
   pub kept : Kept n w v
-  pub clear : UnstoppedWalk b n go o t p
-  pub free : Stuck n go (getD o p 0) (t p) → ⊥
+  pub clear : UnstoppedWalk b n t p
   pub unfit : Unfit b n (t (suc p))
 
--- D is zero at position p.
-pub record Blocked (b : Bool) (n : ℕ) (go : ℕ → Bool) (o : List ℕ) (t : ℕ → Table) (w v : List ℕ) (p : ℕ) : Type 0 where
-  pub inside : p < n
-  pub kept : Kept n w v
-  pub clear : UnstoppedWalk b n go o t p
-  pub stuck : Stuck n go (getD o p 0) (t p)
-
 abbrev pub walked : Bool → ℕ → (ℕ → Bool) → List ℕ → List ℕ → List ℕ → Walk → Type 0
-walked b n go o w v Done = Finished b n go o (after b n go o (tableOf n w)) w v
-walked b n go o w v (NoFit p) = Overflown b n go o (after b n go o (tableOf n w)) w v p
-walked b n go o w v (NoWay p) = Blocked b n go o (after b n go o (tableOf n w)) w v p
+walked b n go o w v Done = Finished b n (after b n go o (tableOf n w)) w v
+walked b n go o w v (NoFit p) = Overflown b n (after b n go o (tableOf n w)) w v p

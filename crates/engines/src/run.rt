@@ -113,12 +113,6 @@ fn follow(
                 place: p,
             };
         }
-        Walk::NoWay(p) => {
-            return Course::Stops {
-                number: 13,
-                place: p,
-            };
-        }
         Walk::Done => {}
     }
     last_of(work, c.states, c.start, e.rounding)

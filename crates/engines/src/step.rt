@@ -7,23 +7,16 @@ ghost use Rattle.meaning.specs.Chain.{mostStates, M};
 ghost use Rattle.meaning.specs.Number.{choose};
 ghost use Rattle.meaning.specs.Row.{width, settled};
 ghost use Rattle.meaning.specs.Refusal.{workSize};
-ghost use Rattle.meaning.specs.Step.{row, combined, renewed, outside, removed};
+ghost use Rattle.meaning.specs.Step.{combined, renewed, outside, removed};
 ghost use Rattle.engines.specs.Row.{Small, Fit, Became};
 ghost use Rattle.engines.specs.Table.{rowAt, tableOf, Placed, Renewed, Fitting};
-ghost use Rattle.engines.specs.Turn.{Turned};
+ghost use Rattle.engines.specs.Turn.{Made};
 use crate::row::REWARD;
 use crate::row::settle;
 use crate::row::sum;
 use crate::work::clear;
 use crate::work::row_start;
 use chain::Chain;
-
-// How a step, or a turn, ends: done; with a row that does not fit; or with D zero, before the step.
-pub(crate) enum Turn {
-    Done,
-    NoFit,
-    NoWay,
-}
 
 // A cell of a row that the row of a state is put into: x of the row, p of the state's row, w the weight to the state.
 fn merge(x: u64, d: u64, w: u64, p: u64, gone: bool) -> u64
@@ -153,23 +146,16 @@ fn renew_all(
     true
 }
 
-// Removes the state s from the table.
-pub(crate) fn remove(work: &mut [u64], n: usize, s: usize, rounding: bool) -> Turn
+// Removes the state s from the table. Answers whether each row fits.
+pub(crate) fn remove(work: &mut [u64], n: usize, s: usize, rounding: bool) -> bool
     requires { ⌜ Fitting rounding n (now work) × (s < n) ⌝ }
     ensures { λ r.
         let w = now (work .entry) in
-        let t = tableOf n w in
-        ⌜ Turned rounding n (outside n s (row t s) ≡ 0) (removed rounding n s t) w (now (work .exit)) r ⌝ }
+        ⌜ Made rounding n (removed rounding n s (tableOf n w)) w (now (work .exit)) r ⌝ }
 {
     let a = row_start(n, s);
     let e = a + n + Chain::BESIDE;
     let d = outside(&work[a..e], n, s, rounding);
-    if d == 0 {
-        return Turn::NoWay;
-    }
     let pivot = load(&work[a..e]);
-    if renew_all(work, n, s, d, &pivot, rounding) {
-        return Turn::Done;
-    }
-    Turn::NoFit
+    renew_all(work, n, s, d, &pivot, rounding)
 }

@@ -12,7 +12,7 @@ pub mod Row
 pub mod Step
 -- "Numbers of refusal": what an entry is lent; 1 to 11, each with its place.
 pub mod Refusal
--- "Numbers of refusal": 12 and 13, which stop an elimination.
+-- "Numbers of refusal": 12, which stops an elimination.
 pub mod Stop
 -- "Numbers of refusal": what each entry answers, and its work table then.
 pub mod Outcome

@@ -15,7 +15,7 @@ use Rattle.meaning.specs.Stop.{earns, tableAt, Stopped}
 abbrev pub cleared : Lent → List ℕ
 cleared l = replicate (workSize (l .chain .states)) 0 ++ drop (workSize (l .chain .states)) (l .work)
 
--- The outcome of an entry: a refusal by the numbers 1 to 11, which leaves the work table unchanged; a stop by 12 or 13; or a figure.
+-- The outcome of an entry: a refusal by the numbers 1 to 11, which leaves the work table unchanged; a stop by 12; or a figure.
 pub data Outcome {A : Type 0} (x : Entry) (l : Lent) (refusal : ℕ → ℕ → A) (Stop : ℕ → ℕ → Type 0) (Figure : A → Type 0) (a : A) (work : List ℕ)
     : Type 0 where
   refused : (number place : ℕ) → Refused x l number place → a ≡ refusal number place → work ≡ l .work
@@ -48,7 +48,7 @@ infinite = fraction 1 0
 pub data ChanceFigure (l : Lent) (a : Answer) : Type 0 where
   chance : (p q : ℕ) → Chance (l .chain) p q → a ≡ fraction p q → ChanceFigure l a
 
--- The entry for the chance: 12 and 13 stop the exact engine.
+-- The entry for the chance: 12 stops the exact engine.
 abbrev pub ChanceOutcome : Lent → Answer → List ℕ → Type 0
 ChanceOutcome l = Outcome plain l refusal (Stopped exact l) (ChanceFigure l)
 
@@ -57,7 +57,7 @@ pub data RewardFigure (l : Lent) (a : Answer) : Type 0 where
   missed : Missed (l .chain) → a ≡ infinite → RewardFigure l a
   expected : (Missed (l .chain) → ⊥) → (p q : ℕ) → Expected (l .chain) (earns l) p q → a ≡ fraction p q → RewardFigure l a
 
--- 12 and 13 stop the exact engine where the reward is not infinite.
+-- 12 stops the exact engine where the reward is not infinite.
 abbrev pub RewardStop : Lent → ℕ → ℕ → Type 0
 RewardStop l number place = (Missed (l .chain) → ⊥) × Stopped exact l number place
 

@@ -27,7 +27,7 @@ fractionText p q = decimal p ++ bytesOf "/" ++ decimal q
 abbrev pub refusedText : ℕ → ℕ → List ℕ
 refusedText number place = bytesOf "refused " ++ decimal number ++ bytesOf " at " ++ decimal place
 
--- What stands in the line of an exact figure: 12 and 13 replace the fraction.
+-- What stands in the line of an exact figure: 12 replaces the fraction.
 abbrev pub answerText : Answer → List ℕ
 answerText a =
     choose (eqb (a .number) 0)

@@ -1,13 +1,13 @@
--- The numbers of refusal 12 and 13: what stops the elimination of a well-formed input, and at which place.
+-- The number of refusal 12: what stops the elimination of a well-formed input, and at which place.
 use Prim.Native.Nat.{ℕ, suc, _≤_, _<_}
 use mathlib.Core.Path.{_≡_}
 use mathlib.Core.Logic.{_⊎_}
-use mathlib.Core.Bool.{Bool, true}
+use mathlib.Core.Bool.{Bool}
 use lib.ListN.{getD}
 use Rattle.meaning.specs.Chain.{mostStates, M, Live}
 use Rattle.meaning.specs.Figure.{earned}
 use Rattle.meaning.specs.Row.{Row, total, reward, exact}
-use Rattle.meaning.specs.Step.{Table, row, Sets, Right, outside, goes, stage}
+use Rattle.meaning.specs.Step.{Table, row, Sets, Right, stage}
 use Rattle.meaning.specs.Refusal.{Lent}
 
 -- The reward of each state: 0 for an entry that is lent none.
@@ -34,33 +34,18 @@ Large n r = (M < total n r) ⊎ (M < reward n r)
 abbrev pub Unfit : Bool → ℕ → Table → Type 0
 Unfit b n t = (b ≡ exact) × ((i : ℕ) × ((i < n) × Large n (row t i)))
 
--- D is zero at the turn of the state s; `go` says which states are removed at their turn.
-abbrev pub Stuck : ℕ → (ℕ → Bool) → ℕ → Table → Type 0
-Stuck n go s t = (go s ≡ true) × (outside n s (row t s) ≡ 0)
-
--- Up to the first p positions no table has a row that does not fit, and at none of their turns D is zero.
-pub record Unstopped (NoFit NoWay : ℕ → Type 0) (p : ℕ) : Type 0 where
-  pub fits : (q : ℕ) → q ≤ p → NoFit q → ⊥
-  pub turns : (q : ℕ) → q < p → NoWay q → ⊥
-
 -- After the first p positions of the order a row does not fit.
 abbrev pub NoFit : Bool → Lent → Sets → ℕ → Type 0
 NoFit b l k p = Unfit b (l .chain .states) (tableAt b l k p)
 
--- D is zero at the turn of the state at position p.
-abbrev pub NoWay : Bool → Lent → Sets → ℕ → Type 0
-NoWay b l k p = Stuck (l .chain .states) (goes (l .chain .start) (k .live)) (turn l p) (tableAt b l k p)
-
 -- Nothing stopped the elimination up to the first p positions.
 abbrev pub Passed : Bool → Lent → Sets → ℕ → Type 0
-Passed b l k p = Unstopped (NoFit b l k) (NoWay b l k) p
+Passed b l k p = (q : ℕ) → q ≤ p → NoFit b l k q → ⊥
 
--- What stops the elimination first: 12 where a row does not fit, at the position of the step, or at 64 before the first step; 13 where D is
--- zero at a state's turn, at its position.
+-- What stops the elimination first: 12 where a row does not fit, at the position of the step, or at 64 before the first step.
 pub data Stops (b : Bool) (l : Lent) (k : Sets) : ℕ → ℕ → Type 0 where
   before-steps : NoFit b l k 0 → Stops b l k 12 mostStates
-  in-step : (p : ℕ) → p < l .chain .states → Passed b l k p → (NoWay b l k p → ⊥) → NoFit b l k (suc p) → Stops b l k 12 p
-  at-turn : (p : ℕ) → p < l .chain .states → Passed b l k p → NoWay b l k p → Stops b l k 13 p
+  in-step : (p : ℕ) → p < l .chain .states → Passed b l k p → NoFit b l k (suc p) → Stops b l k 12 p
 
 -- What stops an engine, with the chain's own sets. With the start a goal or not live no row is made, and nothing stops.
 pub record Stopped (b : Bool) (l : Lent) (number place : ℕ) : Type 0 where

@@ -1,6 +1,6 @@
 -- The lines of a file: the single line of a refusal, or seven.
 use Prim.Native.Nat.{ℕ, _*_, _≤_}
-use mathlib.Core.Path.{_≡_, refl, sym, ap, ap₂, subst, _∙_}
+use mathlib.Core.Path.{_≡_, sym, ap, ap₂, subst, _∙_}
 use mathlib.Core.List.{List, _++_}
 use native.Mathlib.Nat.{zero-add}
 use native.Mathlib.Omega.{arith}
@@ -15,24 +15,25 @@ use Rattle.meaning.specs.Text.{bytesOf}
 use Rattle.meaning.specs.Report.{refusedText, linesText, Report, printing, TextOutcome, reportRoom}
 use Rattle.theory.specs.Numbers.Tab.{tab-length}
 use Rattle.theory.specs.Outcomes.Formed.{few-states, few-edges}
+use Rattle.theory.specs.Outcomes.DemandTwo.{stopped-twelve}
 use Rattle.theory.specs.Outcomes.Entails.{fewer-formed}
 use Rattle.chainfile.specs.Written.{Room, Written}
 use Rattle.chainfile.proofs.Steps.{whole}
 use Rattle.figures.specs.Told.{toldAnswer, toldLimits}
-use Rattle.figures.specs.Found.{Counted, bareIn, ReportAsked, FiguresOutcome, refused, accepted}
+use Rattle.figures.specs.Found.{ReportAsked, FiguresOutcome, refused, accepted}
 use Rattle.figures.specs.declared.answer.Figures.{Figures}
 use Rattle.figures.specs.declared.Question.the-variants as question
 use Rattle.figures.proofs.Numbered.{file-refused}
 use Rattle.report.specs.Lines.{Ends, chain, file, toldLines}
 use Rattle.report.specs.Stands.{Stands}
-use Rattle.report.proofs.Near.{refused-near, stopped-near, file-near}
+use Rattle.report.proofs.Near.{refused-near, file-near}
 use Rattle.report.proofs.Lengths.{refusal-short}
 use Rattle.report.proofs.Room.{reward-near, report-short}
 
--- 12, 13 and 0 do not end the report.
-middle : {number : ℕ} → 12 ≤ number → number ≤ 13 → Ends number → ⊥
-middle l h (chain a b) = omega arith
-middle l h (file a b) = omega arith
+-- 12 and 0 do not end the report.
+twelve : {number : ℕ} → number ≡ 12 → Ends number → ⊥
+twelve e (chain a b) = omega arith
+twelve e (file a b) = omega arith
 
 nought : Ends 0 → ⊥
 nought (chain a b) = omega arith
@@ -53,7 +54,7 @@ module _ {l : Lent} {a : Answer} where
   pub ended : {w : List ℕ} → RewardOutcome l a w → Ends (a .number) → Refused paid l (a .number) (a .place)
   ended (Outcome.refused number place r e s) h = rw e r
   ended (Outcome.stopped number place f t e s) h =
-      let n = stopped-near f (t .1) in absurd (middle (n .0) (n .1) (subst Ends (ap (λ (a : Answer). a .number) e) h))
+      absurd (twelve (stopped-twelve (t .1)) (subst Ends (ap (λ (a : Answer). a .number) e) h))
   ended (Outcome.answered f t (RewardFigure.missed m e) s) h = absurd (nought (subst Ends (ap (λ (a : Answer). a .number) e) h))
   ended (Outcome.answered f t (RewardFigure.expected u p q x e) s) h = absurd (nought (subst Ends (ap (λ (a : Answer). a .number) e) h))
 

@@ -14,6 +14,7 @@ use Rattle.meaning.specs.File.{FileRefused}
 use Rattle.meaning.specs.Step.{Sets}
 use Rattle.theory.specs.Numbers.Sum.{below}
 use Rattle.theory.specs.Outcomes.Formed.{few-states}
+use Rattle.theory.specs.Outcomes.DemandTwo.{stopped-twelve}
 use Rattle.theory.specs.Files.FileOne.{file-numbers}
 use Rattle.chainfile.proofs.Tested.{bounded}
 use Rattle.report.specs.Lines.{Ends, chain, file}
@@ -89,16 +90,14 @@ refused-near {x} {l} (suc (suc k)) place r =
     let n = within-at (faults x l) (faults-within x l states edges) (suc (suc k)) place (r .applies) in
     (chain (omega arith) (omega arith), record { two = omega arith; four = omega arith })
 
--- The numbers 12 and 13.
-stops-near : {b : Bool} {l : Lent} {k : Sets} {number place : ℕ} → l .chain .states ≤ mostStates → Stops b l k number place
-    → (12 ≤ number) × (number ≤ 13) × Near number place
-stops-near h (Stops.before-steps f) = (omega arith, omega arith, record { two = omega arith; four = omega arith })
-stops-near h (Stops.in-step p l f g e) = (omega arith, omega arith, record { two = omega arith; four = omega arith })
-stops-near h (Stops.at-turn p l f g) = (omega arith, omega arith, record { two = omega arith; four = omega arith })
+-- The number 12.
+stop-place : {b : Bool} {l : Lent} {k : Sets} {number place : ℕ} → l .chain .states ≤ mostStates → Stops b l k number place → place ≤ mostStates
+stop-place h (Stops.before-steps f) = omega arith
+stop-place h (Stops.in-step p l f e) = omega arith
 
-pub stopped-near : {x : Entry} {b : Bool} {l : Lent} {number place : ℕ} → WellFormed x l → Stopped b l number place
-    → (12 ≤ number) × (number ≤ 13) × Near number place
-stopped-near {x} {b} {l} formed s = stops-near (few-states x l formed) (s .stops)
+pub stopped-near : {x : Entry} {b : Bool} {l : Lent} {number place : ℕ} → WellFormed x l → Stopped b l number place → Near number place
+stopped-near {x} {b} {l} formed s =
+    record { two = omega (arith, stopped-twelve s); four = omega (arith, stop-place (few-states x l formed) (s .stops)) }
 
 -- The numbers 20 to 24: a file that is refused has few blocks.
 file-place : {f : Input} {number place : ℕ} → FileRefused f number place → place ≤ 9999

@@ -26,18 +26,18 @@ nought = record { two = omega arith; four = omega arith }
 
 chance-near : {l : Lent} {a : Answer} {w : List ℕ} → ChanceOutcome l a w → Near (a .number) (a .place)
 chance-near (Outcome.refused number place r e s) = rw e (refused-near number place r .1)
-chance-near (Outcome.stopped number place f t e s) = rw e (stopped-near f t .2)
+chance-near (Outcome.stopped number place f t e s) = rw e (stopped-near f t)
 chance-near (Outcome.answered f t (ChanceFigure.chance p q h e) s) = rw e nought
 
 pub reward-near : {l : Lent} {a : Answer} {w : List ℕ} → RewardOutcome l a w → Near (a .number) (a .place)
 reward-near (Outcome.refused number place r e s) = rw e (refused-near number place r .1)
-reward-near (Outcome.stopped number place f t e s) = rw e (stopped-near f (t .1) .2)
+reward-near (Outcome.stopped number place f t e s) = rw e (stopped-near f (t .1))
 reward-near (Outcome.answered f t (RewardFigure.missed m e) s) = rw e nought
 reward-near (Outcome.answered f t (RewardFigure.expected u p q h e) s) = rw e nought
 
 bounds-near : {l : Lent} {a : Bounds} {w : List ℕ} → BoundsOutcome l a w → Near (a .number) (a .place)
 bounds-near (Outcome.refused number place r e s) = rw e (refused-near number place r .1)
-bounds-near (Outcome.stopped number place f t e s) = rw e (stopped-near f t .2)
+bounds-near (Outcome.stopped number place f t e s) = rw e (stopped-near f t)
 bounds-near (Outcome.answered f t (BoundsFigure.won g e) s) = rw e nought
 bounds-near (Outcome.answered f t (BoundsFigure.lost g e) s) = rw e nought
 bounds-near (Outcome.answered f t (BoundsFigure.live k r v p q u z h e) s) = rw e nought

@@ -11,12 +11,12 @@ use Rattle.meaning.specs.Chain.{M}
 use Rattle.meaning.specs.Figure.{Chance}
 use Rattle.meaning.specs.Step.{Sets}
 use Rattle.meaning.specs.Refusal.{Lent, Entry, Applies}
-use Rattle.meaning.specs.Stop.{Stops, before-steps, in-step, at-turn}
+use Rattle.meaning.specs.Stop.{Stops, before-steps, in-step}
 use Rattle.meaning.specs.Outcome.{Outcome, refused, stopped, answered, Answer, Bounds, between, BoundsFigure}
 use Rattle.meaning.specs.File.{chainIn, plainIn}
 use Rattle.meaning.specs.Call.{defaultMode, exactMode, boundsMode, answerBytes, answerNumber, answerRead, wholeFile, Said, CallOutcome}
 use Rattle.meaning.specs.Demand.{BothChance}
-use Rattle.theory.specs.Outcomes.DemandTwo.{chance-of}
+use Rattle.theory.specs.Outcomes.DemandTwo.{stopped-twelve, chance-of}
 use Rattle.theory.specs.Files.FileOne.{file-numbers}
 use Rattle.theory.specs.Files.CallOne.{modes-apart}
 use Rattle.theory.specs.Outcomes.Small.{Small, BothSmall, chance-small, bounds-small}
@@ -46,11 +46,6 @@ module _ {A : Type 0} {x : Entry} {l : Lent} {refusal : ℕ → ℕ → A} {Stop
     figure (stopped n p f t e s) z = absurd (let o : n ≡ 0 = sym (told n p) ∙ ap number (sym e) ∙ z in omega (arith, above n p t))
     figure (answered f t g s) z = g
 
-stop-above : {b : Bool} {l : Lent} {k : Sets} {number place : ℕ} → Stops b l k number place → 0 < number
-stop-above (before-steps f) = omega arith
-stop-above (in-step p i w d f) = omega arith
-stop-above (at-turn p i w d) = omega arith
-
 between-of : {l : Lent} {a : Bounds} → BoundsFigure l a → a ≡ between (a .lowerNumerator) (a .lowerDenominator) (a .upperNumerator) (a .upperDenominator)
 between-of (BoundsFigure.won g e) = rw e refl
 between-of (BoundsFigure.lost g e) = rw e refl
@@ -78,7 +73,7 @@ module _ {file before after : List ℕ} {mode : ℕ} where
     where
       go : {bytes : List ℕ} → Said (wholeFile file) mode 0 bytes → after ≡ filled bytes before → BothChance (chainIn (wholeFile file)) (answerRead after)
       go (Said.exactly m a w o e g) k =
-          let h = chance-of (figure (λ (a : Answer). a .number) (λ n p. refl) (λ n p s. stop-above (s .stops)) o (sym e)) in
+          let h = chance-of (figure (λ (a : Answer). a .number) (λ n p. refl) (λ n p s. omega (arith, stopped-twelve s)) o (sym e)) in
           let u = chance-small o in
           subst (BothChance (chainIn (wholeFile file))) (sym (reads before u u g k)) (h, h)
       go (Said.bounded m′ a w o e g) k = absurd (modes-apart m m′)
@@ -90,7 +85,7 @@ module _ {file before after : List ℕ} {mode : ℕ} where
       go : {bytes : List ℕ} → Said (wholeFile file) mode 0 bytes → after ≡ filled bytes before → BoundsFigure (plainIn (wholeFile file)) (answerRead after)
       go (Said.exactly m′ a w o e g) k = absurd (modes-apart m′ m)
       go (Said.bounded m a w o e g) k =
-          let h = figure (λ (a : Bounds). a .number) (λ n p. refl) (λ n p s. stop-above (s .stops)) o (sym e) in
+          let h = figure (λ (a : Bounds). a .number) (λ n p. refl) (λ n p s. omega (arith, stopped-twelve s)) o (sym e) in
           let (u, v) = bounds-small o in
           subst (BoundsFigure (plainIn (wholeFile file))) (between-of h ∙ sym (reads before u v g k)) h
 

@@ -11,7 +11,7 @@ use Rattle.meaning.specs.Figure.{Chance}
 use Rattle.meaning.specs.Row.{cell, goalColumn, unknownColumn, exact, rounding}
 use Rattle.meaning.specs.Step.{Sets, Right, outside}
 use Rattle.meaning.specs.Refusal.{Lent, plain, WellFormed}
-use Rattle.meaning.specs.Stop.{earns, Stops, before-steps, in-step, at-turn}
+use Rattle.meaning.specs.Stop.{earns, Stops, before-steps, in-step}
 use Rattle.meaning.specs.Outcome.{refused, stopped, answered, Bounds, between, lastRow, BoundsFigure, BoundsOutcome}
 use Rattle.meaning.specs.Demand.{AtMost, ChanceBetween, BothChance, Unrounded}
 use Rattle.theory.specs.Figures.Shares.{shares-exist}
@@ -23,7 +23,6 @@ use Rattle.theory.specs.Outcomes.Whole.{
   lower-chance,
   upper-chance,
   bounds-whole,
-  no-stuck,
   chance-won,
   chance-lost,
 }
@@ -93,8 +92,7 @@ module _ (l : Lent) (formed : WellFormed plain l) where
   -- Nothing stops the bounds engine.
   stop-none : (k : Sets) → Right c k → {number place : ℕ} → Stops rounding l k number place → ⊥
   stop-none k right (before-steps f) = apart (f .0)
-  stop-none k right (in-step p h w d f) = apart (f .0)
-  stop-none k right (at-turn p h w d) = no-stuck rounding plain l formed refl k right (λ _. unpaid plain l formed refl) p h d
+  stop-none k right (in-step p h w f) = apart (f .0)
 
   -- Two fractions: what holds of every figure holds of every outcome.
   module _ (P : Bounds → Type 0) (a : Bounds) (w : List ℕ) (figure : (b : Bounds) → BoundsFigure l b → P b) where

@@ -1,49 +1,40 @@
 -- Demand 2 in its own words, from the outcome relations alone: for a well-formed chain and any order the exact entries give the figure in
 -- lowest terms, and refuse exactly when a kept row in lowest terms does not fit.
-use Prim.Native.Nat.{ℕ, suc, _<_}
+use Prim.Native.Nat.{ℕ, suc, _≤_}
 use mathlib.Core.Path.{_≡_, refl, sym, ap, subst, _∙_}
 use mathlib.Core.Logic.{_⊎_, inl, inr, _↔_}
-use mathlib.Core.Bool.{true}
+use mathlib.Core.Bool.{Bool}
 use mathlib.Core.List.{List}
 use native.Mathlib.Omega.{arith}
-use Rattle.meaning.specs.Chain.{Live}
 use Rattle.meaning.specs.Figure.{Chance, Missed, Expected}
-use Rattle.meaning.specs.Row.{exact, rounding}
-use Rattle.meaning.specs.Step.{Sets, Right}
-use Rattle.meaning.specs.Refusal.{Lent, Entry, plain, paid, WellFormed}
-use Rattle.meaning.specs.Stop.{earns, NoWay, Stops, before-steps, in-step, at-turn, Stopped}
+use Rattle.meaning.specs.Row.{exact}
+use Rattle.meaning.specs.Step.{Sets}
+use Rattle.meaning.specs.Refusal.{Lent, plain, paid, WellFormed}
+use Rattle.meaning.specs.Stop.{earns, NoFit, Stops, before-steps, in-step, Stopped}
 use Rattle.meaning.specs.Outcome.{refused, stopped, answered, Answer, infinite, ChanceFigure, ChanceOutcome, RewardFigure, RewardOutcome}
 use Rattle.meaning.specs.Demand.{NoFitAnywhere}
 use Rattle.theory.specs.Figures.Unique.{chance-one, expected-one}
 use Rattle.theory.specs.Outcomes.Formed.{formed-fine, start-in}
-use Rattle.theory.specs.Outcomes.Whole.{no-stuck}
 use Rattle.theory.specs.Outcomes.Halt.{Halted, stops, runs, halt}
 
-module _ (x : Entry) (l : Lent) (formed : WellFormed x l) (ordered : x .order ≡ true) where
-  never-stuck : (k : Sets) → Right (l .chain) k → (p : ℕ) → p < l .chain .states → NoWay exact l k p → ⊥
-  never-stuck k right = no-stuck exact x l formed ordered k right (λ e. absurd (apart e))
-    where
-      apart : exact ≡ rounding → ⊥
-      apart e = let z : _≡_ {A = ℕ} 0 1 = cc in omega arith
+-- What stops an engine is 12, and the exact engine a row that is large.
+pub stopped-twelve : {b : Bool} {l : Lent} {number place : ℕ} → Stopped b l number place → number ≡ 12
+stopped-twelve s = twelve (s .stops)
+  where
+    twelve : {b : Bool} {l : Lent} {k : Sets} {number place : ℕ} → Stops b l k number place → number ≡ 12
+    twelve (before-steps f) = refl
+    twelve (in-step p h w f) = refl
 
-  -- What stops the exact engine is 12, and a row that is large.
-  stop-twelve : (k : Sets) → Right (l .chain) k → {number place : ℕ} → Stops exact l k number place → number ≡ 12
-  stop-twelve k right (before-steps f) = refl
-  stop-twelve k right (in-step p h w d f) = refl
-  stop-twelve k right (at-turn p h w d) = absurd (never-stuck k right p h d)
-
-  pub stopped-twelve : {number place : ℕ} → Stopped exact l number place → number ≡ 12
-  stopped-twelve s = stop-twelve (s .sets) (s .right) (s .stops)
-
-  stop-large : (k : Sets) → Right (l .chain) k → Live (l .chain) (l .chain .start) → {number place : ℕ} → Stops exact l k number place → NoFitAnywhere l
-  stop-large k right alive (before-steps f) =
-      record { sets = k; right = right; alive = alive; position = 0; inside = omega arith; large = f }
-  stop-large k right alive (in-step p h w d f) =
-      record { sets = k; right = right; alive = alive; position = suc p; inside = h; large = f }
-  stop-large k right alive (at-turn p h w d) = absurd (never-stuck k right p h d)
-
+module _ (l : Lent) where
   pub stopped-large : {number place : ℕ} → Stopped exact l number place → NoFitAnywhere l
-  stopped-large s = stop-large (s .sets) (s .right) (s .alive) (s .stops)
+  stopped-large s = large (s .stops)
+    where
+      at : (p : ℕ) → p ≤ l .chain .states → NoFit exact l (s .sets) p → NoFitAnywhere l
+      at p h f = record { sets = s .sets; right = s .right; alive = s .alive; position = p; inside = h; large = f }
+
+      large : {number place : ℕ} → Stops exact l (s .sets) number place → NoFitAnywhere l
+      large (before-steps f) = at 0 (omega arith) f
+      large (in-step p h w f) = at (suc p) h f
 
   -- And a row that is large stops it.
   pub large-stopped : NoFitAnywhere l → (number : ℕ) × (place : ℕ) × Stopped exact l number place
@@ -52,7 +43,7 @@ module _ (x : Entry) (l : Lent) (formed : WellFormed x l) (ordered : x .order �
       go : Halted exact l (h .sets) → (number : ℕ) × (place : ℕ) × Stopped exact l number place
       go (stops number place s) =
           (number, place, record { sets = h .sets; right = h .right; alive = h .alive; stops = s })
-      go (runs w) = absurd (w .fits (h .position) (h .inside) (h .large))
+      go (runs w) = absurd (w (h .position) (h .inside) (h .large))
 
 number-is : {a b : Answer} → a ≡ b → a .number ≡ b .number
 number-is e = ap (λ (z : Answer). z .number) e
@@ -68,24 +59,24 @@ module _ (l : Lent) (formed : WellFormed plain l) (a : Answer) (w : List ℕ) wh
   -- It answers, or refuses with 12.
   pub chance-answers : ChanceOutcome l a w → (a .number ≡ 0) ⊎ (a .number ≡ 12)
   chance-answers (refused n p r e s) = absurd (formed .none n p (r .applies))
-  chance-answers (stopped n p f t e s) = inr (number-is e ∙ stopped-twelve plain l formed refl t)
+  chance-answers (stopped n p f t e s) = inr (number-is e ∙ stopped-twelve t)
   chance-answers (answered f t (ChanceFigure.chance p q h e) s) = inl (number-is e)
 
   -- The fraction is the chance in lowest terms.
   pub chance-is : ChanceOutcome l a w → a .number ≡ 0 → Chance (l .chain) (a .numerator) (a .denominator)
   chance-is (refused n p r e s) z = absurd (formed .none n p (r .applies))
   chance-is (stopped n p f t e s) z =
-      absurd (nought-and-twelve (a .number) z (number-is e ∙ stopped-twelve plain l formed refl t))
+      absurd (nought-and-twelve (a .number) z (number-is e ∙ stopped-twelve t))
   chance-is (answered f t g s) z = chance-of g
 
   -- It refuses exactly when a kept row in lowest terms does not fit.
   pub chance-refuses : ChanceOutcome l a w → (a .number ≡ 12) ↔ NoFitAnywhere l
   chance-refuses (refused n p r e s) = absurd (formed .none n p (r .applies))
   chance-refuses (stopped n p f t e s) =
-      (λ _. stopped-large plain l formed refl t, λ _. number-is e ∙ stopped-twelve plain l formed refl t)
+      (λ _. stopped-large l t, λ _. number-is e ∙ stopped-twelve t)
   chance-refuses (answered f t (ChanceFigure.chance p q h e) s) = (
     λ z. absurd (nought-and-twelve (a .number) (number-is e) z),
-    λ large. let u = large-stopped plain l formed refl large in absurd (t (u .0) (u .1) (u .2)),
+    λ large. let u = large-stopped l large in absurd (t (u .0) (u .1) (u .2)),
   )
 
 -- Two orders that both answer give one fraction.
@@ -100,7 +91,7 @@ chance-any-order l l′ formed formed′ same a a′ w w′ o o′ z z′ =
 module _ (l : Lent) (formed : WellFormed paid l) (a : Answer) (w : List ℕ) where
   pub reward-answers : RewardOutcome l a w → (a .number ≡ 0) ⊎ (a .number ≡ 12)
   reward-answers (refused n p r e s) = absurd (formed .none n p (r .applies))
-  reward-answers (stopped n p f t e s) = inr (number-is e ∙ stopped-twelve paid l formed refl (t .1))
+  reward-answers (stopped n p f t e s) = inr (number-is e ∙ stopped-twelve (t .1))
   reward-answers (answered f t (RewardFigure.missed m e) s) = inl (number-is e)
   reward-answers (answered f t (RewardFigure.expected u p q h e) s) = inl (number-is e)
 
@@ -111,7 +102,7 @@ module _ (l : Lent) (formed : WellFormed paid l) (a : Answer) (w : List ℕ) whe
     λ i.
         absurd
         (nought-and-twelve (a .number) (number-is i)
-        (number-is e ∙ stopped-twelve paid l formed refl (t .1))),
+        (number-is e ∙ stopped-twelve (t .1))),
     λ m. absurd (t .0 m),
   )
   reward-infinite (answered f t (RewardFigure.missed m e) s) = (λ _. m, λ _. e)
@@ -125,7 +116,7 @@ module _ (l : Lent) (formed : WellFormed paid l) (a : Answer) (w : List ℕ) whe
       → Expected (l .chain) (earns l) (a .numerator) (a .denominator)
   reward-is (refused n p r e s) z u = absurd (formed .none n p (r .applies))
   reward-is (stopped n p f t e s) z u =
-      absurd (nought-and-twelve (a .number) z (number-is e ∙ stopped-twelve paid l formed refl (t .1)))
+      absurd (nought-and-twelve (a .number) z (number-is e ∙ stopped-twelve (t .1)))
   reward-is (answered f t (RewardFigure.missed m e) s) z u = absurd (u m)
   reward-is (answered f t (RewardFigure.expected u p q h e) s) z _ =
       subst (λ (z : Answer). Expected (l .chain) (earns l) (z .numerator) (z .denominator)) (sym e) h
@@ -134,12 +125,12 @@ module _ (l : Lent) (formed : WellFormed paid l) (a : Answer) (w : List ℕ) whe
   pub reward-refuses : RewardOutcome l a w → (a .number ≡ 12) ↔ ((Missed (l .chain) → ⊥) × NoFitAnywhere l)
   reward-refuses (refused n p r e s) = absurd (formed .none n p (r .applies))
   reward-refuses (stopped n p f t e s) = (
-    λ _. (t .0, stopped-large paid l formed refl (t .1)),
-    λ _. number-is e ∙ stopped-twelve paid l formed refl (t .1),
+    λ _. (t .0, stopped-large l (t .1)),
+    λ _. number-is e ∙ stopped-twelve (t .1),
   )
   reward-refuses (answered f t g s) = (
     λ z. absurd (nought-and-twelve (a .number) (zero-number g) z),
-    λ large. let u = large-stopped paid l formed refl (large .1) in absurd (t (u .0) (u .1) (large .0, u .2)),
+    λ large. let u = large-stopped l (large .1) in absurd (t (u .0) (u .1) (large .0, u .2)),
   )
     where
       zero-number : RewardFigure l a → a .number ≡ 0

@@ -6,7 +6,7 @@ use mathlib.Core.List.{List}
 use native.Mathlib.Omega.{arith}
 use Rattle.meaning.specs.Step.{Sets}
 use Rattle.meaning.specs.Refusal.{Lent, Entry, Refused, WellFormed}
-use Rattle.meaning.specs.Stop.{Unstopped, Stops, before-steps, in-step, at-turn}
+use Rattle.meaning.specs.Stop.{Stops, before-steps, in-step}
 use Rattle.meaning.specs.Outcome.{Outcome, refused, stopped, answered}
 
 pub meet : (a b : ℕ) → (a < b → ⊥) → (b < a → ⊥) → a ≡ b
@@ -25,24 +25,13 @@ module _ {x : Entry} {l : Lent} where
   refused-one {k} {p} {k′} {p′} r s =
       let e = refused-number r s in (e, refused-place r (subst (λ z. Refused x l z p′) (sym e) s))
 
--- A step and a turn do not both come first.
-crossed : {NoFit NoWay : ℕ → Type 0} (p q : ℕ) → Unstopped NoFit NoWay p → Unstopped NoFit NoWay q → (NoWay p → ⊥) → NoFit (suc p) → NoWay q → ⊥
-crossed {NoWay = NoWay} p q w w′ on large stuck =
-    on (subst NoWay (meet q p (λ h. w .turns q h stuck) (λ h. w′ .fits (suc p) h large)) stuck)
-
--- The numbers 12 and 13: what comes first is one of them, at one place.
+-- The number 12: it comes first at one place.
 module _ {b : Bool} {l : Lent} {k : Sets} where
   pub stops-one : {n p n′ p′ : ℕ} → Stops b l k n p → Stops b l k n′ p′ → (n ≡ n′) × (p ≡ p′)
   stops-one (before-steps a) (before-steps a′) = (refl, refl)
-  stops-one (before-steps a) (in-step q h′ w′ d′ f′) = absurd (w′ .fits 0 (omega arith) a)
-  stops-one (before-steps a) (at-turn q h′ w′ d′) = absurd (w′ .fits 0 (omega arith) a)
-  stops-one (in-step p h w d f) (before-steps a′) = absurd (w .fits 0 (omega arith) a′)
-  stops-one (in-step p h w d f) (in-step q h′ w′ d′ f′) =
-      (refl, meet p q (λ z. w′ .fits (suc p) z f) (λ z. w .fits (suc q) z f′))
-  stops-one (in-step p h w d f) (at-turn q h′ w′ d′) = absurd (crossed p q w w′ d f d′)
-  stops-one (at-turn p h w d) (before-steps a′) = absurd (w .fits 0 (omega arith) a′)
-  stops-one (at-turn p h w d) (in-step q h′ w′ d′ f′) = absurd (crossed q p w′ w d′ f′ d)
-  stops-one (at-turn p h w d) (at-turn q h′ w′ d′) = (refl, meet p q (λ z. w′ .turns p z d) (λ z. w .turns q z d′))
+  stops-one (before-steps a) (in-step q h′ w′ f′) = absurd (w′ 0 (omega arith) a)
+  stops-one (in-step p h w f) (before-steps a′) = absurd (w 0 (omega arith) a′)
+  stops-one (in-step p h w f) (in-step q h′ w′ f′) = (refl, meet p q (λ z. w′ (suc p) z f) (λ z. w (suc q) z f′))
 
 refused-unformed : {x : Entry} {l : Lent} {n p : ℕ} → Refused x l n p → WellFormed x l → ⊥
 refused-unformed {n = n} {p} r w = w .none n p (r .applies)

@@ -73,7 +73,7 @@ module _ (x : Entry) (l : Lent) (formed : WellFormed x l) (none : (number place 
       where
         go : Halted exact l k → ⊥
         go (stops number place s) = none number place (record { sets = k; right = right; alive = alive; stops = s })
-        go (runs w) = w .fits n (omega arith) (refl, (c .start, (start-in x l formed, large)))
+        go (runs w) = w n (omega arith) (refl, (c .start, (start-in x l formed, large)))
 
     last-total : total n last ≤ M
     last-total = ⊎-elim (λ (h : M < total n last). absurd (fits (inl h))) (λ h. h) (below M (total n last))

@@ -1,22 +1,20 @@
 -- From a well-formed input and right sets to the figures.
 use Prim.Native.Nat.{ℕ, _+_, _*_, _≤_, _<_, _∣_}
 use mathlib.Core.Path.{_≡_, refl, sym, subst}
-use mathlib.Core.Bool.{Bool, true, false}
-use lib.Dec.{eqb}
-use borrow.Author.Tests.{eqb-true}
+use mathlib.Core.Bool.{Bool, true}
 use mathlib.Core.List.{List}
 use native.Mathlib.Omega.{arith}
 use native.Mathlib.Nat.{add-zero, eq-one-of-dvd-one, dvd-mul-right}
-use Rattle.meaning.specs.Number.{choose, bit, Reduced, Lowest}
+use Rattle.meaning.specs.Number.{Reduced, Lowest}
 use Rattle.meaning.specs.Chain.{Chain, Goal, ToGoal, FromStart, Live}
 use Rattle.meaning.specs.Figure.{Shares, Chance, Missed, Expected}
 use Rattle.meaning.specs.Row.{Row, cell, goalColumn, unknownColumn, reward, exact, rounding}
 use Rattle.meaning.specs.Step.{row, Sets, Right, outside, stage, RoundedAt}
 use Rattle.meaning.specs.Refusal.{Lent, Entry, WellFormed}
-use Rattle.meaning.specs.Stop.{earns, turn, NoWay}
+use Rattle.meaning.specs.Stop.{earns}
 use Rattle.theory.specs.Numbers.Gcd.{reduced-share}
 use Rattle.theory.specs.Rows.Settle.{one-engine}
-use Rattle.theory.specs.Stages.Last.{Prepared, turn-loose, last-loose, last-known, chance-least, chance-most, chance-exact, reward-exact}
+use Rattle.theory.specs.Stages.Last.{Prepared, last-loose, last-known, chance-least, chance-most, chance-exact, reward-exact}
 use Rattle.theory.specs.Stages.Unrounded.{unrounded}
 use Rattle.theory.specs.Outcomes.Formed.{formed-fine, start-in, order-in, order-new, order-every}
 
@@ -89,17 +87,6 @@ module _ (c : Chain) (k : Sets) (o : List ℕ) (ready : Prepared c k o) (pay : �
 
         pub upper-bound : x (c .start) * D rounding ≤ (cell (last rounding) (goalColumn n) + cell (last rounding) (unknownColumn n)) * d
         upper-bound = chance-most c k o ready rounding pay (λ _. unpaid) alive d x share
-
--- No state is stuck at its turn: number 13 is never given.
-pub no-stuck : (b : Bool) (x : Entry) (l : Lent) → WellFormed x l → x .order ≡ true → (k : Sets) → Right (l .chain) k
-    → (b ≡ rounding → (i : ℕ) → earns l i ≡ 0) → (p : ℕ) → p < l .chain .states → NoWay b l k p → ⊥
-no-stuck b x l formed lent k right free p h w =
-    let alive = right .live (turn l p) .0 (eqb-true (bit (k .live) (turn l p)) 1 (gone (eqb (turn l p) (l .chain .start)) _ (w .0))) in
-    omega (arith, turn-loose (l .chain) k (l .order) (formed-prepared x l formed lent k right) b (earns l) free p h alive, w .1)
-  where
-    gone : (t u : Bool) → choose t false u ≡ true → u ≡ true
-    gone true u e = absurd (let z : _≡_ {A = ℕ} 0 1 = cc in omega arith)
-    gone false u e = e
 
 -- Where the start is a goal, or has no path to one.
 one-lowest : (p : ℕ) → Lowest p 1

@@ -15,7 +15,7 @@ use Rattle.engines.specs.declared.walk.Walk.the-variants.{Done}
 use Rattle.engines.specs.Turn.{Reached}
 use Rattle.engines.proofs.Tables.{kept-same, kept-more}
 use Rattle.engines.proofs.Turns.{reached-fitting}
-use Rattle.engines.proofs.Course.{runs-won, runs-lost, start-live, stops-first, stops-unfit, stops-stuck, reads, walk-done, walk-kept}
+use Rattle.engines.proofs.Course.{runs-won, runs-lost, start-live, stops-first, stops-unfit, reads, walk-done, walk-kept}
 use Rattle.engines.proofs.run.follow.Statement.{statement}
 use Rattle.engines.proofs.run.follow.Tie as tie
 
@@ -101,7 +101,7 @@ done : (c : tie.After-eliminate) → c .eliminate .result ≡ Done
     let n = a .e .chain .states in
     let o = a .order .now in
     let v = c .before .before .before .before .before .first-rows .last .0 in
-    Finished b n (going (a .e)) o (after b n (going (a .e)) o (tableOf n v)) v (c .eliminate .last .0)
+    Finished b n (after b n (going (a .e)) o (tableOf n v)) v (c .eliminate .last .0)
 done c e =
     let a = from c .args in
     walk-done (a .e .rounding) (a .e .chain .states) (going (a .e)) (a .order .now) _ _ (c .eliminate .result) (c .eliminate .ensures) e
@@ -118,18 +118,6 @@ returns-4 c =
           (at .eliminate .ensures) _ (c .before .p .given .1),
     )
 
-same-length-3 : tie.Need-same-length-3
-same-length-3 c = kept (c .before .before .before .before .before) .len
-
-returns-5 : tie.Need-returns-5
-returns-5 c =
-    let at = c .before .before .before .before .before in
-    let s = from at in (
-      kept at,
-      stops-stuck (s .args .e .rounding) (l s) (k s) (begun s .asked .right) (alive (begun-at at)) _ _ (begins at .same) (at .eliminate .result)
-          (at .eliminate .ensures) _ (c .before .p2 .given .1),
-    )
-
 last-of-requires : tie.Need-last-of-requires
 last-of-requires c κs =
     let at = c .before .before .before .before .before in
@@ -137,11 +125,11 @@ last-of-requires c κs =
     let z = begins at .kept .len in
     (reached-fitting (begun s .asked .few) (omega (arith, begun s .asked .room)) (done at (c .before .enum-told .given .1) .reached), begun s .start)
 
-same-length-4 : tie.Need-same-length-4
-same-length-4 c = kept (c .before .before .before .before .before .before) .len
+same-length-3 : tie.Need-same-length-3
+same-length-3 c = kept (c .before .before .before .before .before .before) .len
 
-returns-6 : tie.Need-returns-6
-returns-6 c =
+returns-5 : tie.Need-returns-5
+returns-5 c =
     let at = c .before .before .before .before .before .before in
     let s = from at in (
       kept at,
@@ -167,9 +155,6 @@ follow-spec =
     same-length-2
     returns-4
     (λ c. search needs)
-    same-length-3
-    returns-5
-    (λ c. search needs)
     last-of-requires
-    same-length-4
-    returns-6)
+    same-length-3
+    returns-5)

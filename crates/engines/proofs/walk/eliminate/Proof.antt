@@ -1,17 +1,14 @@
 use Prim.Native.Nat.{_-_}
 use native.Mathlib.Omega.{arith}
 use borrow.Author.Needs.{needs}
-use Rattle.meaning.specs.Step.{after}
-use Rattle.engines.specs.Table.{tableOf}
+use borrow.Author.Tests.{not-true, not-false}
 use Rattle.engines.specs.Order.{going}
-use Rattle.engines.proofs.Turns.{Eliminating, eliminating-none, eliminating-fitting, eliminating-more, eliminating-overflown, eliminating-blocked, eliminating-all}
+use Rattle.engines.proofs.Turns.{Eliminating, eliminating-none, eliminating-fitting, eliminating-more, eliminating-overflown, eliminating-all}
 use Rattle.engines.proofs.walk.eliminate.Statement.{statement}
 use Rattle.engines.proofs.walk.eliminate.Tie as tie
 
 abbrev Inv-loop : tie.InvT-loop
-Inv-loop work₀ e order n₀ p₀ work p =
-    let n = e .chain .states in
-    Eliminating (e .rounding) n (going e) order (after (e .rounding) n (going e) order (tableOf n work₀)) work₀ p work
+Inv-loop work₀ e order n₀ p₀ work p = Eliminating (e .rounding) (e .chain .states) (going e) order work₀ p work
 
 abbrev μ-loop : tie.MeasureT-loop
 μ-loop work₀ e order n₀ p₀ work p = e .chain .states - p
@@ -25,16 +22,19 @@ turn-requires c κs =
     (eliminating-fitting (c .before .before .before .loop .inv) (h .0 .0), h .1 _ (c .before .before .loop-test .taken))
 
 returns : tie.Need-returns Inv-loop μ-loop
-returns c = eliminating-overflown (c .before .before .before .before .before .before .before .before .loop .inv) (c .before .before .before .before .before .before .before .loop-test .taken) (c .before .before .before .before .turn .ensures) (c .enum-told2 .given .1)
-
-returns-2 : tie.Need-returns-2 Inv-loop μ-loop
-returns-2 c = eliminating-blocked (c .before .before .before .before .before .before .before .before .loop .inv) (c .before .before .before .before .before .before .before .loop-test .taken) (c .before .before .before .before .turn .ensures) (c .enum-told3 .given .1)
+returns c =
+    let turn = c .before .before .before in
+    let test = turn .before .before .before in
+    eliminating-overflown (test .before .loop .inv) (test .loop-test .taken) (turn .turn .ensures) (not-true _ (c .if1 .taken))
 
 loop-again : tie.Need-loop-again Inv-loop μ-loop
-loop-again c = eliminating-more (c .before .before .before .before .before .before .before .before .loop .inv) (c .before .before .before .before .before .before .before .loop-test .taken) (c .before .before .before .before .turn .ensures) (c .enum-told .given .1)
+loop-again c =
+    let turn = c .before .before .before in
+    let test = turn .before .before .before in
+    eliminating-more (test .before .loop .inv) (test .loop-test .taken) (turn .turn .ensures) (not-false _ (c .if1 .left))
 
-returns-3 : tie.Need-returns-3 Inv-loop μ-loop
-returns-3 c = eliminating-all (c .before .loop .inv) (omega arith)
+returns-2 : tie.Need-returns-2 Inv-loop μ-loop
+returns-2 c = eliminating-all (c .before .loop .inv) (omega arith)
 
 pub eliminate-spec : {M : Type 1} → statement M
 eliminate-spec =
@@ -47,14 +47,9 @@ eliminate-spec =
     (λ c. search needs)
     turn-requires
     (λ c. search needs)
-    (λ c. search needs)
-    (λ c. search needs)
     returns
-    (λ c. search needs)
-    (λ c. search needs)
-    returns-2
     (λ c. search needs)
     (λ c. search needs)
     loop-again
     (λ c. search needs)
-    returns-3)
+    returns-2)

@@ -1,9 +1,9 @@
-use mathlib.Core.Path.{_≡_, sym, _∙_}
+use mathlib.Core.Path.{sym, _∙_}
 use borrow.Author.Needs.{needs}
-use Rattle.meaning.specs.Step.{row, outside, removed}
+use Rattle.meaning.specs.Step.{removed}
 use Rattle.engines.specs.Table.{tableOf}
 use Rattle.engines.specs.Order.{going}
-use Rattle.engines.proofs.Turns.{turned-goes, turned-stays}
+use Rattle.engines.proofs.Turns.{made-goes, made-stays}
 use Rattle.engines.proofs.walk.turn.Statement.{statement}
 use Rattle.engines.proofs.walk.turn.Tie as tie
 
@@ -11,7 +11,7 @@ returns : tie.Need-returns
 returns c =
     let g = c .before .before .before .before .before .before in
     let a = g .before .before .args in
-    turned-goes (tableOf (a .e .chain .states) (a .work .now)) (going (a .e) (a .s)) (sym (g .goes .ensures) ∙ c .before .before .before .before .before .if1 .taken)
+    made-goes (tableOf (a .e .chain .states) (a .work .now)) (going (a .e) (a .s)) (sym (g .goes .ensures) ∙ c .before .before .before .before .before .if1 .taken)
     (c .before .before .remove .ensures)
 
 returns-2 : tie.Need-returns-2
@@ -21,7 +21,7 @@ returns-2 c =
     let a = s .args in
     let n = a .e .chain .states in
     let t = tableOf n (a .work .now) in
-    turned-stays (outside n (a .s) (row t (a .s)) ≡ 0) (removed (a .e .rounding) n (a .s) t) (going (a .e) (a .s)) (sym (g .goes .ensures) ∙ c .if1 .left)
+    made-stays (removed (a .e .rounding) n (a .s) t) (going (a .e) (a .s)) (sym (g .goes .ensures) ∙ c .if1 .left)
     (s .pre .0)
 
 pub turn-spec : {M : Type 1} → statement M
