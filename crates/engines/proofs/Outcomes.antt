@@ -21,6 +21,7 @@ use Rattle.theory.specs.Stages.Fits.{bounds-fit}
 use Rattle.theory.specs.Outcomes.Whole.{formed-prepared, exact-whole, exact-chance, exact-reward, bounds-whole, chance-won, chance-lost, reward-won}
 use Rattle.theory.specs.Outcomes.Computed.{passed-unstopped}
 use Rattle.theory.specs.Outcomes.DemandTwo.{stopped-twelve}
+use Rattle.theory.specs.Outcomes.DemandThree.{rounding-unstopped}
 use Rattle.chain.specs.Reduce.{reduced}
 use Rattle.chain.specs.declared.fraction.Fraction.{Fraction}
 use Rattle.engines.specs.declared.answer.Chance.the-variants as chance
@@ -39,10 +40,10 @@ abbrev over : ℕ → ℕ → Fraction
 over a b = record { numerator = a; denominator = b }
 
 -- Where something can be read off nothing stopped the engine.
-pub read-unstopped : (b : Bool) (l : Lent) {g u e d : ℕ} → Read b l g u e d → (number place : ℕ) → Stopped b l number place → ⊥
-read-unstopped b l (won h q) number place s = s .alive .unwon h
-read-unstopped b l (lost h q) number place s = h (s .alive .leads)
-read-unstopped b l (live k right alive z) number place s = passed-unstopped l k right b (z .passed) number place s
+read-unstopped : (l : Lent) {g u e d : ℕ} → Read exact l g u e d → (number place : ℕ) → Stopped exact l number place → ⊥
+read-unstopped l (won h q) number place s = s .alive .unwon h
+read-unstopped l (lost h q) number place s = h (s .alive .leads)
+read-unstopped l (live k right alive z) number place s = passed-unstopped l k right exact (z .passed) number place s
 
 -- A chance, and an expected reward, in lowest terms.
 lowest-chance : (c : Chain) (a b p q : ℕ) → Chance c a b → Reduced a b p q → Chance c p q
@@ -148,7 +149,7 @@ module _ (l : Lent) (w : List ℕ) {r : Course} where
   chance-answers q z t =
       let y = subst (entered plain exact l w) q z in
       subst (λ f. ChanceOutcome l (toldChance (chance.Is f)) w) (sym t)
-      (answered (y .0) (read-unstopped exact l (y .2)) (ChanceFigure.chance _ _ (chance-read l (y .0) (y .2)) refl) (y .1))
+      (answered (y .0) (read-unstopped l (y .2)) (ChanceFigure.chance _ _ (chance-read l (y .0) (y .2)) refl) (y .1))
 
   pub chance-stops : {number place : ℕ} → r ≡ Stops number place → entered plain exact l w r → ChanceOutcome l (refusal number place) w
   chance-stops q z =
@@ -158,11 +159,12 @@ module _ (l : Lent) (w : List ℕ) {r : Course} where
       → BoundsOutcome l (toldBounds (bounds.Between f h)) w
   bounds-answer q z t v =
       let y = subst (entered plain rounding l w) q z in
-      rw (t, v) (answered (y .0) (read-unstopped rounding l (y .2)) (bounds-read l (y .0) (y .2)) (y .1))
+      rw (t, v) (answered (y .0) (λ number place s. s) (bounds-read l (y .0) (y .2)) (y .1))
 
-  pub bounds-stop : {number place : ℕ} → r ≡ Stops number place → entered plain rounding l w r → BoundsOutcome l (noBounds number place) w
-  bounds-stop q z =
-      ⊎-elim (λ y. refused _ _ (y .0) refl (y .1)) (λ y. stopped _ _ (y .0) (y .2) refl (y .1)) (subst (entered plain rounding l w) q z)
+  -- Its elimination does not stop, so that this is a refusal by 1 to 10.
+  pub bounds-refuses : {number place : ℕ} → r ≡ Stops number place → entered plain rounding l w r → BoundsOutcome l (noBounds number place) w
+  bounds-refuses q z =
+      ⊎-elim (λ y. refused _ _ (y .0) refl (y .1)) (λ y. absurd (rounding-unstopped (y .2))) (subst (entered plain rounding l w) q z)
 
 -- A refusal by the numbers 1 to 11 leaves the work table.
 pub reward-refuses : {l : Lent} {number place : ℕ} → Refused paid l number place → Rewarded l (reward.Refused number place) (l .work)
@@ -179,7 +181,7 @@ module _ (l : Lent) (formed : WellFormed paid l) {w : List ℕ} (s : w ≡ clear
         let h = reward-read l formed sure y in
         subst (λ f. Rewarded l (reward.Is f) w) (sym t)
         (record {
-          outcome = answered formed (λ number place s. read-unstopped exact l y number place (s .1)) (RewardFigure.expected sure _ _ h refl) s;
+          outcome = answered formed (λ number place s. read-unstopped l y number place (s .1)) (RewardFigure.expected sure _ _ h refl) s;
           proper = h .lowest .whole;
         })
 

@@ -53,10 +53,10 @@ figure-proper l a (BoundsFigure.live k r v p q s t f e) =
 
 bounds-proper : (l : Lent) (r : Bounds) (w : List ℕ) → BoundsOutcome l (toldBounds r) w → ProperBounds r
 bounds-proper l (bounds.Between f h) w (refused n p z e s) = absurd (omega (arith, which e, refused-some z))
-bounds-proper l (bounds.Between f h) w (stopped n p v t e s) = absurd (omega (arith, which e, stopped-twelve t))
+bounds-proper l (bounds.Between f h) w (stopped n p v t e s) = absurd t
 bounds-proper l (bounds.Between f h) w (answered v t g s) = figure-proper l _ g
 bounds-proper l (bounds.Refused k i) w (refused n p z e s) = omega (arith, which e, refused-some z)
-bounds-proper l (bounds.Refused k i) w (stopped n p v t e s) = omega (arith, which e, stopped-twelve t)
+bounds-proper l (bounds.Refused k i) w (stopped n p v t e s) = absurd t
 bounds-proper l (bounds.Refused k i) w (answered v t g s) = absurd (omega (arith, figure-proper l _ g .0))
 
 module _ (l : Lent) (w w′ : List ℕ) where

@@ -115,6 +115,10 @@ pub data BoundsFigure (l : Lent) (a : Bounds) : Type 0 where
       → a ≡ between p q s t
       → BoundsFigure l a
 
--- The entry for the bounds: of 12 and 13 only 13 could stop it.
+-- Nothing stops the bounds engine, which rounds a row that does not fit.
+abbrev pub BoundsStop : ℕ → ℕ → Type 0
+BoundsStop number place = ⊥
+
+-- The entry for the bounds.
 abbrev pub BoundsOutcome : Lent → Bounds → List ℕ → Type 0
-BoundsOutcome l = Outcome plain l noBounds (Stopped rounding l) (BoundsFigure l)
+BoundsOutcome l = Outcome plain l noBounds BoundsStop (BoundsFigure l)

@@ -34,13 +34,12 @@ answerText a =
     (choose (eqb (a .denominator) 0) (bytesOf "infinite") (fractionText (a .numerator) (a .denominator)))
     (refusedText (a .number) (a .place))
 
+-- What stands in the line of the bounds: two fractions, since nothing stops the bounds of a well-formed chain.
 abbrev pub boundsText : Bounds → List ℕ
 boundsText a =
-    choose (eqb (a .number) 0)
-    (fractionText (a .lowerNumerator) (a .lowerDenominator)
+    fractionText (a .lowerNumerator) (a .lowerDenominator)
     ++ bytesOf " "
-    ++ fractionText (a .upperNumerator) (a .upperDenominator))
-    (refusedText (a .number) (a .place))
+    ++ fractionText (a .upperNumerator) (a .upperDenominator)
 
 -- A line: a word, a text, a newline.
 abbrev pub lineText : List ℕ → List ℕ → List ℕ

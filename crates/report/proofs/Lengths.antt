@@ -35,25 +35,23 @@ answer-short a n s =
     (either (eqb (a .denominator) 0) _ _ 21 (omega arith) (fraction-short (a .numerator) (a .denominator) s))
     (omega (arith, refused-short (a .number) (a .place) n))
 
-bounds-short : (a : Bounds) → Near (a .number) (a .place) → BothSmall a → length (boundsText a) ≤ 43
-bounds-short a n s =
-    either (eqb (a .number) 0) _ _ 43
-    (simp length-append
+bounds-short : (a : Bounds) → BothSmall a → length (boundsText a) ≤ 43
+bounds-short a s =
+    simp length-append
     (omega (
       arith,
       simp length-append at (fraction-short (a .lowerNumerator) (a .lowerDenominator) (s .0)),
       simp length-append at (fraction-short (a .upperNumerator) (a .upperDenominator) (s .1)),
-    )))
-    (omega (arith, refused-short (a .number) (a .place) n))
+    ))
 
 -- The seven lines of a report.
 pub lines-short : (states edges goals live : ℕ) (chance reward : Answer) (bounds : Bounds)
     → states ≤ mostStates → edges ≤ mostEdges → goals ≤ mostStates → live ≤ mostStates
     → Near (chance .number) (chance .place) → Small (chance .numerator) (chance .denominator)
     → Near (reward .number) (reward .place) → Small (reward .numerator) (reward .denominator)
-    → Near (bounds .number) (bounds .place) → BothSmall bounds
+    → BothSmall bounds
     → length (linesText states edges goals live chance reward bounds) ≤ reportRoom
-lines-short states edges goals live chance reward bounds hs he hg hl nc sc nr sr nb sb =
+lines-short states edges goals live chance reward bounds hs he hg hl nc sc nr sr sb =
     simp length-append
     (omega (
       arith,
@@ -63,7 +61,7 @@ lines-short states edges goals live chance reward bounds hs he hg hl nc sc nr sr
       digits 1 live (omega arith),
       answer-short chance nc sc,
       answer-short reward nr sr,
-      bounds-short bounds nb sb,
+      simp length-append at (bounds-short bounds sb),
     ))
 
 -- The single line of a refusal.

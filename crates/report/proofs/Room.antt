@@ -13,7 +13,6 @@ use Rattle.meaning.specs.Outcome.{
   ChanceOutcome,
   RewardFigure,
   RewardOutcome,
-  BoundsFigure,
   BoundsOutcome,
 }
 use Rattle.meaning.specs.Report.{linesText, reportRoom}
@@ -35,17 +34,10 @@ reward-near (Outcome.stopped number place f t e s) = rw e (stopped-near f (t .1)
 reward-near (Outcome.answered f t (RewardFigure.missed m e) s) = rw e nought
 reward-near (Outcome.answered f t (RewardFigure.expected u p q h e) s) = rw e nought
 
-bounds-near : {l : Lent} {a : Bounds} {w : List ℕ} → BoundsOutcome l a w → Near (a .number) (a .place)
-bounds-near (Outcome.refused number place r e s) = rw e (refused-near number place r .1)
-bounds-near (Outcome.stopped number place f t e s) = rw e (stopped-near f t)
-bounds-near (Outcome.answered f t (BoundsFigure.won g e) s) = rw e nought
-bounds-near (Outcome.answered f t (BoundsFigure.lost g e) s) = rw e nought
-bounds-near (Outcome.answered f t (BoundsFigure.live k r v p q u z h e) s) = rw e nought
-
 pub report-short : {l m n : Lent} {chance reward : Answer} {bounds : Bounds} {w₁ w₂ w₃ : List ℕ} (states edges goals live : ℕ)
     → states ≤ mostStates → edges ≤ mostEdges → goals ≤ mostStates → live ≤ mostStates
     → ChanceOutcome l chance w₁ → RewardOutcome m reward w₂ → BoundsOutcome n bounds w₃
     → length (linesText states edges goals live chance reward bounds) ≤ reportRoom
 report-short {chance = chance} {reward = reward} {bounds = bounds} states edges goals live hs he hg hl c r b =
     lines-short states edges goals live chance reward bounds hs he hg hl (chance-near c) (chance-small c) (reward-near r) (reward-small r)
-    (bounds-near b) (bounds-small b)
+    (bounds-small b)

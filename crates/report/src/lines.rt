@@ -77,16 +77,6 @@ fn fractions(buffer: &mut [u8], at: usize, p: u64, q: u64, s: u64, t: u64) -> us
     fraction(buffer, upper, s, t)
 }
 
-fn bounds(buffer: &mut [u8], at: usize, limits: Limits) -> usize
-    requires { ⌜ Room (now buffer) at (boundsText (toldLimits limits)) ⌝ }
-    ensures { λ r. ⌜ Written (now (buffer .entry)) at (boundsText (toldLimits limits)) (now (buffer .exit)) r ⌝ }
-{
-    if limits.number != 0 {
-        return refused(buffer, at, limits.number, limits.place);
-    }
-    fractions(buffer, at, limits.p, limits.q, limits.s, limits.t)
-}
-
 fn count_line(buffer: &mut [u8], at: usize, name: &[u8], x: u64) -> usize
     requires { ⌜ Room (now buffer) at (lineText (now name) (decimal x)) ⌝ }
     ensures { λ r. ⌜ Written (now (buffer .entry)) at (lineText (now (name .entry)) (decimal x)) (now (buffer .exit)) r ⌝ }
@@ -110,7 +100,7 @@ fn bounds_line(buffer: &mut [u8], at: usize, limits: Limits) -> usize
     ensures { λ r. ⌜ Written (now (buffer .entry)) at (lineText (bytesOf "bounds ") (boundsText (toldLimits limits))) (now (buffer .exit)) r ⌝ }
 {
     let value = text::put(buffer, at, b"bounds ");
-    let end = bounds(buffer, value, limits);
+    let end = fractions(buffer, value, limits.p, limits.q, limits.s, limits.t);
     text::put(buffer, end, b"\n")
 }
 

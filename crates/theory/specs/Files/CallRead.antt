@@ -2,16 +2,13 @@
 use Prim.Native.Nat.{ℕ, _+_, _*_, _/_, _%_, _^_, _≤_, _<_}
 use mathlib.Core.Path.{_≡_, refl, sym, ap, subst, _∙_}
 use mathlib.Core.Logic.{_⊎_}
-use mathlib.Core.Bool.{Bool}
 use mathlib.Core.List.{List}
 use native.Mathlib.Omega.{arith}
 use native.Mathlib.Nat.{div-one, div-div-eq-div-mul}
 use Rattle.meaning.specs.Number.{sumTo, tabFrom, filled}
 use Rattle.meaning.specs.Chain.{M}
 use Rattle.meaning.specs.Figure.{Chance}
-use Rattle.meaning.specs.Step.{Sets}
 use Rattle.meaning.specs.Refusal.{Lent, Entry, Applies}
-use Rattle.meaning.specs.Stop.{Stops, before-steps, in-step}
 use Rattle.meaning.specs.Outcome.{Outcome, refused, stopped, answered, Answer, Bounds, between, BoundsFigure}
 use Rattle.meaning.specs.File.{chainIn, plainIn}
 use Rattle.meaning.specs.Call.{defaultMode, exactMode, boundsMode, answerBytes, answerNumber, answerRead, wholeFile, Said, CallOutcome}
@@ -85,7 +82,7 @@ module _ {file before after : List ℕ} {mode : ℕ} where
       go : {bytes : List ℕ} → Said (wholeFile file) mode 0 bytes → after ≡ filled bytes before → BoundsFigure (plainIn (wholeFile file)) (answerRead after)
       go (Said.exactly m′ a w o e g) k = absurd (modes-apart m′ m)
       go (Said.bounded m a w o e g) k =
-          let h = figure (λ (a : Bounds). a .number) (λ n p. refl) (λ n p s. omega (arith, stopped-twelve s)) o (sym e) in
+          let h = figure (λ (a : Bounds). a .number) (λ n p. refl) (λ n p s. absurd s) o (sym e) in
           let (u, v) = bounds-small o in
           subst (BoundsFigure (plainIn (wholeFile file))) (between-of h ∙ sym (reads before u v g k)) h
 

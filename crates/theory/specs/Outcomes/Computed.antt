@@ -6,11 +6,11 @@ use mathlib.Core.List.{List}
 use Rattle.meaning.specs.Number.{gcd, Reduced}
 use Rattle.meaning.specs.Chain.{Chain, begin}
 use Rattle.meaning.specs.Figure.{Chance, Missed, Expected}
-use Rattle.meaning.specs.Row.{Row, cell, goalColumn, unknownColumn, reward, exact, rounding}
+use Rattle.meaning.specs.Row.{Row, cell, goalColumn, unknownColumn, reward, exact}
 use Rattle.meaning.specs.Step.{row, Sets, Right, outside}
 use Rattle.meaning.specs.Refusal.{Lent, Entry, plain, paid, WellFormed}
 use Rattle.meaning.specs.Stop.{earns, tableAt, Passed, Stopped}
-use Rattle.meaning.specs.Outcome.{cleared, Outcome, refused, stopped, answered, refusal, fraction, infinite, ChanceFigure, chance, RewardFigure, missed, expected, RewardStop, Bounds, noBounds, between, lastRow, BoundsFigure}
+use Rattle.meaning.specs.Outcome.{cleared, Outcome, refused, stopped, answered, refusal, fraction, infinite, ChanceFigure, chance, RewardFigure, missed, expected, RewardStop, Bounds, noBounds, between, lastRow, BoundsFigure, BoundsStop}
 use Rattle.theory.specs.Numbers.Gcd.{fraction-reduced}
 use Rattle.theory.specs.Chains.Sets.{right-one, right-exists}
 use Rattle.theory.specs.Outcomes.Look.{Looked, look}
@@ -147,14 +147,11 @@ module _ (l : Lent) (k : Sets) where
         ]
       ])
 
-  unfoldable pub bounds-computed : (WellFormed plain l → Right (l .chain) k) → Computed plain l noBounds (Stopped rounding l) (BoundsFigure l)
-  unfolding computed course bounds-are
+  unfoldable pub bounds-computed : (WellFormed plain l → Right (l .chain) k) → Computed plain l noBounds BoundsStop (BoundsFigure l)
+  unfolding computed bounds-are
   bounds-computed right =
-      computed plain l noBounds (Stopped rounding l) (BoundsFigure l) (λ f.
-      elim (course l k (right f) rounding) [
-        | halts number place s ↦ stop number place s
-        | goes-on u ↦ let v = bounds-are l k (right f) f in figure u (v .0) (v .1)
-      ])
+      computed plain l noBounds BoundsStop (BoundsFigure l) (λ f.
+      let v = bounds-are l k (right f) f in figure (λ number place s. s) (v .0) (v .1))
 
 -- The sets are there where the input is well formed, so that each entry has an outcome, whatever it is lent.
 set-in : (x : Entry) (l : Lent) {T : Type 0} → ((k : Sets) → (WellFormed x l → Right (l .chain) k) → T) → T
@@ -170,5 +167,5 @@ chance-outcome l = set-in plain l (chance-computed l)
 pub reward-outcome : (l : Lent) → Computed paid l refusal (RewardStop l) (RewardFigure l)
 reward-outcome l = set-in paid l (reward-computed l)
 
-pub bounds-outcome : (l : Lent) → Computed plain l noBounds (Stopped rounding l) (BoundsFigure l)
+pub bounds-outcome : (l : Lent) → Computed plain l noBounds BoundsStop (BoundsFigure l)
 bounds-outcome l = set-in plain l (bounds-computed l)

@@ -8,12 +8,13 @@ use native.Mathlib.Nat.{le-of-mul-le-mul-left, mul-le-mul-left, mul-pos}
 use Rattle.meaning.specs.Number.{Reduced}
 use Rattle.meaning.specs.Chain.{Chain, Live}
 use Rattle.meaning.specs.Figure.{Chance}
-use Rattle.meaning.specs.Row.{cell, goalColumn, unknownColumn, exact, rounding}
+use Rattle.meaning.specs.Row.{cell, goalColumn, unknownColumn, rounding}
 use Rattle.meaning.specs.Step.{Sets, Right, outside}
 use Rattle.meaning.specs.Refusal.{Lent, plain, WellFormed}
-use Rattle.meaning.specs.Stop.{earns, Stops, before-steps, in-step}
+use Rattle.meaning.specs.Stop.{earns, Stops, before-steps, in-step, Stopped}
 use Rattle.meaning.specs.Outcome.{refused, stopped, answered, Bounds, between, lastRow, BoundsFigure, BoundsOutcome}
 use Rattle.meaning.specs.Demand.{AtMost, ChanceBetween, BothChance, Unrounded}
+use Rattle.theory.specs.Rows.Settle.{one-engine}
 use Rattle.theory.specs.Figures.Shares.{shares-exist}
 use Rattle.theory.specs.Outcomes.Formed.{formed-fine, start-in, unpaid}
 use Rattle.theory.specs.Outcomes.Whole.{
@@ -38,6 +39,14 @@ above-share : (a b p q d x s t : ℕ) → 0 < b → 0 < d → Reduced a b p q �
 above-share a b p q d x s t whole above r e h =
     le-of-mul-le-mul-left {k = b * d}
     (omega (arith, ap (λ z. z * (d * t)) (r .same), ap (λ z. z * (b * q)) e, mul-le-mul-left (q * t) h)) (mul-pos whole above)
+
+-- Nothing stops the bounds engine, since only a row of the exact engine does not fit.
+pub rounding-unstopped : {l : Lent} {number place : ℕ} → Stopped rounding l number place → ⊥
+rounding-unstopped s = none (s .stops)
+  where
+    none : {l : Lent} {k : Sets} {number place : ℕ} → Stops rounding l k number place → ⊥
+    none (before-steps f) = one-engine rounding (f .0) refl
+    none (in-step p h w f) = one-engine rounding (f .0) refl
 
 module _ (l : Lent) (formed : WellFormed plain l) where
   abbrev c : Chain
@@ -86,19 +95,11 @@ module _ (l : Lent) (formed : WellFormed plain l) where
             upper-chance c k (l .order) ready (earns l) alive (none k right) s t highest,
           )
 
-  apart : rounding ≡ exact → ⊥
-  apart e = let z : _≡_ {A = ℕ} 0 1 = cc in omega arith
-
-  -- Nothing stops the bounds engine.
-  stop-none : (k : Sets) → Right c k → {number place : ℕ} → Stops rounding l k number place → ⊥
-  stop-none k right (before-steps f) = apart (f .0)
-  stop-none k right (in-step p h w f) = apart (f .0)
-
   -- Two fractions: what holds of every figure holds of every outcome.
   module _ (P : Bounds → Type 0) (a : Bounds) (w : List ℕ) (figure : (b : Bounds) → BoundsFigure l b → P b) where
     outcome : BoundsOutcome l a w → P a
     outcome (refused n p r e s) = absurd (formed .none n p (r .applies))
-    outcome (stopped n p f t e s) = absurd (stop-none (t .sets) (t .right) (t .stops))
+    outcome (stopped n p f t e s) = absurd t
     outcome (answered f t g s) = figure a g
 
   module _ (a : Bounds) (w : List ℕ) where

@@ -5,7 +5,7 @@ use mathlib.Core.Bool.{Bool}
 use mathlib.Core.List.{List}
 use Rattle.meaning.specs.Number.{Reduced}
 use Rattle.meaning.specs.Chain.{Chain, PathTo, Live}
-use Rattle.meaning.specs.Row.{cell, goalColumn, unknownColumn, exact, rounding}
+use Rattle.meaning.specs.Row.{cell, goalColumn, unknownColumn, exact}
 use Rattle.meaning.specs.Step.{Sets, Right, outside}
 use Rattle.meaning.specs.Refusal.{Lent, plain, paid, WellFormed}
 use Rattle.meaning.specs.Stop.{earns, Stops, Stopped}
@@ -74,4 +74,4 @@ module _ (l : Lent) where
   reward-determined = outcome-one (λ n p n′ p′ s s′. stopped-one {b = exact} {l = l} n p n′ p′ (s .1) (s′ .1)) reward-figure-one
 
   pub bounds-determined : {a a′ : Bounds} {w w′ : List ℕ} → BoundsOutcome l a w → BoundsOutcome l a′ w′ → (a ≡ a′) × (w ≡ w′)
-  bounds-determined = outcome-one (stopped-one {b = rounding} {l = l}) bounds-figure-one
+  bounds-determined = outcome-one (λ n p n′ p′ s s′. absurd s) bounds-figure-one

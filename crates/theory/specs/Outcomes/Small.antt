@@ -169,5 +169,5 @@ bounds-figure l formed a (BoundsFigure.live k right v p q s t f e) =
 
 pub bounds-small : {l : Lent} {a : Bounds} {w : List ℕ} → BoundsOutcome l a w → BothSmall a
 bounds-small (refused number place r e s) = rw e (nought, nought)
-bounds-small (stopped number place f t e s) = rw e (nought, nought)
+bounds-small (stopped number place f t e s) = absurd t
 bounds-small {l} {a} (answered f t g s) = bounds-figure l f a g

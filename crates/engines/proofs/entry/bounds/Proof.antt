@@ -3,7 +3,7 @@ use native.Mathlib.Omega.{arith}
 use borrow.Author.Needs.{needs}
 use Rattle.meaning.specs.Refusal.{Lent}
 use Rattle.chain.specs.Lent.{lent}
-use Rattle.engines.proofs.Outcomes.{reduced-of, bounds-sum, bounds-answer, bounds-stop}
+use Rattle.engines.proofs.Outcomes.{reduced-of, bounds-sum, bounds-answer, bounds-refuses}
 use Rattle.engines.proofs.entry.bounds.Statement.{statement}
 use Rattle.engines.proofs.entry.bounds.Tie as tie
 
@@ -29,7 +29,7 @@ returns-2 : tie.Need-returns-2
 returns-2 c =
     let number = c .before in
     let at = number .before .before .before .before in
-    bounds-stop (l at) _ (number .number .given .1) (at .unpaid .ensures)
+    bounds-refuses (l at) _ (number .number .given .1) (at .unpaid .ensures)
 
 pub bounds-spec : {M : Type 1} → statement M
 bounds-spec =
