@@ -38,7 +38,6 @@ static const char *refusal_name(uint32_t number)
     case EGORSTREAM_ORDER_WRONG: return "order wrong";
     case EGORSTREAM_REWARD_WRONG: return "reward wrong";
     case EGORSTREAM_NO_FIT: return "no fit";
-    case EGORSTREAM_DIVISOR_ZERO: return "divisor zero";
     case EGORSTREAM_FILE_LENGTH_WRONG: return "file length wrong";
     case EGORSTREAM_BLOCK_CHECK_WRONG: return "block check wrong";
     case EGORSTREAM_BLOCK_NUMBER_WRONG: return "block number wrong";

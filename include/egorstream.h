@@ -65,8 +65,6 @@ extern "C" {
 
 /* Numbers on the way grew above 2,147,483,647: ask for bounds, or try another order. */
 #define EGORSTREAM_NO_FIT UINT32_C(12)
-/* A state led nowhere but to itself at its turn. No well-formed chain comes to this. */
-#define EGORSTREAM_DIVISOR_ZERO UINT32_C(13)
 
 /* The file is damaged or is no chain file: fetch or write it again. */
 

@@ -101,8 +101,8 @@ pub struct LastRow {
 
 /// Makes every step of the order on a chain whose start is live.
 ///
-/// Refuses 12 where a row has no fit. 13 cannot come: a live state keeps a weight to elsewhere,
-/// and rounding turns what it takes off into Unknown.
+/// Refuses 12 where a row has no fit. A live state has weight outside its own loop at its turn,
+/// rounded or not: rounding turns what it takes off into Unknown.
 pub fn last_row(chain: &Chain, reach: &Reach, figure: Figure) -> Result<LastRow, Refusal> {
     let mut rows: Vec<Option<Row>> = Vec::new();
     for state in 0..chain.states() {

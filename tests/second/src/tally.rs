@@ -19,7 +19,7 @@ pub enum Asked {
 }
 
 /// The numbers that a file's bytes, a mode and an answer's length can give; 0 is an answer. 11 needs
-/// a reward above what two bytes hold, and no well-formed chain comes to 13.
+/// a reward above what two bytes hold.
 const GIVEN: [RangeInclusive<usize>; 3] = [0..=10, 12..=12, 20..=24];
 /// Those that need a mode or an answer, which a report does not have.
 const NOT_REPORTED: [usize; 2] = [1, 2];
