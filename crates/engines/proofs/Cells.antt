@@ -161,19 +161,19 @@ module _ (n : ℕ) (k : Sets) (edges : List ℕ) (e : ℕ) where
 
 -- The first e edges are gathered.
 pub record Gathering (n : ℕ) (k : Sets) (edges w : List ℕ) (e : ℕ) (v : List ℕ) : Type 0 where
-  pub upto : e ≤ edgeCount edges
+  pub soFar : e ≤ edgeCount edges
   pub held : Held n (λ i j. sumTo (share n k edges i j) e) w v
 
 module _ {n : ℕ} {k : Sets} {edges : List ℕ} {w : List ℕ} where
   pub gathering-none : ((i j : ℕ) → i < n → j < width n → cell (rowAt n w i) j ≡ 0) → Gathering n k edges w 0 w
   unfolding sumTo
-  gathering-none h = record { upto = omega arith; held = record { kept = kept-same n w; cells = h } }
+  gathering-none h = record { soFar = omega arith; held = record { kept = kept-same n w; cells = h } }
 
   module _ {e : ℕ} {v : List ℕ} (g : Gathering n k edges w e v) where
     pub gathering-more : {u : List ℕ} → e < edgeCount edges → Added n (λ i j. share n k edges i j e) v u → Gathering n k edges w (e + 1) u
     gathering-more l a =
         record {
-          upto = omega arith;
+          soFar = omega arith;
           held = record {
             kept = kept-more (g .held .kept) (a .kept);
             cells = λ i j b h.
@@ -185,7 +185,7 @@ module _ {n : ℕ} {k : Sets} {edges : List ℕ} {w : List ℕ} where
 
     pub gathering-all : edgeCount edges ≤ e → Held n (λ i j. sumTo (share n k edges i j) (edgeCount edges)) w v
     gathering-all l =
-        let q : e ≡ edgeCount edges = omega (arith, g .upto) in
+        let q : e ≡ edgeCount edges = omega (arith, g .soFar) in
         record { kept = g .held .kept; cells = λ i j b h. g .held .cells i j b h ∙ ap (sumTo (share n k edges i j)) q }
 
     -- What is gathered so far and the next weight are part of a row sum.

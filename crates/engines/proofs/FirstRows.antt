@@ -18,7 +18,7 @@ use Rattle.meaning.specs.Refusal.{Lent, Entry, WellFormed}
 use Rattle.theory.specs.Numbers.Sum.{same, below, sum-ext, sum-zero}
 use Rattle.theory.specs.Numbers.Tab.{tab-ext}
 use Rattle.theory.specs.Chains.Flow.{flow-ext}
-use Rattle.theory.specs.Stages.Given.{Fate, live, won, lost, Alive, goes-to, given-state, given-goal, given-trap, given-unknown, given-reward, given-length, given-total}
+use Rattle.theory.specs.Stages.Given.{Fate, live, won, lost, LiveRow, goes-to, given-state, given-goal, given-trap, given-unknown, given-reward, given-length, given-total}
 use Rattle.theory.specs.Stages.First.{first-row}
 use Rattle.theory.specs.Outcomes.Formed.{few-states, room, formed-fine, from-in, denominators-length, denominator-small, reward-small, reward-none}
 use Rattle.engines.specs.Table.{rowAt, Renewed}
@@ -97,7 +97,7 @@ module _ (c : Chain) (k : Sets) where
         }
 
     -- The sum of the weights to each column is what the chain gives.
-    module _ (i : ℕ) (q : Alive c k i) where
+    module _ (i : ℕ) (q : LiveRow c k i) where
       by-target : (f g : ℕ → ℕ) → ((t : ℕ) → t < n → Fate c k t → f t ≡ g t) → along c i f ≡ along c i g
       by-target f g h =
           flow-ext (c .edges) i f g (λ e l p. h (to (c .edges) e) (a .fine .targets e l) (goes-to c k pay (a .fine) (a .right) i e q l p))
@@ -135,7 +135,7 @@ module _ (c : Chain) (k : Sets) where
       space : n * (n + 4) ≤ length v
       space = omega (arith, z .kept .len, a .room)
 
-      module _ (i : ℕ) (q : Alive c k i) where
+      module _ (i : ℕ) (q : LiveRow c k i) where
         live-cell : (j : ℕ) → j < n + 3 → cell (rowAt n v i) j ≡ cell (given c k pay 0 i) j
         unfolding flow
         live-cell j h =

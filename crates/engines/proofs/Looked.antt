@@ -17,7 +17,7 @@ use Rattle.survey.specs.declared.Survey.{Survey}
 use Rattle.survey.specs.declared.Survey.the-variants as survey
 use Rattle.survey.proofs.Surveyed.{refusing, found}
 use Rattle.survey.specs.declared.Sets.{Sets as Found}
-use Rattle.engines.specs.Looking.{upto, looked}
+use Rattle.engines.specs.Looking.{soFar, looked}
 use Rattle.engines.specs.declared.looking.Looked.{Looked}
 use Rattle.engines.specs.declared.looking.Looked.the-variants.{Clear, Refused as Refusing}
 use Rattle.theory.specs.Outcomes.Formed.{start-in, order-length, order-in}
@@ -38,16 +38,16 @@ module _ {x : Entry} {l : Lent} (u : Upto x l 3) {r : Survey} (o : SurveyOutcome
 
 -- What is said before the numbers from k on are looked at, and of all once these are cleared.
 module _ (x : Entry) (l : Lent) (k : ℕ) where
-  pub settle : (f : Looked) → (Upto x l k → WellFormed x l) → upto x l k f → looked x l f
+  pub settle : (f : Looked) → (Upto x l k → WellFormed x l) → soFar x l k f → looked x l f
   settle (Clear s) rest u = (rest (u .0), u .1)
   settle (Refusing j p) rest r = r
 
-  module _ {f : Looked} (s : upto x l k f) where
+  module _ {f : Looked} (s : soFar x l k f) where
     pub upto-refused : {j p : ℕ} → f ≡ Refusing j p → Refused x l j p
-    upto-refused e = subst (upto x l k) e s
+    upto-refused e = subst (soFar x l k) e s
 
     pub upto-clear : {z : Found} → f ≡ Clear z → Upto x l k × Known (l .chain) z
-    upto-clear e = subst (upto x l k) e s
+    upto-clear e = subst (soFar x l k) e s
 
 -- What an entry knows of its looking.
 module _ {x : Entry} {l : Lent} {f : Looked} (s : looked x l f) where

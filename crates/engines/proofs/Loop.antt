@@ -13,14 +13,14 @@ use Rattle.theory.specs.Numbers.Tab.{tab-of}
 
 -- After k turns over l: the numbers below k are new, the others as they were.
 pub record Walked (f : ℕ → ℕ) (l : List ℕ) (k : ℕ) (row : List ℕ) : Type 0 where
-  pub upto : k ≤ length l
+  pub soFar : k ≤ length l
   pub len : length row ≡ length l
   pub new : (j : ℕ) → j < k → getD row j 0 ≡ f j
   pub old : (j : ℕ) → k ≤ j → getD row j 0 ≡ getD l j 0
 
 module _ {f : ℕ → ℕ} {l : List ℕ} where
   pub walk-none : Walked f l 0 l
-  walk-none = record { upto = zero-le; len = refl; new = λ j h. absurd (omega arith); old = λ j h. refl }
+  walk-none = record { soFar = zero-le; len = refl; new = λ j h. absurd (omega arith); old = λ j h. refl }
 
   module _ {k : ℕ} {row : List ℕ} (w : Walked f l k row) where
     pub walk-at : getD row k 0 ≡ getD l k 0
@@ -29,7 +29,7 @@ module _ {f : ℕ → ℕ} {l : List ℕ} where
     pub walk-more : {v : ℕ} → k < length l → v ≡ f k → Walked f l (k + 1) (set row k v)
     walk-more {v} h e =
         record {
-          upto = omega arith;
+          soFar = omega arith;
           len = simp length-set (w .len);
           new =
               λ j b.

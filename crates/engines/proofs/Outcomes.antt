@@ -144,39 +144,39 @@ module _ (l : Lent) (w : List ℕ) {r : Course} where
   pub bounds-sum : {g u e d : ℕ} → r ≡ Ends g u e d → entered plain rounding l w r → g + u ≤ M
   bounds-sum q z = let y = subst (entered plain rounding l w) q z in read-sum l (y .0) (y .2)
 
-  pub chance-answers : {g u e d : ℕ} → r ≡ Ends g u e d → entered plain exact l w r → {f : Fraction} → f ≡ reduced (over g d)
+  pub answers-chance : {g u e d : ℕ} → r ≡ Ends g u e d → entered plain exact l w r → {f : Fraction} → f ≡ reduced (over g d)
       → ChanceOutcome l (toldChance (chance.Is f)) w
-  chance-answers q z t =
+  answers-chance q z t =
       let y = subst (entered plain exact l w) q z in
       subst (λ f. ChanceOutcome l (toldChance (chance.Is f)) w) (sym t)
       (answered (y .0) (read-unstopped l (y .2)) (ChanceFigure.chance _ _ (chance-read l (y .0) (y .2)) refl) (y .1))
 
-  pub chance-stops : {number place : ℕ} → r ≡ Stops number place → entered plain exact l w r → ChanceOutcome l (refusal number place) w
-  chance-stops q z =
+  pub stops-chance : {number place : ℕ} → r ≡ Stops number place → entered plain exact l w r → ChanceOutcome l (refusal number place) w
+  stops-chance q z =
       ⊎-elim (λ y. refused _ _ (y .0) refl (y .1)) (λ y. stopped _ _ (y .0) (y .2) refl (y .1)) (subst (entered plain exact l w) q z)
 
-  pub bounds-answer : {g u e d : ℕ} → r ≡ Ends g u e d → entered plain rounding l w r → {f h : Fraction} → f ≡ reduced (over g d) → h ≡ reduced (over (g + u) d)
+  pub answers-bounds : {g u e d : ℕ} → r ≡ Ends g u e d → entered plain rounding l w r → {f h : Fraction} → f ≡ reduced (over g d) → h ≡ reduced (over (g + u) d)
       → BoundsOutcome l (toldBounds (bounds.Between f h)) w
-  bounds-answer q z t v =
+  answers-bounds q z t v =
       let y = subst (entered plain rounding l w) q z in
       rw (t, v) (answered (y .0) (λ number place s. s) (bounds-read l (y .0) (y .2)) (y .1))
 
   -- Its elimination does not stop, so that this is a refusal by 1 to 10.
-  pub bounds-refuses : {number place : ℕ} → r ≡ Stops number place → entered plain rounding l w r → BoundsOutcome l (noBounds number place) w
-  bounds-refuses q z =
+  pub refuses-bounds : {number place : ℕ} → r ≡ Stops number place → entered plain rounding l w r → BoundsOutcome l (noBounds number place) w
+  refuses-bounds q z =
       ⊎-elim (λ y. refused _ _ (y .0) refl (y .1)) (λ y. absurd (rounding-unstopped (y .2))) (subst (entered plain rounding l w) q z)
 
 -- A refusal by the numbers 1 to 11 leaves the work table.
-pub reward-refuses : {l : Lent} {number place : ℕ} → Refused paid l number place → Rewarded l (reward.Refused number place) (l .work)
-reward-refuses z = record { outcome = refused _ _ z refl refl; proper = refused-some z }
+pub refuses-reward : {l : Lent} {number place : ℕ} → Refused paid l number place → Rewarded l (reward.Refused number place) (l .work)
+refuses-reward z = record { outcome = refused _ _ z refl refl; proper = refused-some z }
 
 module _ (l : Lent) (formed : WellFormed paid l) {w : List ℕ} (s : w ≡ cleared l) where
-  pub reward-misses : Missed (l .chain) → Rewarded l reward.Infinite w
-  reward-misses m = record { outcome = answered formed (λ number place z. z .0 m) (RewardFigure.missed m refl) s; proper = tt }
+  pub misses-reward : Missed (l .chain) → Rewarded l reward.Infinite w
+  misses-reward m = record { outcome = answered formed (λ number place z. z .0 m) (RewardFigure.missed m refl) s; proper = tt }
 
   module _ (sure : Missed (l .chain) → ⊥) {r : Course} where
-    pub reward-answers : {g u e d : ℕ} → r ≡ Ends g u e d → runs exact l r → {f : Fraction} → f ≡ reduced (over e d) → Rewarded l (reward.Is f) w
-    reward-answers q z t =
+    pub answers-reward : {g u e d : ℕ} → r ≡ Ends g u e d → runs exact l r → {f : Fraction} → f ≡ reduced (over e d) → Rewarded l (reward.Is f) w
+    answers-reward q z t =
         let y = subst (runs exact l) q z in
         let h = reward-read l formed sure y in
         subst (λ f. Rewarded l (reward.Is f) w) (sym t)
@@ -185,7 +185,7 @@ module _ (l : Lent) (formed : WellFormed paid l) {w : List ℕ} (s : w ≡ clear
           proper = h .lowest .whole;
         })
 
-    pub reward-stops : {number place : ℕ} → r ≡ Stops number place → runs exact l r → Rewarded l (reward.Refused number place) w
-    reward-stops q z =
+    pub stops-reward : {number place : ℕ} → r ≡ Stops number place → runs exact l r → Rewarded l (reward.Refused number place) w
+    stops-reward q z =
         let y = subst (runs exact l) q z in
         record { outcome = stopped _ _ formed (sure, y) refl s; proper = omega (arith, stopped-twelve y) }

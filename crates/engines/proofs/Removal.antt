@@ -21,7 +21,7 @@ use Rattle.engines.proofs.Tables.{kept-same, kept-more}
 
 -- After i turns.
 pub record Renewing (b : Bool) (g : ℕ → Row) (n : ℕ) (w : List ℕ) (i : ℕ) (v : List ℕ) : Type 0 where
-  pub upto : i ≤ n
+  pub soFar : i ≤ n
   pub kept : Kept n w v
   pub new : (k : ℕ) → k < i → rowAt n v k ≡ g k
   pub old : (k : ℕ) → i ≤ k → k < n → rowAt n v k ≡ rowAt n w k
@@ -31,7 +31,7 @@ module _ {b : Bool} {g : ℕ → Row} {n : ℕ} {w : List ℕ} where
   pub renewing-none : Renewing b g n w 0 w
   renewing-none =
       record {
-        upto = zero-le;
+        soFar = zero-le;
         kept = kept-same n w;
         new = λ k h. absurd (omega arith);
         old = λ k h b. refl;
@@ -43,7 +43,7 @@ module _ {b : Bool} {g : ℕ → Row} {n : ℕ} {w : List ℕ} where
       pub renewing-more : answer ≡ true → Renewing b g n w (i + 1) u
       renewing-more e =
           record {
-            upto = omega arith;
+            soFar = omega arith;
             kept = kept-more (z .kept) (p .put .kept);
             new =
                 λ k c.

@@ -122,9 +122,9 @@ put-with n w room i b r l =
     }
 
 -- A row that was lent as `lent` says, has become r, and is back.
-pub placed : (n : ℕ) (w : List ℕ) (room : workSize n ≤ length w) (i : ℕ) (h : i < n) (a : ℕ) (p : a ≡ i * width n) {b : Bool} {q r : Row} {answer : Bool}
+pub row-placed : (n : ℕ) (w : List ℕ) (room : workSize n ≤ length w) (i : ℕ) (h : i < n) (a : ℕ) (p : a ≡ i * width n) {b : Bool} {q r : Row} {answer : Bool}
     → length q ≡ length (take (a + n + 4 - a) (drop a w)) → Became b n r q answer → Placed b n w i r (putMid a (a + n + 4 - a) w q) answer
-placed n w room i h a p {q = q} l z =
+row-placed n w room i h a p {q = q} l z =
     record {
       put =
           rw (back n i a p w q, ← z .same)

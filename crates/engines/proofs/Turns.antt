@@ -54,7 +54,7 @@ tables b n go o w = after b n go o (tableOf n w)
 
 -- After p positions.
 pub record Eliminating (b : Bool) (n : ℕ) (go : ℕ → Bool) (o w : List ℕ) (p : ℕ) (v : List ℕ) : Type 0 where
-  pub upto : p ≤ n
+  pub soFar : p ≤ n
   pub clear : UnstoppedWalk b n (tables b n go o w) p
   pub reached : Reached b n (tables b n go o w p) w v
 
@@ -64,7 +64,7 @@ module _ {b : Bool} {n : ℕ} {go : ℕ → Bool} {o : List ℕ} {w : List ℕ} 
   eliminating-none h =
       let z = reached-same b n w h in
       record {
-        upto = zero-le;
+        soFar = zero-le;
         clear = λ q l. let e : q ≡ 0 = omega arith in rw e (fit-unfit b n (tableOf n w) (z .fit));
         reached = z;
       }
@@ -85,7 +85,7 @@ module _ {b : Bool} {n : ℕ} {go : ℕ → Bool} {o : List ℕ} {w : List ℕ} 
           let m = turn-at .reached e in
           rw add-one
           (record {
-            upto = omega arith;
+            soFar = omega arith;
             clear = λ q c.
                 dite (decLt q (suc p)) (λ k. z .clear q (omega arith))
                 (λ k. let a : q ≡ suc p = omega arith in rw a (fit-unfit b n (tables b n go o w (suc p)) (m .fit)));
@@ -103,5 +103,5 @@ module _ {b : Bool} {n : ℕ} {go : ℕ → Bool} {o : List ℕ} {w : List ℕ} 
 
     pub eliminating-all : n ≤ p → Finished b n (tables b n go o w) w v
     eliminating-all h =
-        let e : p ≡ n = omega (arith, z .upto) in
+        let e : p ≡ n = omega (arith, z .soFar) in
         record { clear = rw e at (z .clear); reached = rw e at (z .reached) }

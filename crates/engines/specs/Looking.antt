@@ -12,9 +12,9 @@ abbrev pub ordered : Bool → Entry
 ordered b = record { order = true; rewards = b; work = true }
 
 -- What is said before the numbers from k on are looked at; the sets are the chain's own.
-abbrev pub upto : Entry → Lent → ℕ → Looked → Type 0
-upto x l k (Clear sets) = Upto x l k × Known (l .chain) sets
-upto x l k (Refusing number place) = Refused x l number place
+abbrev pub soFar : Entry → Lent → ℕ → Looked → Type 0
+soFar x l k (Clear sets) = Upto x l k × Known (l .chain) sets
+soFar x l k (Refusing number place) = Refused x l number place
 
 abbrev pub looked : Entry → Lent → Looked → Type 0
 looked x l (Clear sets) = WellFormed x l × Known (l .chain) sets

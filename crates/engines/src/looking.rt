@@ -8,7 +8,7 @@ ghost use Rattle.meaning.specs.Refusal.{plain, paid, workSize};
 ghost use Rattle.chain.specs.Decide.{decides};
 ghost use Rattle.chain.specs.Lent.{lent};
 ghost use Rattle.look.specs.Says.{counted};
-ghost use Rattle.engines.specs.Looking.{ordered, upto, looked};
+ghost use Rattle.engines.specs.Looking.{ordered, soFar, looked};
 use chain::Chain;
 use look::scan;
 use look::scan::Place;
@@ -43,7 +43,7 @@ fn tables(
         let d = now (denominators .entry) in
         let e = now (edges .entry) in
         let o = now (order .entry) in
-        ⌜ ((b : Bool) (w : List ℕ) → counted b (length w) (c .states) rewards → upto (ordered b) (lent c d e o w (now (work .entry))) 11 r) ⌝ }
+        ⌜ ((b : Bool) (w : List ℕ) → counted b (length w) (c .states) rewards → soFar (ordered b) (lent c d e o w (now (work .entry))) 11 r) ⌝ }
 {
     let n = c.states;
     if misshaped(n, denominators.len(), edges, order.len(), rewards) {

@@ -1,5 +1,4 @@
 -- What is promised of a file's figures determines every number of the answer.
-use Prim.Native.Nat.{ℕ}
 use mathlib.Core.Path.{_≡_, sym, ap, ap₂, _∙_}
 use Rattle.meaning.specs.Outcome.{Answer as Numbers, Bounds as BothNumbers, ChanceOutcome, RewardOutcome, BoundsOutcome}
 use Rattle.meaning.specs.Survey.{Survey}
@@ -9,7 +8,7 @@ use Rattle.theory.specs.Chains.Counted.{survey-one}
 use Rattle.theory.specs.Outcomes.Entries.{chance-determined, reward-determined, bounds-determined}
 use Rattle.theory.specs.Files.FileOne.{file-one, accepted-unrefused}
 use Rattle.figures.specs.Told.{toldAnswer, toldLimits, figures, noCounts, noAnswer, noLimits}
-use Rattle.figures.specs.Found.{Found, Counted, bareIn, ChanceAsked, BoundsAsked, ReportAsked, AskedOf, FiguresOutcome, refused, accepted}
+use Rattle.figures.specs.Found.{Found, Counted, bareIn, AskedOf, FiguresOutcome, refused, accepted}
 use Rattle.figures.specs.declared.answer.Counts.{Counts}
 use Rattle.figures.specs.declared.answer.Answer.{Answer}
 use Rattle.figures.specs.declared.answer.Limits.{Limits}

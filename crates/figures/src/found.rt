@@ -1,6 +1,5 @@
 // What is found of a chain, as numbers: its figures, each with a work table of its own, and its counts.
-ghost use mathlib.Core.List.{List, []};
-ghost use Prim.Native.Nat.{ℕ};
+ghost use mathlib.Core.List.{[]};
 ghost use Rattle.meaning.specs.Block.{Input};
 ghost use Rattle.meaning.specs.Outcome.{ChanceOutcome, RewardOutcome, BoundsOutcome};
 ghost use Rattle.chain.specs.Lent.{lent};

@@ -5,7 +5,7 @@ use mathlib.Core.List.{List}
 use native.Mathlib.Omega.{arith}
 use lib.ListN.{length, drop, set, length-set}
 use lib.Seq.{drop-set-lt, drop-drop}
-use Rattle.input.specs.Kept.{Kept}
+use Rattle.input.specs.Kept.{InputKept}
 
 -- Where bytes past one place stay, bytes past a later place do.
 later : (a b : List ℕ) (p k : ℕ) → drop p a ≡ drop p b → drop (p + k) a ≡ drop (p + k) b
@@ -31,11 +31,11 @@ module _ {before : List ℕ} {place : ℕ} where
           past = drop-set-lt (place + (i + 1)) after (place + i) x (omega arith) ∙ ap (λ z. drop z after) (sym next) ∙ later after before (place + i) 1 (k .past) ∙ ap (λ z. drop z before) next;
         }
 
-    pub ends : {came : ℕ} → (i < came → length before ≤ place + i) → Kept before place i came after
+    pub ends : {came : ℕ} → (i < came → length before ≤ place + i) → InputKept before place i came after
     ends f = record { same = k .same; room = k .room; full = λ h. omega (arith, f h, k .room); past = k .past }
 
 -- Nothing has come.
-pub nothing : (before : List ℕ) → Kept before 0 0 (0 + 0) before
+pub nothing : (before : List ℕ) → InputKept before 0 0 (0 + 0) before
 nothing before = record { same = refl; room = omega arith; full = λ h. absurd (omega (arith, h)); past = refl }
 
 -- A buffer that one of two parts filled is full.
@@ -45,8 +45,8 @@ fills zero n k l size f g r h = omega (arith, g (omega (arith, h)))
 fills (suc m) n k l size f g r h = omega (arith, f (omega arith), r)
 
 -- Another part.
-pub further : {before mid after : List ℕ} {k l : ℕ} (m n : ℕ) → Kept before 0 k (k + m) mid → Kept mid k l (l + n) after
-    → Kept before 0 (k + l) (k + l + (m + n)) after
+pub further : {before mid after : List ℕ} {k l : ℕ} (m n : ℕ) → InputKept before 0 k (k + m) mid → InputKept mid k l (l + n) after
+    → InputKept before 0 (k + l) (k + l + (m + n)) after
 further {before} {mid} {after} {k} {l} m n a b =
     let size = b .same ∙ a .same in
     let start : 0 + k ≡ k = omega arith in
@@ -60,7 +60,7 @@ further {before} {mid} {after} {k} {l} m n a b =
     }
 
 -- A part of no bytes changes nothing.
-pub ended : {before mid after : List ℕ} {k came l n : ℕ} → Kept before 0 k came mid → Kept mid k l n after → l ≡ 0 → Kept before 0 k came after
+pub ended : {before mid after : List ℕ} {k came l n : ℕ} → InputKept before 0 k came mid → InputKept mid k l n after → l ≡ 0 → InputKept before 0 k came after
 ended {before} {mid} {after} {k} {came} {l} a b e =
     let here : k + l ≡ 0 + k = omega arith in
     record {
@@ -71,6 +71,6 @@ ended {before} {mid} {after} {k} {came} {l} a b e =
     }
 
 -- What is not kept of a part is counted.
-pub counted : {before after : List ℕ} {place k came : ℕ} (got : ℕ) → Kept before place k came after → k ≤ came → came ≡ got
-    → Kept before place k (k + (got - k)) after
-counted {before} {after} {place} {k} got h l e = subst (λ z. Kept before place k z after) (omega arith) h
+pub counted : {before after : List ℕ} {place k came : ℕ} (got : ℕ) → InputKept before place k came after → k ≤ came → came ≡ got
+    → InputKept before place k (k + (got - k)) after
+counted {before} {after} {place} {k} got h l e = subst (λ z. InputKept before place k z after) (omega arith) h

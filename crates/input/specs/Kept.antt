@@ -5,7 +5,7 @@ use mathlib.Core.List.{List}
 use lib.ListN.{length, drop}
 
 -- Of so many bytes that came, `kept` are kept from the place on: all, unless the buffer is full. Bytes past them stay.
-pub record Kept (before : List ℕ) (place kept came : ℕ) (after : List ℕ) : Type 0 where
+pub record InputKept (before : List ℕ) (place kept came : ℕ) (after : List ℕ) : Type 0 where
   pub same : length after ≡ length before
   pub room : place + kept ≤ length before
   pub full : kept < came → place + kept ≡ length before

@@ -1,7 +1,7 @@
 // Standard input for programs: what is kept of it, and what is only counted.
 ghost use Prim.Native.Nat.{_+_, _≤_};
 ghost use lib.ListN.{length};
-ghost use Rattle.input.specs.Kept.{Kept};
+ghost use Rattle.input.specs.Kept.{InputKept};
 use libc::STDIN_FILENO;
 
 // What one read takes at most, and how many reads there are at most, some 2^63 bytes in all: a proved loop has to end, and nothing says that
@@ -20,7 +20,7 @@ pub struct Input {
 fn keep(kept: &mut [u8], at: usize, part: &[u8]) -> usize
     requires { ⌜ at ≤ length (now kept) ⌝ }
     ensures { λ r. ⌜ r ≤ length (now (part .entry)) ⌝ }
-    ensures { λ r. ⌜ Kept (now (kept .entry)) at r (length (now (part .entry))) (now (kept .exit)) ⌝ }
+    ensures { λ r. ⌜ InputKept (now (kept .entry)) at r (length (now (part .entry))) (now (kept .exit)) ⌝ }
 {
     let mut i = 0;
     while i < part.len() {
@@ -37,7 +37,7 @@ fn keep(kept: &mut [u8], at: usize, part: &[u8]) -> usize
 fn read_part(kept: &mut [u8], at: usize) -> Input
     requires { ⌜ at ≤ length (now kept) ⌝ }
     ensures { λ r. ⌜ r .length + r .more ≤ 65536 ⌝ }
-    ensures { λ r. ⌜ Kept (now (kept .entry)) at (r .length) (r .length + r .more) (now (kept .exit)) ⌝ }
+    ensures { λ r. ⌜ InputKept (now (kept .entry)) at (r .length) (r .length + r .more) (now (kept .exit)) ⌝ }
 {
     let mut part = [0u8; PART];
     let got = io::count(libc::read(STDIN_FILENO, &mut part), &part);
@@ -50,7 +50,7 @@ fn read_part(kept: &mut [u8], at: usize) -> Input
 
 // Reads all of standard input: the buffer keeps what it has room for, and the rest is counted.
 pub fn read(kept: &mut [u8]) -> Input
-    ensures { λ r. ⌜ Kept (now (kept .entry)) 0 (r .length) (r .length + r .more) (now (kept .exit)) ⌝ }
+    ensures { λ r. ⌜ InputKept (now (kept .entry)) 0 (r .length) (r .length + r .more) (now (kept .exit)) ⌝ }
 {
     let mut length = 0;
     let mut more = 0;

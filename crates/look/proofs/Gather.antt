@@ -19,14 +19,14 @@ abbrev share : List ℕ → ℕ → ℕ → ℕ
 share edges i = carried edges i (λ _. 1)
 
 -- The first e edges are gathered.
-pub record Gathered (edges sums : List ℕ) (e : ℕ) : Type 0 where
+pub record Summed (edges sums : List ℕ) (e : ℕ) : Type 0 where
   pub past : e ≤ edgeCount edges
   pub size : length sums ≡ mostStates
   pub is : (i : ℕ) → i < mostStates → getD sums i 0 ≡ sumTo (share edges i) e
   pub most : (i : ℕ) → i < mostStates → getD sums i 0 ≤ M * e
 
 module _ (edges : List ℕ) where
-  pub none : Gathered edges (replicate mostStates 0) 0
+  pub none : Summed edges (replicate mostStates 0) 0
   unfolding sumTo
   none =
       record {
@@ -36,7 +36,7 @@ module _ (edges : List ℕ) where
         most = λ i h. omega (arith, getD-replicate {A = ℕ} mostStates i 0 0 h);
       }
 
-  pub all : {sums : List ℕ} {e : ℕ} → Gathered edges sums e → edgeCount edges ≤ e → (i : ℕ) → i < mostStates → getD sums i 0 ≡ rowSum edges i
+  pub all : {sums : List ℕ} {e : ℕ} → Summed edges sums e → edgeCount edges ≤ e → (i : ℕ) → i < mostStates → getD sums i 0 ≡ rowSum edges i
   unfolding flow
   all {e = e} g l i h = let z : e ≡ edgeCount edges = omega (arith, g .past) in g .is i h ∙ ap (sumTo (share edges i)) z
 
@@ -53,8 +53,8 @@ module _ (edges : List ℕ) where
       pub weight-small : weight edges e ≤ M
       weight-small = let out : M < weight edges e → ⊥ = λ l. weights e (h, inr l) in omega arith
 
-      module _ (sums : List ℕ) (g : Gathered edges sums e) where
-        pub more : (s w : ℕ) → s ≡ from edges e → w ≡ weight edges e → Gathered edges (set sums s (getD sums s 0 + w)) (e + 1)
+      module _ (sums : List ℕ) (g : Summed edges sums e) where
+        pub more : (s w : ℕ) → s ≡ from edges e → w ≡ weight edges e → Summed edges (set sums s (getD sums s 0 + w)) (e + 1)
         more s w p q =
             record {
               past = omega arith;

@@ -17,7 +17,7 @@ use Rattle.look.specs.declared.Finding.the-variants.{Clear, Refused as R
 use Rattle.look.specs.Least.{Least}
 use Rattle.chain.specs.Decide.{decides}
 use Rattle.chain.proofs.Law.{holds, fails}
-use Rattle.look.specs.Says.{Looked, Upto, upto, counted, Shaped}
+use Rattle.look.specs.Says.{Looks, Upto, upto, counted, Shaped}
 
 pub refuse : {x : Entry} {l : Lent} {k p : ℕ} → Upto x l k → Least (Applies x l k) p → Refused x l k p
 refuse u f = record { applies = f .here; number-least = λ j q h a. u .clear j h q a; place-least = f .before }
@@ -52,16 +52,9 @@ pub refused-some : {x : Entry} {l : Lent} {number place : ℕ} → Refused x l n
 refused-some {x} {l} {number} {place} z =
     ⊎-elim (λ (e : number ≡ 0). absurd (subst (λ k. Applies x l k place) e (z .applies))) (λ h. h) (eq-zero-or-pos number)
 
-pub say : {x : Entry} {l : Lent} {k p : ℕ} {f : Finding} → f ≡ Refusing k p → Refused x l k p → Looked x l f
+pub say : {x : Entry} {l : Lent} {k p : ℕ} {f : Finding} → f ≡ Refusing k p → Refused x l k p → Looks x l f
 say {x} {l} e r =
-    subst (λ (f : Finding). Looked x l f) (sym e) (record { outcome = refused-by _ _ r refl; proper = refused-some r })
-
-module _ (x : Entry) (l : Lent) (k : ℕ) {f : Finding} (s : upto x l k f) where
-  pub refused : {j p : ℕ} → f ≡ Refusing j p → Refused x l j p
-  refused e = subst (λ (f : Finding). upto x l k f) e s
-
-  pub cleared : f ≡ Clear → Upto x l k
-  cleared e = subst (λ (f : Finding). upto x l k f) e s
+    subst (λ (f : Finding). Looks x l f) (sym e) (record { outcome = refused-by _ _ r refl; proper = refused-some r })
 
 -- The length of a table, by what is given for it.
 module _ (n : ℕ) {o : ℕ} where
@@ -140,16 +133,16 @@ module _ {x : Entry} {l : Lent} {k : ℕ} (u : Upto x l k) (h : 1 < k) where
   rewards-length t = stable _ _ (λ h. shape (Misshaped.rewards-length (λ e. h (rw t at e))))
 
 -- What is said before the numbers from k on are looked at is said of all once these are cleared.
-pub settle : (x : Entry) (l : Lent) (k : ℕ) (f : Finding) → (Upto x l k → Upto x l 12) → upto x l k f → Looked x l f
+pub settle : (x : Entry) (l : Lent) (k : ℕ) (f : Finding) → (Upto x l k → Upto x l 12) → upto x l k f → Looks x l f
 settle x l k Clear rest u = record { outcome = formed (well (rest u)) refl; proper = tt }
 settle x l k (Refusing j p) rest r = say refl r
 
 -- What an entry knows of a looking.
-module _ {x : Entry} {l : Lent} {f : Finding} (s : Looked x l f) where
+module _ {x : Entry} {l : Lent} {f : Finding} (s : Looks x l f) where
   pub refusing : {number place : ℕ} → f ≡ Refusing number place → Refused x l number place
-  refusing e = told-refused (subst (λ (f : Finding). Looked x l f) e s)
+  refusing e = told-refused (subst (λ (f : Finding). Looks x l f) e s)
     where
-      told-refused : {number place : ℕ} → Looked x l (Refusing number place) → Refused x l number place
+      told-refused : {number place : ℕ} → Looks x l (Refusing number place) → Refused x l number place
       told-refused {number} {place} t =
           elim (t .outcome) [
             | refused-by j p r e ↦ let a : number ≡ j = ap (λ z. z .number) e in let b : place ≡ p = ap (λ z. z .place) e in rw (a, b) r
@@ -157,9 +150,9 @@ module _ {x : Entry} {l : Lent} {f : Finding} (s : Looked x l f) where
           ]
 
   pub clear : f ≡ Clear → WellFormed x l
-  clear e = told-clear (subst (λ (f : Finding). Looked x l f) e s)
+  clear e = told-clear (subst (λ (f : Finding). Looks x l f) e s)
     where
-      told-clear : Looked x l Clear → WellFormed x l
+      told-clear : Looks x l Clear → WellFormed x l
       told-clear t =
           elim (t .outcome) [
             | refused-by j p r e ↦ absurd (let a : 0 ≡ j = ap (λ z. z .number) e in omega (arith, refused-some r))

@@ -1,7 +1,6 @@
 -- What a looking promises determines its finding, and what a scan promises its place.
-use Prim.Native.Nat.{ℕ, _<_}
+use Prim.Native.Nat.{ℕ}
 use mathlib.Core.Path.{_≡_, refl, ap, ap₂}
-use native.Mathlib.Omega.{arith}
 use Rattle.meaning.specs.Refusal.{Lent, Entry}
 use Rattle.theory.specs.Outcomes.Determined.{meet, refused-one}
 use Rattle.look.specs.declared.Finding.{Finding}
@@ -9,10 +8,10 @@ use Rattle.look.specs.declared.Finding.the-variants.{Clear, Refused as R
 use Rattle.look.specs.declared.scan.Place.{Place}
 use Rattle.look.specs.declared.scan.Place.the-variants.{Nowhere, At}
 use Rattle.look.specs.Least.{Least, least}
-use Rattle.look.specs.Says.{Looked}
+use Rattle.look.specs.Says.{Looks}
 use Rattle.look.proofs.Refuse.{refusing, clear}
 
-pub unique : (x : Entry) (l : Lent) (f f′ : Finding) → Looked x l f → Looked x l f′ → f ≡ f′
+pub unique : (x : Entry) (l : Lent) (f f′ : Finding) → Looks x l f → Looks x l f′ → f ≡ f′
 unique x l Clear Clear w w′ = refl
 unique x l Clear (Refusing k p) w r = absurd (clear w refl .none k p (refusing r refl .applies))
 unique x l (Refusing k p) Clear r w = absurd (clear w refl .none k p (refusing r refl .applies))

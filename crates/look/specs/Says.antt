@@ -21,7 +21,7 @@ abbrev pub Proper : Finding → Type 0
 Proper Clear = Unit {0}
 Proper (Refusing number place) = 0 < number
 
-pub record Looked (x : Entry) (l : Lent) (r : Finding) : Type 0 where
+pub record Looks (x : Entry) (l : Lent) (r : Finding) : Type 0 where
   pub outcome : LookOutcome x l (told r)
   pub proper : Proper r
 

@@ -3,7 +3,7 @@ ghost use mathlib.Core.Path.{_≡_};
 ghost use mathlib.Core.List.{[]};
 ghost use Rattle.meaning.specs.Refusal.{bare};
 ghost use Rattle.chain.specs.Lent.{lent};
-ghost use Rattle.look.specs.Says.{Looked, own, Shaped};
+ghost use Rattle.look.specs.Says.{Looks, own, Shaped};
 use chain::Chain;
 
 mod pairs;
@@ -56,7 +56,7 @@ fn own(c: Chain, denominators: &[u64], edges: &[u64]) -> Finding
 
 // The looking of an entry that is lent a chain alone: 1 and 3 to 9.
 pub fn bare(c: Chain, denominators: &[u64], edges: &[u64]) -> Finding
-    ensures { λ r. ⌜ Looked bare (lent c (now (denominators .entry)) (now (edges .entry)) [] [] []) r ⌝ }
+    ensures { λ r. ⌜ Looks bare (lent c (now (denominators .entry)) (now (edges .entry)) [] [] []) r ⌝ }
 {
     let n = c.states;
     if shape::misshaped(n, denominators.len(), edges, n, n) {

@@ -16,7 +16,7 @@ pub mod Refusal
 pub mod Stop
 -- "Numbers of refusal": what each entry answers, and its work table then.
 pub mod Outcome
--- The counts of goals and of live states, which the report prints.
+-- The survey: which states have a path to a goal, which are live, whether the goal may be missed, and the counts that the report prints.
 pub mod Survey
 -- "Chain files": where each field of a block lies, and the check.
 pub mod Block
@@ -30,5 +30,5 @@ pub mod Text
 pub mod Report
 -- "Chains worked by hand": those marked P, in one list with one claim.
 pub mod Cases
--- The words of demands 2 and 3.
+-- The words of demands 2 and 3, and of the D that is never zero.
 pub mod Demand

@@ -1,14 +1,12 @@
 -- How a set grows along the edges until it is whole.
-use Prim.Native.Nat.{ℕ, _+_, _-_, _^_, _≤_, _<_}
+use Prim.Native.Nat.{ℕ, _+_, _^_, _≤_, _<_}
 use mathlib.Core.Path.{_≡_, refl, sym, subst, _∙_}
 use mathlib.Core.Logic.{_↔_, ⊎-elim, inl, inr}
 use mathlib.Core.Bool.{Bool, true, false}
 use mathlib.Core.List.{List}
 use native.Mathlib.Omega.{arith}
 use lib.Bits.{bitOr, or-add-and, and-le-r}
-use lib.Dec.{eqb}
 use borrow.Author.Count.{below-more}
-use borrow.Author.Tests.{eqb-true, eqb-false}
 use Rattle.chain.specs.Decide.{decides}
 use Rattle.look.proofs.Ends.{from-below, to-below}
 use Rattle.meaning.specs.Number.{bit}
@@ -16,14 +14,6 @@ use Rattle.meaning.specs.Chain.{mostStates, edgeCount}
 use Rattle.meaning.specs.Refusal.{EndFault}
 use Rattle.theory.specs.Numbers.Bits.{in-either, in-one}
 use Rattle.survey.specs.Grow.{tail, head, Open, Way, Grown, sown, joined, inTurn, Idle, AllIdle, Larger}
-
--- An equation that is tested decides what it is the same as.
-pub equals : (P : Type 0) (a b : ℕ) → (a ≡ b → P) → (P → a ≡ b) → decides P (eqb a b)
-equals P a b to from = go (eqb a b) refl
-  where
-    go : (t : Bool) → eqb a b ≡ t → decides P t
-    go true e = to (eqb-true a b e)
-    go false e = λ p. eqb-false a b e (from p)
 
 -- What decides one thing decides another that is the same.
 pub alike : {P Q : Type 0} (b : Bool) → (P → Q) → (Q → P) → decides P b → decides Q b

@@ -7,10 +7,8 @@ use native.Mathlib.Omega.{arith}
 use lib.Count.{ones}
 use Rattle.meaning.specs.Number.{bit}
 use Rattle.meaning.specs.Chain.{mostStates, Chain, Goal, Live}
-use Rattle.meaning.specs.Figure.{Missed}
-use Rattle.meaning.specs.Step.{Sets, Right}
 use Rattle.meaning.specs.Refusal.{Lent, bare, EndFault, Applies, Refused, WellFormed}
-use Rattle.meaning.specs.Survey.{Survey as Numbers, surveys, noSurvey, SurveyOutcome, refused, surveyed}
+use Rattle.meaning.specs.Survey.{Survey as Numbers, noSurvey, SurveyOutcome, refused, surveyed}
 use Rattle.theory.specs.Outcomes.Formed.{few-states, goals-in, start-in, from-in, to-in}
 use Rattle.theory.specs.Chains.Sets.{goal-state}
 use Rattle.theory.specs.Numbers.Bits.{set-below}

@@ -56,5 +56,5 @@ pub record Larger (w : Way) (Known : ℕ → Type 0) (set larger : ℕ) : Type 0
 abbrev pub Joined : Way → ℕ → ℕ → ℕ → Type 0
 Joined w e = Larger w (Idle w e)
 
-abbrev pub Passed : Way → ℕ → ℕ → Type 0
-Passed w = Larger w (AllIdle w (edgeCount (w .edges)))
+abbrev pub AfterPass : Way → ℕ → ℕ → Type 0
+AfterPass w = Larger w (AllIdle w (edgeCount (w .edges)))

@@ -2,12 +2,10 @@
 ghost use mathlib.Core.Path.{_≡_};
 ghost use mathlib.Core.List.{List};
 ghost use Prim.Native.Nat.{ℕ, _^_, _<_};
-ghost use lib.Dec.{eqb};
-ghost use Rattle.meaning.specs.Number.{bit};
 ghost use Rattle.meaning.specs.Chain.{mostStates, edgeCount, ToGoal, FromStart};
 ghost use Rattle.meaning.specs.Refusal.{EndFault};
 ghost use Rattle.chain.specs.Decide.{decides};
-ghost use Rattle.survey.specs.Grow.{tail, Open, way, Grown, Joined, Passed, inTurn};
+ghost use Rattle.survey.specs.Grow.{tail, Open, way, Grown, Joined, AfterPass, inTurn};
 ghost use Rattle.survey.specs.Sets.{chainOf, Exactly, Alive, Astray, Known};
 use crate::Sets;
 use chain::Chain;
@@ -68,7 +66,7 @@ fn turn(back: bool, count: usize, e: usize) -> usize
 // One pass over the edges, which adds to the set itself what each of them adds.
 fn pass(back: bool, barrier: u64, set: u64, edges: &[u64]) -> u64
     requires { ⌜ ((e : ℕ) → EndFault mostStates (now edges) e → ⊥) ⌝ }
-    ensures { λ r. ⌜ Passed (way back barrier (now (edges .entry))) set r ⌝ }
+    ensures { λ r. ⌜ AfterPass (way back barrier (now (edges .entry))) set r ⌝ }
 {
     let count = edge::count(edges);
     let mut larger = set;

@@ -1,14 +1,14 @@
 use Prim.Native.Nat.{_+_, _*_, _^_, _≤_}
 use native.Mathlib.Omega.{arith}
 use borrow.Author.Needs.{needs}
-use Rattle.input.specs.Kept.{Kept}
+use Rattle.input.specs.Kept.{InputKept}
 use Rattle.input.proofs.Keeping.{nothing, further, ended}
 use Rattle.input.proofs.read.Statement.{statement}
 use Rattle.input.proofs.read.Tie as tie
 
 abbrev Inv-loop : tie.InvT-loop
 Inv-loop kept₀ length₀ more₀ reads₀ kept length more reads =
-    (reads ≤ 140737488355328) × (length + more + 65536 * reads ≤ 2 ^ 63) × Kept kept₀ 0 length (length + more) kept
+    (reads ≤ 140737488355328) × (length + more + 65536 * reads ≤ 2 ^ 63) × InputKept kept₀ 0 length (length + more) kept
 
 abbrev μ-loop : tie.MeasureT-loop
 μ-loop kept₀ length₀ more₀ reads₀ kept length more reads = reads

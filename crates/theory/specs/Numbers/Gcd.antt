@@ -19,7 +19,7 @@ use native.Mathlib.Nat.{
 }
 use borrow.Author.Tests.{eq-eqb, ne-eqb}
 use Rattle.meaning.specs.Number.{Greatest, gcdIn, gcd, Lowest, Reduced}
-use Rattle.theory.specs.Numbers.Sum.{same, below}
+use Rattle.theory.specs.Numbers.Sum.{same}
 
 gcd-in : (k a b : ℕ) → b < k → Greatest a b (gcdIn k a b)
 unfolding gcdIn

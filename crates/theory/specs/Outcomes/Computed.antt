@@ -13,7 +13,7 @@ use Rattle.meaning.specs.Stop.{earns, tableAt, Passed, Stopped}
 use Rattle.meaning.specs.Outcome.{cleared, Outcome, refused, stopped, answered, refusal, fraction, infinite, ChanceFigure, chance, RewardFigure, missed, expected, RewardStop, Bounds, noBounds, between, lastRow, BoundsFigure, BoundsStop}
 use Rattle.theory.specs.Numbers.Gcd.{fraction-reduced}
 use Rattle.theory.specs.Chains.Sets.{right-one, right-exists}
-use Rattle.theory.specs.Outcomes.Look.{Looked, look}
+use Rattle.theory.specs.Outcomes.Look.{LookResult, look}
 use Rattle.theory.specs.Outcomes.Halt.{stops, runs, halt, runs-unstopped}
 use Rattle.theory.specs.Outcomes.Begin.{won, lost, live, begins, missing}
 use Rattle.theory.specs.Outcomes.Formed.{start-in, goals-in, from-in, unpaid}
@@ -35,8 +35,8 @@ unfoldable pub computed : {A : Type 0} (x : Entry) (l : Lent) (refusal : ℕ →
 unfolding look
 computed x l refusal Stop Figure result =
     elim (look x l) [
-      | Looked.refused number place r ↦ record { answer = refusal number place; work = l .work; outcome = refused number place r refl refl }
-      | Looked.formed f ↦ elim (result f) [
+      | LookResult.refused number place r ↦ record { answer = refusal number place; work = l .work; outcome = refused number place r refl refl }
+      | LookResult.formed f ↦ elim (result f) [
         | stop number place s ↦ record { answer = refusal number place; work = cleared l; outcome = stopped number place f s refl refl }
         | figure u a g ↦ record { answer = a; work = cleared l; outcome = answered f u g refl }
       ]
@@ -157,8 +157,8 @@ module _ (l : Lent) (k : Sets) where
 set-in : (x : Entry) (l : Lent) {T : Type 0} → ((k : Sets) → (WellFormed x l → Right (l .chain) k) → T) → T
 set-in x l t =
     elim (look x l) [
-      | Looked.refused number place r ↦ t (record { good = 0; live = 0 }) (λ f. absurd (f .none number place (r .applies)))
-      | Looked.formed f ↦ let s = right-exists (l .chain) (goals-in x l f) (from-in x l f) in t (s .0) (λ _. s .1)
+      | LookResult.refused number place r ↦ t (record { good = 0; live = 0 }) (λ f. absurd (f .none number place (r .applies)))
+      | LookResult.formed f ↦ let s = right-exists (l .chain) (goals-in x l f) (from-in x l f) in t (s .0) (λ _. s .1)
     ]
 
 pub chance-outcome : (l : Lent) → Computed plain l refusal (Stopped exact l) (ChanceFigure l)

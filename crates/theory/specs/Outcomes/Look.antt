@@ -123,11 +123,11 @@ earliest (more (at p f c) r) = first 0 p f (λ k q l z. absurd (omega arith)) c
 earliest (more {F} {fs} (nowhere h) r) = further F fs h (earliest r)
 
 -- What an entry's looking comes to.
-pub data Looked (x : Entry) (l : Lent) : Type 0 where
-  refused : (number place : ℕ) → Refused x l number place → Looked x l
-  formed : WellFormed x l → Looked x l
+pub data LookResult (x : Entry) (l : Lent) : Type 0 where
+  refused : (number place : ℕ) → Refused x l number place → LookResult x l
+  formed : WellFormed x l → LookResult x l
 
-unfoldable pub look : (x : Entry) (l : Lent) → Looked x l
+unfoldable pub look : (x : Entry) (l : Lent) → LookResult x l
 unfolding sought earliest
 look x l =
     elim (earliest (sought x l)) [

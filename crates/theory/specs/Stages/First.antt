@@ -19,7 +19,7 @@ use Rattle.theory.specs.Rows.Relation.{AtMostRow, AtLeastRow}
 use Rattle.theory.specs.Rows.Settle.{one-engine, settled-length, settled-left, settled-zero, settled-least, settled-most}
 use Rattle.theory.specs.Stages.Leads.{Leads, leaves, passes, Sound}
 use Rattle.theory.specs.Chains.Fine.{Fine}
-use Rattle.theory.specs.Stages.Given.{Fate, live, won, lost, given-state, given-goal, given-unknown, given-reward, given-length, Alive, goes-to}
+use Rattle.theory.specs.Stages.Given.{Fate, live, won, lost, given-state, given-goal, given-unknown, given-reward, given-length, LiveRow, goes-to}
 
 -- No weight is Unknown at first.
 abbrev pub begin : Bool → Chain → Sets → (ℕ → ℕ) → Table
@@ -41,20 +41,20 @@ module _ (b : Bool) (c : Chain) (k : Sets) (pay : ℕ → ℕ) where
   wide i = given-length c k pay 0 i
 
   -- The row of a live state is the settled row that the chain gives.
-  firsts : (P : Row → Type 0) (i : ℕ) → Alive c k i → P (settled b n (given c k pay 0 i)) → P (row t i)
+  firsts : (P : Row → Type 0) (i : ℕ) → LiveRow c k i → P (settled b n (given c k pay 0 i)) → P (row t i)
   firsts P i q p = rw (first-row b c k pay i (q .0), eq-eqb (bit (k .live) i) 1 (q .1)) p
 
-  pub first-least : (v : ℕ → ℕ) → (b ≡ rounding → v (n + 2) ≡ 0) → ((i : ℕ) → Alive c k i → AtLeastRow n (given c k pay 0 i) (v i) v)
-      → (i : ℕ) → Alive c k i → AtLeastRow n (row t i) (v i) v
+  pub first-least : (v : ℕ → ℕ) → (b ≡ rounding → v (n + 2) ≡ 0) → ((i : ℕ) → LiveRow c k i → AtLeastRow n (given c k pay 0 i) (v i) v)
+      → (i : ℕ) → LiveRow c k i → AtLeastRow n (row t i) (v i) v
   first-least v u h i q =
       firsts (λ z. AtLeastRow n z (v i) v) i q (settled-least b n (given c k pay 0 i) (wide i) (v i) v u (h i q))
 
-  pub first-most : (v : ℕ → ℕ) → b ≡ exact → ((i : ℕ) → Alive c k i → AtMostRow n (given c k pay 0 i) (v i) v)
-      → (i : ℕ) → Alive c k i → AtMostRow n (row t i) (v i) v
+  pub first-most : (v : ℕ → ℕ) → b ≡ exact → ((i : ℕ) → LiveRow c k i → AtMostRow n (given c k pay 0 i) (v i) v)
+      → (i : ℕ) → LiveRow c k i → AtMostRow n (row t i) (v i) v
   first-most v u h i q =
       firsts (λ z. AtMostRow n z (v i) v) i q (settled-most b n (given c k pay 0 i) (wide i) (v i) v u (h i q))
 
-  pub first-known : b ≡ exact → (i : ℕ) → Alive c k i → cell (row t i) (n + 2) ≡ 0
+  pub first-known : b ≡ exact → (i : ℕ) → LiveRow c k i → cell (row t i) (n + 2) ≡ 0
   first-known e i q =
       firsts (λ z. cell z (n + 2) ≡ 0) i q
       (settled-zero b n (given c k pay 0 i) (wide i) (n + 2) (λ f. one-engine b e f) (given-unknown c k pay 0 i))
@@ -65,7 +65,7 @@ module _ (b : Bool) (c : Chain) (k : Sets) (pay : ℕ → ℕ) where
     unpaid i e = given-reward c k pay 0 i ∙ free e i
 
     -- A weight of the first row leads on, settled or not.
-    given-way : (i j : ℕ) → Alive c k i → 0 < cell (given c k pay 0 i) j → (0 < cell (row t i) j) ⊎ (0 < cell (row t i) (n + 2))
+    given-way : (i j : ℕ) → LiveRow c k i → 0 < cell (given c k pay 0 i) j → (0 < cell (row t i) j) ⊎ (0 < cell (row t i) (n + 2))
     given-way i j q p =
         firsts (λ z. (0 < cell z j) ⊎ (0 < cell z (n + 2))) i q
         (settled-left b n (given c k pay 0 i) (wide i) j (unpaid i) p)
@@ -77,14 +77,14 @@ module _ (b : Bool) (c : Chain) (k : Sets) (pay : ℕ → ℕ) where
         let a : w * f (to (c .edges) e) ≤ along c (from (c .edges) e) f = flow-term (c .edges) (from (c .edges) e) f e h refl in
         omega (arith, a, ap (λ z. w * z) o, fine .weights e h)
 
-    module _ (e : ℕ) (h : e < edgeCount (c .edges)) (q : Alive c k (from (c .edges) e)) where
+    module _ (e : ℕ) (h : e < edgeCount (c .edges)) (q : LiveRow c k (from (c .edges) e)) where
       abbrev i : ℕ
       i = from (c .edges) e
 
       abbrev j : ℕ
       j = to (c .edges) e
 
-      lead-step : ToGoal c j → Fate c k j → (Alive c k j → Leads n t j) → Leads n t i
+      lead-step : ToGoal c j → Fate c k j → (LiveRow c k j → Leads n t j) → Leads n t i
       lead-step g (live a o d) rec =
           let s : j < n = fine .targets e h in
           let z : 0 < along c i (λ t. only (eqb t j) 1) = edge-weighs e h (λ t. only (eqb t j) 1) (rw (eq-eqb j j refl)) in
@@ -101,18 +101,18 @@ module _ (b : Bool) (c : Chain) (k : Sets) (pay : ℕ → ℕ) where
           (given-way i n q p)
       lead-step g (lost a o d) rec = absurd (omega (arith, d, ok .good j .1 g))
 
-    first-leads : (i : ℕ) → ToGoal c i → Alive c k i → Leads n t i
+    first-leads : (i : ℕ) → ToGoal c i → LiveRow c k i → Leads n t i
     first-leads i (PathTo.here j g) q = absurd (ok .live j .0 (q .1) .unwon g)
     first-leads i (PathTo.step e h l) q =
         lead-step e h q l (goes-to c k pay fine ok (from (c .edges) e) e q h refl) (λ w. first-leads (to (c .edges) e) l w)
 
-    pub first-sound : Sound b n (Alive c k) t
+    pub first-sound : Sound b n (LiveRow c k) t
     first-sound =
         record {
           inside = λ i q. q .0;
           wide = λ i q. firsts (λ z. length z ≡ n + 4) i q (settled-length b n (given c k pay 0 i) (wide i));
           closed = λ i j q h.
-              firsts (λ z. 0 < cell z j → Alive c k j) i q
+              firsts (λ z. 0 < cell z j → LiveRow c k j) i q
               (λ p.
               ⊎-elim
               (λ (l : bit (k .live) j ≡ 1). (h, l))

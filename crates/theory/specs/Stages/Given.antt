@@ -20,8 +20,8 @@ use Rattle.theory.specs.Rows.Relation.{worth, ones}
 use Rattle.theory.specs.Chains.Flow.{flow-ext, flow-add, flow-scale, flow-swap}
 
 -- A live state by the sets.
-abbrev pub Alive : Chain → Sets → ℕ → Type 0
-Alive c k i = (i < c .states) × (bit (k .live) i ≡ 1)
+abbrev pub LiveRow : Chain → Sets → ℕ → Type 0
+LiveRow c k i = (i < c .states) × (bit (k .live) i ≡ 1)
 
 -- What the columns are worth: the states, then Goal, Trap, Unknown and Reward.
 pub record Columns (n : ℕ) (x : ℕ → ℕ) (g t u w : ℕ) (v : ℕ → ℕ) : Type 0 where
@@ -176,14 +176,14 @@ module _ (c : Chain) (k : Sets) (pay : ℕ → ℕ) (fine : Fine c) where
       )
 
   module _ (ok : Right c k) where
-    alive : (i : ℕ) → Alive c k i → Live c i
+    alive : (i : ℕ) → LiveRow c k i → Live c i
     alive i q = ok .live i .0 (q .1)
 
-    target : (i e : ℕ) → Alive c k i → e < edgeCount (c .edges) → from (c .edges) e ≡ i → FromStart c (to (c .edges) e)
+    target : (i e : ℕ) → LiveRow c k i → e < edgeCount (c .edges) → from (c .edges) e ≡ i → FromStart c (to (c .edges) e)
     target i e q h p =
         FromStart.step e h (subst (FromStart c) (sym p) (alive i q .reached)) (λ g. alive i q .unwon (subst (Goal c) p g))
 
-    pub goes-to : (i e : ℕ) → Alive c k i → e < edgeCount (c .edges) → from (c .edges) e ≡ i → Fate c k (to (c .edges) e)
+    pub goes-to : (i e : ℕ) → LiveRow c k i → e < edgeCount (c .edges) → from (c .edges) e ≡ i → Fate c k (to (c .edges) e)
     goes-to i e q h p = fate c k ok (to (c .edges) e) (target i e q h p)
 
     one-each : (t : ℕ) → Fate c k t → fare c k (λ _. 1) t ≡ 1
@@ -191,7 +191,7 @@ module _ (c : Chain) (k : Sets) (pay : ℕ → ℕ) (fine : Fine c) where
     one-each t (won a b d) = rw (a, b, d)
     one-each t (lost a b d) = rw (a, b, d)
 
-    pub given-total : (i : ℕ) → Alive c k i → total (c .states) (begun i) ≡ denominator c i
+    pub given-total : (i : ℕ) → LiveRow c k i → total (c .states) (begun i) ≡ denominator c i
     given-total i q =
         sym (ones (c .states) (begun i))
         ∙ given-sum i (λ _. 1)
@@ -206,7 +206,7 @@ module _ (c : Chain) (k : Sets) (pay : ℕ → ℕ) (fine : Fine c) where
       share-each t h (lost a b e) =
           rw (a, b, e) (omega (arith, are .trap, share .lost t h (λ g. omega (arith, e, ok .good t .1 g))))
 
-      pub given-shares : (i : ℕ) → Alive c k i → worth (c .states) (begun i) v ≡ total (c .states) (begun i) * v i
+      pub given-shares : (i : ℕ) → LiveRow c k i → worth (c .states) (begun i) v ≡ total (c .states) (begun i) * v i
       given-shares i q =
           let l = alive i q in
           let a = given-worth i v in
@@ -221,7 +221,7 @@ module _ (c : Chain) (k : Sets) (pay : ℕ → ℕ) (fine : Fine c) where
       earn-each t h f (won a b e) = rw (a, b, e) (omega (arith, are .goal, earn .won t f b))
       earn-each t h f (lost a b e) = absurd (sure (t, f, λ g. omega (arith, e, ok .good t .1 g)))
 
-      pub given-earns : (i : ℕ) → Alive c k i → worth (c .states) (begun i) v ≡ total (c .states) (begun i) * v i
+      pub given-earns : (i : ℕ) → LiveRow c k i → worth (c .states) (begun i) v ≡ total (c .states) (begun i) * v i
       given-earns i q =
           let l = alive i q in
           let a = given-worth i v in

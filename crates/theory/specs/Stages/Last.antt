@@ -16,9 +16,9 @@ use Rattle.theory.specs.Rows.Relation.{worth, AtMostRow, AtLeastRow}
 use Rattle.theory.specs.Stages.Leads.{Sound}
 use Rattle.theory.specs.Stages.Removal.{steady-least, steady-most, steady-known}
 use Rattle.theory.specs.Chains.Fine.{Fine}
-use Rattle.theory.specs.Stages.Given.{Alive, Columns, columns, columns-are, given-shares, given-earns}
+use Rattle.theory.specs.Stages.Given.{LiveRow, Columns, columns, columns-are, given-shares, given-earns}
 use Rattle.theory.specs.Stages.First.{first-least, first-most, first-known, first-sound}
-use Rattle.theory.specs.Stages.Stage.{Kept, sound-stage, loose-stage, steady-stage, kept-start, kept-turn, only-start}
+use Rattle.theory.specs.Stages.Stage.{StageKept, sound-stage, loose-stage, steady-stage, kept-start, kept-turn, only-start}
 use Rattle.theory.specs.Figures.Below.{share-below}
 use Rattle.theory.specs.Rows.Flip.{Flips, flip-most, flipped}
 use Rattle.theory.specs.Rows.Lone.{lone-outside, lone-least, lone-most}
@@ -40,12 +40,12 @@ module _ (c : Chain) (k : Sets) (o : List ℕ) (ready : Prepared c k o) (b : Boo
   abbrev n : ℕ
   n = c .states
 
-  sound : Sound b n (Kept c k o 0) (stage b c k pay o 0)
-  unfolding Kept after
+  sound : Sound b n (StageKept c k o 0) (stage b c k pay o 0)
+  unfolding StageKept after
   sound = first-sound b c k pay (ready .fine) (ready .right) free
 
   -- At every stage every kept state has weight outside its own loop.
-  pub kept-loose : (p : ℕ) → p ≤ n → (i : ℕ) → Kept c k o p i → 0 < outside n i (row (stage b c k pay o p) i)
+  pub kept-loose : (p : ℕ) → p ≤ n → (i : ℕ) → StageKept c k o p i → 0 < outside n i (row (stage b c k pay o p) i)
   kept-loose = loose-stage b c k pay o (ready .orders) sound
 
   -- So has a live state at its turn.
@@ -55,8 +55,8 @@ module _ (c : Chain) (k : Sets) (o : List ℕ) (ready : Prepared c k o) (b : Boo
       (kept-turn c k o p (ready .orders p h) (ready .once p h) (ready .right .live (getD o p 0) .1 live))
 
   -- In the exact engine nothing is Unknown.
-  pub kept-known : b ≡ exact → (p : ℕ) → p ≤ n → (i : ℕ) → Kept c k o p i → cell (row (stage b c k pay o p) i) (n + 2) ≡ 0
-  unfolding Kept after
+  pub kept-known : b ≡ exact → (p : ℕ) → p ≤ n → (i : ℕ) → StageKept c k o p i → cell (row (stage b c k pay o p) i) (n + 2) ≡ 0
+  unfolding StageKept after
   kept-known e =
       steady-stage b c k pay o (ready .orders) sound (λ i z. cell z (n + 2) ≡ 0) (steady-known b n e) (first-known b c k pay e)
 
@@ -68,7 +68,7 @@ module _ (c : Chain) (k : Sets) (o : List ℕ) (ready : Prepared c k o) (b : Boo
     abbrev D : ℕ
     D = outside n (c .start) last
 
-    kept : Kept c k o n (c .start)
+    kept : StageKept c k o n (c .start)
     kept = kept-start c k o (ready .start) (ready .right .live (c .start) .1 alive) n
 
     alone : (j : ℕ) → j < n → (j ≡ c .start → ⊥) → cell last j ≡ 0
@@ -89,21 +89,21 @@ module _ (c : Chain) (k : Sets) (o : List ℕ) (ready : Prepared c k o) (b : Boo
     last-known e = kept-known e n (omega arith) (c .start) kept
 
     last-least : (v : ℕ → ℕ) → (b ≡ rounding → v (n + 2) ≡ 0)
-        → ((i : ℕ) → Alive c k i → AtLeastRow n (given c k pay 0 i) (v i) v) → AtLeastRow n last (v (c .start)) v
-    unfolding Kept after
+        → ((i : ℕ) → LiveRow c k i → AtLeastRow n (given c k pay 0 i) (v i) v) → AtLeastRow n last (v (c .start)) v
+    unfolding StageKept after
     last-least v u h =
         steady-stage b c k pay o (ready .orders) sound (λ i z. AtLeastRow n z (v i) v) (steady-least b n v u)
         (first-least b c k pay v u h) n (omega arith) (c .start) kept
 
     last-most : (v : ℕ → ℕ) → b ≡ exact
-        → ((i : ℕ) → Alive c k i → AtMostRow n (given c k pay 0 i) (v i) v) → AtMostRow n last (v (c .start)) v
-    unfolding Kept after
+        → ((i : ℕ) → LiveRow c k i → AtMostRow n (given c k pay 0 i) (v i) v) → AtMostRow n last (v (c .start)) v
+    unfolding StageKept after
     last-most v u h =
         steady-stage b c k pay o (ready .orders) sound (λ i z. AtMostRow n z (v i) v) (steady-most b n v u)
         (first-most b c k pay v u h) n (omega arith) (c .start) kept
 
     module _ (d : ℕ) (x : ℕ → ℕ) (share : Shares c d x) where
-      says : (u : ℕ) (v : ℕ → ℕ) → Columns n x d 0 u 0 v → (i : ℕ) → Alive c k i
+      says : (u : ℕ) (v : ℕ → ℕ) → Columns n x d 0 u 0 v → (i : ℕ) → LiveRow c k i
           → worth n (given c k pay 0 i) v ≡ total n (given c k pay 0 i) * v i
       says = given-shares c k pay (ready .fine) (ready .right) d x share
 
@@ -148,7 +148,7 @@ module _ (c : Chain) (k : Sets) (o : List ℕ) (ready : Prepared c k o) (b : Boo
       reward-exact f =
           let v : ℕ → ℕ = columns n y 0 0 0 d in
           let are : Columns n y 0 0 0 d v = columns-are n y 0 0 0 d in
-          let e : (i : ℕ) → Alive c k i → worth n (given c k pay 0 i) v ≡ total n (given c k pay 0 i) * v i =
+          let e : (i : ℕ) → LiveRow c k i → worth n (given c k pay 0 i) v ≡ total n (given c k pay 0 i) * v i =
           given-earns c k pay (ready .fine) (ready .right) sure d y earn 0 v are in
           let l = last-least v (λ _. are .unknown) (λ i q. le-of-eq (e i q)) in
           let m = last-most v f (λ i q. le-of-eq (sym (e i q))) in

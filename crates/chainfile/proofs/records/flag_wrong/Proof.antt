@@ -3,12 +3,12 @@ use native.Mathlib.Omega.{arith}
 use lib.ListN.{getD}
 use borrow.Author.Needs.{needs}
 use Rattle.meaning.specs.Block.{recordSize, flagByte}
-use Rattle.chain.proofs.Passing.{Passed, pass}
+use Rattle.chain.proofs.Passing.{NoneBelow, pass}
 use Rattle.chainfile.proofs.records.flag_wrong.Statement.{statement}
 use Rattle.chainfile.proofs.records.flag_wrong.Tie as tie
 
 abbrev Inv-loop : tie.InvT-loop
-Inv-loop kept at count i₀ i = Passed (λ k. 1 < getD kept (at + recordSize * k + flagByte) 0) count i
+Inv-loop kept at count i₀ i = NoneBelow (λ k. 1 < getD kept (at + recordSize * k + flagByte) 0) count i
 
 abbrev μ-loop : tie.MeasureT-loop
 μ-loop kept at count i₀ i = count - i

@@ -3,7 +3,7 @@ use native.Mathlib.Omega.{arith}
 use borrow.Author.Needs.{needs}
 use Rattle.meaning.specs.Refusal.{Lent}
 use Rattle.chain.specs.Lent.{lent}
-use Rattle.engines.proofs.Outcomes.{reduced-of, bounds-sum, bounds-answer, bounds-refuses}
+use Rattle.engines.proofs.Outcomes.{reduced-of, bounds-sum, answers-bounds, refuses-bounds}
 use Rattle.engines.proofs.entry.bounds.Statement.{statement}
 use Rattle.engines.proofs.entry.bounds.Tie as tie
 
@@ -22,14 +22,14 @@ returns : tie.Need-returns
 returns c =
     let goal = c .before .before .before .before .before in
     let at = goal .before .before .before .before in
-    bounds-answer (l at) _ (goal .goal .given .1) (at .unpaid .ensures)
+    answers-bounds (l at) _ (goal .goal .given .1) (at .unpaid .ensures)
     (reduced-of (c .before .before .before .new .ensures) (c .before .before .reduce .ensures)) (reduced-of (c .before .new2 .ensures) (c .reduce2 .ensures))
 
 returns-2 : tie.Need-returns-2
 returns-2 c =
     let number = c .before in
     let at = number .before .before .before .before in
-    bounds-refuses (l at) _ (number .number .given .1) (at .unpaid .ensures)
+    refuses-bounds (l at) _ (number .number .given .1) (at .unpaid .ensures)
 
 pub bounds-spec : {M : Type 1} → statement M
 bounds-spec =

@@ -2,7 +2,7 @@ use mathlib.Core.List.{[]}
 use borrow.Author.Needs.{needs}
 use Rattle.meaning.specs.Refusal.{Lent}
 use Rattle.chain.specs.Lent.{lent}
-use Rattle.engines.proofs.Outcomes.{reduced-of, chance-answers, chance-stops}
+use Rattle.engines.proofs.Outcomes.{reduced-of, answers-chance, stops-chance}
 use Rattle.engines.proofs.entry.chance.Statement.{statement}
 use Rattle.engines.proofs.entry.chance.Tie as tie
 
@@ -15,13 +15,13 @@ returns : tie.Need-returns
 returns c =
     let goal = c .before .before .before in
     let at = goal .before .before .before .before in
-    chance-answers (l at) _ (goal .goal .given .1) (at .unpaid .ensures) (reduced-of (c .before .new .ensures) (c .reduce .ensures))
+    answers-chance (l at) _ (goal .goal .given .1) (at .unpaid .ensures) (reduced-of (c .before .new .ensures) (c .reduce .ensures))
 
 returns-2 : tie.Need-returns-2
 returns-2 c =
     let number = c .before in
     let at = number .before .before .before .before in
-    chance-stops (l at) _ (number .number .given .1) (at .unpaid .ensures)
+    stops-chance (l at) _ (number .number .given .1) (at .unpaid .ensures)
 
 pub chance-spec : {M : Type 1} → statement M
 chance-spec =

@@ -9,7 +9,7 @@ use Rattle.chain.specs.Lent.{lent}
 use Rattle.chain.proofs.Law.{holds, fails}
 use Rattle.theory.specs.Outcomes.Formed.{few-states, room}
 use Rattle.engines.proofs.Looked.{refused-by, clear, begun}
-use Rattle.engines.proofs.Outcomes.{reduced-of, reward-refuses, reward-misses, reward-answers, reward-stops}
+use Rattle.engines.proofs.Outcomes.{reduced-of, refuses-reward, misses-reward, answers-reward, stops-reward}
 use Rattle.engines.proofs.entry.reward.Statement.{statement}
 use Rattle.engines.proofs.entry.reward.Tie as tie
 
@@ -25,7 +25,7 @@ formed c = clear {l = l (c .before .before)} (c .before .before .look-paid .ensu
 returns : tie.Need-returns
 returns c =
     let at = c .before .before .before in
-    reward-refuses (refused-by {l = l at} (at .look-paid .ensures) (c .before .number .given .1))
+    refuses-reward (refused-by {l = l at} (at .look-paid .ensures) (c .before .number .given .1))
 
 clear-work-requires : tie.Need-clear-work-requires
 clear-work-requires c κs =
@@ -37,7 +37,7 @@ returns-2 : tie.Need-returns-2
 returns-2 c =
     let work = c .before .before in
     let sets = work .before .before .before .before in
-    reward-misses (l (sets .before .before)) (formed sets) (work .clear-work .ensures)
+    misses-reward (l (sets .before .before)) (formed sets) (work .clear-work .ensures)
     (holds _ (clear {l = l (sets .before .before)} (sets .before .before .look-paid .ensures) (sets .sets .given .1) .1 .missed) (work .before .before .if1 .taken))
 
 run-requires : tie.Need-run-requires
@@ -57,7 +57,7 @@ returns-3 c =
     let run = reward .before .before .before .before in
     let o = run .before .before in
     let sets = o .before .before in
-    reward-answers (l (sets .before .before)) (formed sets) (run .run .ensures .0) (sure o) (reward .reward .given .1) (run .run .ensures .1)
+    answers-reward (l (sets .before .before)) (formed sets) (run .run .ensures .0) (sure o) (reward .reward .given .1) (run .run .ensures .1)
     (reduced-of (c .before .new .ensures) (c .reduce .ensures))
 
 returns-4 : tie.Need-returns-4
@@ -66,7 +66,7 @@ returns-4 c =
     let run = number .before .before .before .before in
     let o = run .before .before in
     let sets = o .before .before in
-    reward-stops (l (sets .before .before)) (formed sets) (run .run .ensures .0) (sure o) (number .number2 .given .1) (run .run .ensures .1)
+    stops-reward (l (sets .before .before)) (formed sets) (run .run .ensures .0) (sure o) (number .number2 .given .1) (run .run .ensures .1)
 
 pub reward-spec : {M : Type 1} → statement M
 reward-spec =

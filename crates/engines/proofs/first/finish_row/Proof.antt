@@ -1,5 +1,5 @@
 use borrow.Author.Needs.{needs}
-use Rattle.engines.proofs.Tables.{lent, placed, length-row}
+use Rattle.engines.proofs.Tables.{lent, row-placed, length-row}
 use Rattle.engines.proofs.first.finish_row.Statement.{statement}
 use Rattle.engines.proofs.first.finish_row.Tie as tie
 
@@ -21,7 +21,7 @@ returns c =
     let h = s .pre in
     let w = a .work .now in
     let at = b .row-start .ensures .0 in
-    placed (a .n) w (h .0) (a .i) (h .2) _ at (c .before .before .finish .kept .0)
+    row-placed (a .n) w (h .0) (a .i) (h .2) _ at (c .before .before .finish .kept .0)
     (rw (d .holds .ensures, lent (a .n) (a .i) _ at w) at (c .before .before .finish .ensures))
 
 pub finish-row-spec : {M : Type 1} → statement M

@@ -5,7 +5,7 @@ use Rattle.meaning.specs.Refusal.{Lent, paid}
 use Rattle.chain.specs.Lent.{lent}
 use Rattle.look.proofs.Found.{found, none}
 use Rattle.look.proofs.Refuse.{refuse, next, well}
-use Rattle.engines.specs.Looking.{upto}
+use Rattle.engines.specs.Looking.{soFar}
 use Rattle.engines.proofs.Looked.{upto-refused, upto-clear}
 use Rattle.engines.proofs.looking.look_paid.Statement.{statement}
 use Rattle.engines.proofs.looking.look_paid.Tie as tie
@@ -15,7 +15,7 @@ l c =
     let a = c .before .before .before .before .before .before .args in
     lent (a .c) (a .denominators .now) (a .edges .now) (a .order .now) (a .rewards .now) (a .work .now)
 
-said : (c : tie.After-tables) → upto paid (l c) 11 (c .tables .result)
+said : (c : tie.After-tables) → soFar paid (l c) 11 (c .tables .result)
 said c = c .tables .ensures true _ refl
 
 returns : tie.Need-returns

@@ -5,7 +5,7 @@ use native.Mathlib.Nat.{mod-eq-of-lt, one-mul}
 use lib.Pow.{pow-lt}
 use Rattle.meaning.specs.Chain.{mostStates, edgeCount}
 use Rattle.meaning.specs.Refusal.{PairFault}
-use Rattle.chain.proofs.Passing.{Passed, pass, done}
+use Rattle.chain.proofs.Passing.{NoneBelow, pass, done}
 use Rattle.look.proofs.Ends.{from-below, to-below}
 use Rattle.look.proofs.Seen.{Seen, none, stood, fresh, more}
 use borrow.Author.Needs.{needs}
@@ -13,7 +13,7 @@ use Rattle.look.proofs.pairs.distinct.Statement.{statement}
 use Rattle.look.proofs.pairs.distinct.Tie as tie
 
 abbrev Inv-loop : tie.InvT-loop
-Inv-loop edges count seen₀ e₀ seen e = Passed (PairFault edges) (edgeCount edges) e × Seen edges seen e
+Inv-loop edges count seen₀ e₀ seen e = NoneBelow (PairFault edges) (edgeCount edges) e × Seen edges seen e
 
 abbrev μ-loop : tie.MeasureT-loop
 μ-loop edges count seen₀ e₀ seen e = edgeCount edges - e

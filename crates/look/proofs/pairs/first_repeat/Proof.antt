@@ -2,7 +2,7 @@ use Prim.Native.Nat.{_-_}
 use mathlib.Core.Logic.{⊎-elim}
 use native.Mathlib.Omega.{arith}
 use Rattle.chain.proofs.Law.{holds, fails}
-use Rattle.chain.proofs.Passing.{Passed, pass, done}
+use Rattle.chain.proofs.Passing.{NoneBelow, pass, done}
 use Rattle.look.proofs.Found.{stop}
 use Rattle.meaning.specs.Refusal.{Same, PairFault}
 use Rattle.meaning.specs.Chain.{M, edgeCount}
@@ -11,13 +11,13 @@ use Rattle.look.proofs.pairs.first_repeat.Statement.{statement}
 use Rattle.look.proofs.pairs.first_repeat.Tie as tie
 
 abbrev Inv-earlier : tie.InvT-earlier
-Inv-earlier edges count e d₀ d = Passed (λ k. Same edges k e) e d
+Inv-earlier edges count e d₀ d = NoneBelow (λ k. Same edges k e) e d
 
 abbrev μ-earlier : tie.MeasureT-earlier
 μ-earlier edges count e d₀ d = e - d
 
 abbrev Inv-later : tie.InvT-later
-Inv-later edges count e₀ e = Passed (PairFault edges) (edgeCount edges) e
+Inv-later edges count e₀ e = NoneBelow (PairFault edges) (edgeCount edges) e
 
 abbrev μ-later : tie.MeasureT-later
 μ-later edges count e₀ e = edgeCount edges - e

@@ -1,6 +1,6 @@
 use Prim.Native.Nat.{_-_}
 use Rattle.chain.proofs.Law.{holds, fails}
-use Rattle.chain.proofs.Passing.{Passed, pass, done}
+use Rattle.chain.proofs.Passing.{NoneBelow, pass, done}
 use Rattle.look.proofs.Found.{stop}
 use Rattle.meaning.specs.Refusal.{DenominatorFault}
 use borrow.Author.Needs.{needs}
@@ -8,7 +8,7 @@ use Rattle.look.proofs.scan.denominators.Statement.{statement}
 use Rattle.look.proofs.scan.denominators.Tie as tie
 
 abbrev Inv-loop : tie.InvT-loop
-Inv-loop n denominators i₀ i = Passed (DenominatorFault n denominators) n i
+Inv-loop n denominators i₀ i = NoneBelow (DenominatorFault n denominators) n i
 
 abbrev μ-loop : tie.MeasureT-loop
 μ-loop n denominators i₀ i = n - i

@@ -3,12 +3,12 @@ use mathlib.Core.Path.{_≡_, sym, _∙_}
 use native.Mathlib.Omega.{arith}
 use lib.ListN.{getD}
 use borrow.Author.Needs.{needs}
-use Rattle.chain.proofs.Passing.{Passed, pass}
+use Rattle.chain.proofs.Passing.{NoneBelow, pass}
 use Rattle.look.proofs.scan.earlier.Statement.{statement}
 use Rattle.look.proofs.scan.earlier.Tie as tie
 
 abbrev Inv-loop : tie.InvT-loop
-Inv-loop order p o₀ o = Passed (λ k. getD order k 0 ≡ getD order p 0) p o
+Inv-loop order p o₀ o = NoneBelow (λ k. getD order k 0 ≡ getD order p 0) p o
 
 abbrev μ-loop : tie.MeasureT-loop
 μ-loop order p o₀ o = p - o

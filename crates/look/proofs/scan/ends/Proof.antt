@@ -1,7 +1,7 @@
 use Prim.Native.Nat.{_-_}
 use mathlib.Core.Logic.{⊎-elim, inl, inr}
 use native.Mathlib.Omega.{arith}
-use Rattle.chain.proofs.Passing.{Passed, pass, done}
+use Rattle.chain.proofs.Passing.{NoneBelow, pass, done}
 use Rattle.look.proofs.Found.{stop}
 use Rattle.meaning.specs.Refusal.{EndFault}
 use Rattle.meaning.specs.Chain.{M, edgeCount}
@@ -10,7 +10,7 @@ use Rattle.look.proofs.scan.ends.Statement.{statement}
 use Rattle.look.proofs.scan.ends.Tie as tie
 
 abbrev Inv-loop : tie.InvT-loop
-Inv-loop n edges states count e₀ e = Passed (EndFault n edges) (edgeCount edges) e
+Inv-loop n edges states count e₀ e = NoneBelow (EndFault n edges) (edgeCount edges) e
 
 abbrev μ-loop : tie.MeasureT-loop
 μ-loop n edges states count e₀ e = edgeCount edges - e

@@ -5,13 +5,13 @@ use native.Mathlib.Omega.{arith}
 use borrow.Author.Needs.{needs}
 use Rattle.meaning.specs.Refusal.{OrderFault}
 use Rattle.chain.proofs.Law.{holds, fails}
-use Rattle.chain.proofs.Passing.{Passed, pass, done}
+use Rattle.chain.proofs.Passing.{NoneBelow, pass, done}
 use Rattle.look.proofs.Found.{stop}
 use Rattle.look.proofs.scan.order.Statement.{statement}
 use Rattle.look.proofs.scan.order.Tie as tie
 
 abbrev Inv-loop : tie.InvT-loop
-Inv-loop n order states p₀ p = Passed (OrderFault n order) n p
+Inv-loop n order states p₀ p = NoneBelow (OrderFault n order) n p
 
 abbrev μ-loop : tie.MeasureT-loop
 μ-loop n order states p₀ p = n - p

@@ -2,13 +2,13 @@ use Prim.Native.Nat.{_-_}
 use native.Mathlib.Omega.{arith}
 use borrow.Author.Needs.{needs}
 use Rattle.meaning.specs.Refusal.{RewardFault}
-use Rattle.chain.proofs.Passing.{Passed, pass, done}
+use Rattle.chain.proofs.Passing.{NoneBelow, pass, done}
 use Rattle.look.proofs.Found.{stop}
 use Rattle.look.proofs.scan.rewards.Statement.{statement}
 use Rattle.look.proofs.scan.rewards.Tie as tie
 
 abbrev Inv-loop : tie.InvT-loop
-Inv-loop n rewards i₀ i = Passed (RewardFault n rewards) n i
+Inv-loop n rewards i₀ i = NoneBelow (RewardFault n rewards) n i
 
 abbrev μ-loop : tie.MeasureT-loop
 μ-loop n rewards i₀ i = n - i

@@ -1,6 +1,6 @@
 use Prim.Native.Nat.{_-_}
 use Rattle.chain.proofs.Law.{holds, fails}
-use Rattle.chain.proofs.Passing.{Passed, pass, done}
+use Rattle.chain.proofs.Passing.{NoneBelow, pass, done}
 use Rattle.look.proofs.Found.{stop}
 use Rattle.meaning.specs.Refusal.{WeightFault}
 use Rattle.meaning.specs.Chain.{M, edgeCount}
@@ -9,7 +9,7 @@ use Rattle.look.proofs.scan.weights.Statement.{statement}
 use Rattle.look.proofs.scan.weights.Tie as tie
 
 abbrev Inv-loop : tie.InvT-loop
-Inv-loop edges count e₀ e = Passed (WeightFault edges) (edgeCount edges) e
+Inv-loop edges count e₀ e = NoneBelow (WeightFault edges) (edgeCount edges) e
 
 abbrev μ-loop : tie.MeasureT-loop
 μ-loop edges count e₀ e = edgeCount edges - e

@@ -1,14 +1,14 @@
 use Prim.Native.Nat.{_-_, _<_}
 use native.Mathlib.Omega.{arith}
 use Rattle.meaning.specs.Chain.{M, mostStates, edgeCount, from, weight}
-use Rattle.look.proofs.Gather.{Gathered, none, more, all, weight-small}
+use Rattle.look.proofs.Gather.{Summed, none, more, all, weight-small}
 use Rattle.look.proofs.Ends.{from-below}
 use borrow.Author.Needs.{needs}
 use Rattle.look.proofs.sums.row_sums.Statement.{statement}
 use Rattle.look.proofs.sums.row_sums.Tie as tie
 
 abbrev Inv-loop : tie.InvT-loop
-Inv-loop edges count sums₀ e₀ sums e = Gathered edges sums e
+Inv-loop edges count sums₀ e₀ sums e = Summed edges sums e
 
 abbrev μ-loop : tie.MeasureT-loop
 μ-loop edges count sums₀ e₀ sums e = edgeCount edges - e

@@ -2,7 +2,7 @@ use Prim.Native.Nat.{_-_}
 use mathlib.Core.Path.{sym, _∙_}
 use native.Mathlib.Omega.{arith}
 use Rattle.meaning.specs.Refusal.{SumFault}
-use Rattle.chain.proofs.Passing.{Passed, pass, done}
+use Rattle.chain.proofs.Passing.{NoneBelow, pass, done}
 use Rattle.look.proofs.Found.{stop}
 use Rattle.look.proofs.Ends.{wide}
 use borrow.Author.Needs.{needs}
@@ -10,7 +10,7 @@ use Rattle.look.proofs.sums.unequal.Statement.{statement}
 use Rattle.look.proofs.sums.unequal.Tie as tie
 
 abbrev Inv-loop : tie.InvT-loop
-Inv-loop n denominators edges sums i₀ i = Passed (SumFault n denominators edges) n i
+Inv-loop n denominators edges sums i₀ i = NoneBelow (SumFault n denominators edges) n i
 
 abbrev μ-loop : tie.MeasureT-loop
 μ-loop n denominators edges sums i₀ i = n - i
