@@ -2,7 +2,7 @@
 ghost use mathlib.Core.Path.{_≡_};
 ghost use Prim.Native.Nat.{ℕ, _*_, _-_, _≤_, _<_, min};
 ghost use Rattle.meaning.specs.Block.{fullBlock};
-ghost use Rattle.meaning.specs.File.{CheckFault, BlockNumberFault, KindFault, ContentFault, kindOf, countOf};
+ghost use Rattle.meaning.specs.File.{CheckFault, BlockNumberFault, VersionFault, KindFault, ContentFault, kindOf, countOf};
 ghost use Rattle.chain.specs.Decide.{decides};
 ghost use Rattle.chainfile.specs.Input.{input, mostBlocks};
 ghost use Rattle.chainfile.specs.Tells.{tested};
@@ -24,7 +24,7 @@ fn check_wrong(kept: &[u8], b: usize) -> bool
     ensures { λ r. ⌜ decides (CheckFault (input (now (kept .entry)) 0) b) r ⌝ }
 {
     let at = layout::BLOCK * b;
-    let sums = sums::fletcher(kept, at, layout::CHECKED, sums::MODULUS, sums::BEGIN);
+    let sums = sums::check(kept, b, bytes::byte(kept, at + layout::VERSION));
     if bytes::byte(kept, at + layout::CHECKED) != sums.first {
         return true;
     }
@@ -59,6 +59,22 @@ fn kind(kept: &[u8], b: usize) -> u64
     layout::EDGE
 }
 
+// The version is neither 1 nor 2, or differs from block 0's.
+fn version_wrong(kept: &[u8], b: usize) -> bool
+    requires { ⌜ b < mostBlocks ⌝ }
+    ensures { λ r. ⌜ decides (VersionFault (input (now (kept .entry)) 0) b) r ⌝ }
+{
+    let at = layout::BLOCK * b + layout::VERSION;
+    let version = bytes::byte(kept, at);
+    if version != bytes::byte(kept, layout::VERSION) {
+        return true;
+    }
+    match version {
+        layout::FIRST | layout::SECOND => false,
+        _ => true,
+    }
+}
+
 // 23: kind or version wrong, or kind out of turn.
 fn kind_wrong(kept: &[u8], b: usize) -> bool
     requires { ⌜ b < mostBlocks ⌝ }
@@ -68,10 +84,7 @@ fn kind_wrong(kept: &[u8], b: usize) -> bool
     if bytes::byte(kept, at + layout::KIND) != kind(kept, b) {
         return true;
     }
-    if bytes::byte(kept, at + layout::VERSION) != layout::FORMAT {
-        return true;
-    }
-    false
+    version_wrong(kept, b)
 }
 
 // How many of so many records block k of their kind holds.

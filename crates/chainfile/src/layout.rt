@@ -4,8 +4,10 @@ use chain::Chain;
 // The bytes of a block.
 pub(crate) const BLOCK: usize = 512;
 
-// The version of the format, and the kinds of a block in their turn.
-pub(crate) const FORMAT: u64 = 1;
+// The versions of a block, and its kinds in their turn.
+pub(crate) const FIRST: u64 = 1;
+
+pub(crate) const SECOND: u64 = 2;
 
 pub(crate) const HEAD: u64 = 1;
 

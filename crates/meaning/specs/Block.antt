@@ -2,7 +2,8 @@
 use Prim.Native.Nat.{ℕ, zero, suc, _+_, _*_, _-_, _/_, _%_, _^_}
 use mathlib.Core.List.{List}
 use lib.ListN.{length, getD}
-use Rattle.meaning.specs.Number.{sumTo}
+use lib.Dec.{eqb}
+use Rattle.meaning.specs.Number.{sumTo, choose}
 
 -- An input: the bytes that are kept, and how many more came after them, which only count.
 pub record Input : Type 0 where
@@ -68,12 +69,22 @@ unfoldable pub secondSum : ℕ → ℕ → (ℕ → ℕ) → ℕ → ℕ
 secondSum m s f zero = s
 secondSum m s f (suc n) = (secondSum m s f n + firstSum m s f (suc n)) % m
 
--- The modulus of the check, and what its sums begin with.
-abbrev pub checkModulus : ℕ
-checkModulus = 255
+-- The two versions, and the version that block b carries.
+abbrev pub firstVersion : ℕ
+firstVersion = 1
 
-abbrev pub checkBegin : ℕ
-checkBegin = 0
+abbrev pub secondVersion : ℕ
+secondVersion = 2
+
+abbrev pub versionIn : Input → ℕ → ℕ
+versionIn f b = byte f (versionAt b)
+
+-- The modulus of the check of a block that carries this version, and what both sums begin at: where it is not 2, the old rule.
+abbrev pub checkModulus : ℕ → ℕ
+checkModulus version = choose (eqb version secondVersion) 251 255
+
+abbrev pub checkBegin : ℕ → ℕ
+checkBegin version = choose (eqb version secondVersion) 1 0
 
 -- How many blocks hold that many records: every block but the last of its kind is full.
 abbrev pub blocksOf : ℕ → ℕ

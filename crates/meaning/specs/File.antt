@@ -16,7 +16,6 @@ use Rattle.meaning.specs.Block.{
   numberAt,
   blockSize,
   kindAt,
-  versionAt,
   blockNumberAt,
   countAt,
   recordsAt,
@@ -25,6 +24,9 @@ use Rattle.meaning.specs.Block.{
   fullBlock,
   firstSum,
   secondSum,
+  firstVersion,
+  secondVersion,
+  versionIn,
   checkModulus,
   checkBegin,
   checkedBytes,
@@ -50,11 +52,13 @@ use Rattle.meaning.specs.Block.{
 abbrev pub LengthFault : Input → Type 0
 LengthFault f = (inputLength f ≡ 0) ⊎ (inputLength f % blockSize ≡ 0 → ⊥)
 
--- 21: the check is not Fletcher's two sums over bytes 0 to 509, the first sum at 510, the second at 511.
+-- 21: the check is not Fletcher's two sums over bytes 0 to 509, the first sum at 510, the second at 511. The block's own version byte says by which rule.
 abbrev pub CheckFault : Input → ℕ → Type 0
 CheckFault f b =
-    (byte f (checkAt b) ≡ firstSum checkModulus checkBegin (blockByte f b) checkedBytes → ⊥)
-    ⊎ (byte f (checkAt b + 1) ≡ secondSum checkModulus checkBegin (blockByte f b) checkedBytes → ⊥)
+    let modulus = checkModulus (versionIn f b) in
+    let begin = checkBegin (versionIn f b) in
+    (byte f (checkAt b) ≡ firstSum modulus begin (blockByte f b) checkedBytes → ⊥)
+    ⊎ (byte f (checkAt b + 1) ≡ secondSum modulus begin (blockByte f b) checkedBytes → ⊥)
 
 -- 22: the block number is not the block's place, from 0.
 abbrev pub BlockNumberFault : Input → ℕ → Type 0
@@ -64,13 +68,15 @@ BlockNumberFault f b = numberAt f (blockNumberAt b) 2 ≡ b → ⊥
 abbrev pub kindOf : Input → ℕ → ℕ
 kindOf f b = choose (eqb b 0) 1 (choose (leb b (stateBlocks f)) 2 3)
 
--- The version.
-abbrev pub version : ℕ
-version = 1
+-- The version is neither 1 nor 2, or differs from block 0's: all blocks of one file carry one version.
+abbrev pub VersionFault : Input → ℕ → Type 0
+VersionFault f b =
+    ((versionIn f b ≡ firstVersion → ⊥) × (versionIn f b ≡ secondVersion → ⊥))
+    ⊎ (versionIn f b ≡ versionIn f 0 → ⊥)
 
 -- 23: kind or version wrong, or kind out of turn.
 abbrev pub KindFault : Input → ℕ → Type 0
-KindFault f b = (byte f (kindAt b) ≡ kindOf f b → ⊥) ⊎ (byte f (versionAt b) ≡ version → ⊥)
+KindFault f b = (byte f (kindAt b) ≡ kindOf f b → ⊥) ⊎ VersionFault f b
 
 -- How many records block b holds: every block but the last of its kind is full.
 abbrev pub countOf : Input → ℕ → ℕ

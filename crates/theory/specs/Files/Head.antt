@@ -1,7 +1,7 @@
 -- What the head block of a file shows: 20 to 23 are found by computing.
 use Prim.Native.Nat.{ℕ, _+_, _%_, _≤_}
 use mathlib.Core.Path.{_≡_, ap, _∙_}
-use mathlib.Core.Logic.{Dec·not}
+use mathlib.Core.Logic.{Dec·not, Dec·and}
 use mathlib.Core.Option.{Option, some, none}
 use native.Mathlib.Omega.{arith}
 use native.Mathlib.Decide.{ℕ-discrete, decLe}
@@ -15,11 +15,13 @@ use Rattle.meaning.specs.Block.{
   numberAt,
   blockSize,
   kindAt,
-  versionAt,
   blockNumberAt,
   checkAt,
   firstSum,
   secondSum,
+  firstVersion,
+  secondVersion,
+  versionIn,
   checkModulus,
   checkBegin,
   checkedBytes,
@@ -29,7 +31,7 @@ use Rattle.meaning.specs.File.{
   CheckFault,
   BlockNumberFault,
   kindOf,
-  version,
+  VersionFault,
   KindFault,
   check-refused,
   block-number-refused,
@@ -47,16 +49,17 @@ lengthy f = either (ℕ-discrete (inputLength f) 0) (Dec·not (ℕ-discrete (inp
 
 -- The sums of the head, where all the bytes they are over are kept.
 abbrev pub sums : Input → ℕ × ℕ
-sums f = fletcher checkModulus checkBegin checkBegin (take checkedBytes (f .kept))
+sums f = let s = checkBegin (versionIn f 0) in fletcher (checkModulus (versionIn f 0)) s s (take checkedBytes (f .kept))
 
 pub sums-are : (f : Input) → checkedBytes ≤ length (f .kept)
-    → sums f
-    ≡ (firstSum checkModulus checkBegin (blockByte f 0) checkedBytes, secondSum checkModulus checkBegin (blockByte f 0) checkedBytes)
+    → let m = checkModulus (versionIn f 0) in
+    let s = checkBegin (versionIn f 0) in
+    sums f ≡ (firstSum m s (blockByte f 0) checkedBytes, secondSum m s (blockByte f 0) checkedBytes)
 unfolding firstSum secondSum
 sums-are f h =
     let n = length-take-le checkedBytes (f .kept) h in
     rw n at
-    (fletcher-is checkModulus checkBegin (blockByte f 0) 0 (take checkedBytes (f .kept))
+    (fletcher-is (checkModulus (versionIn f 0)) (checkBegin (versionIn f 0)) (blockByte f 0) 0 (take checkedBytes (f .kept))
     (λ j l. getD-take checkedBytes (f .kept) j 0 (omega arith) ∙ ap (byte f) (omega arith)))
 
 unfoldable pub checked : (f : Input) → checkedBytes ≤ length (f .kept) → Dec (CheckFault f 0)
@@ -69,9 +72,15 @@ unfoldable pub numbered : (f : Input) → Dec (BlockNumberFault f 0)
 unfolding ℕ-discrete Dec·not
 numbered f = Dec·not (ℕ-discrete (numberAt f (blockNumberAt 0) 2) 0)
 
+unfoldable pub versioned : (f : Input) → Dec (VersionFault f 0)
+unfolding either ℕ-discrete Dec·not Dec·and
+versioned f =
+    either (Dec·and (Dec·not (ℕ-discrete (versionIn f 0) firstVersion)) (Dec·not (ℕ-discrete (versionIn f 0) secondVersion)))
+    (Dec·not (ℕ-discrete (versionIn f 0) (versionIn f 0)))
+
 unfoldable pub kinds : (f : Input) → Dec (KindFault f 0)
-unfolding either ℕ-discrete Dec·not
-kinds f = either (Dec·not (ℕ-discrete (byte f (kindAt 0)) (kindOf f 0))) (Dec·not (ℕ-discrete (byte f (versionAt 0)) version))
+unfolding either ℕ-discrete Dec·not versioned
+kinds f = either (Dec·not (ℕ-discrete (byte f (kindAt 0)) (kindOf f 0))) (versioned f)
 
 -- The first of 20 to 23 that the head is refused by, if it is.
 unfoldable pub headed : (f : Input) → Option ((number : ℕ) × FileRefused f number 0)

@@ -1,10 +1,10 @@
 use Prim.Native.Nat.{_*_}
-use mathlib.Core.Path.{_≡_, refl, _∙_, ap}
+use mathlib.Core.Path.{_≡_, _∙_, ap}
 use mathlib.Core.Logic.{⊎-elim, inl, inr}
 use lib.ListN.{getD}
 use borrow.Author.Needs.{needs}
 use native.Mathlib.Nat.{add-zero}
-use Rattle.chainfile.proofs.Law.{differs, agrees}
+use Rattle.chainfile.proofs.Law.{differs, agrees, carry}
 use Rattle.chainfile.proofs.block.kind_wrong.Statement.{statement}
 use Rattle.chainfile.proofs.block.kind_wrong.Tie as tie
 
@@ -16,14 +16,10 @@ returns : tie.Need-returns
 returns c = inl (differs (first (c .before .before)) (c .before .kind .ensures) (c .if1 .taken))
 
 returns-2 : tie.Need-returns-2
-returns-2 c = inr (differs (c .before .byte2 .ensures .0) refl (c .if2 .taken))
-
-returns-3 : tie.Need-returns-3
-returns-3 c =
+returns-2 c =
     let a = c .before .before in
-    ⊎-elim
-    (λ bad. bad (agrees (first (a .before .before)) (a .before .kind .ensures) (a .if1 .left)))
-    (λ bad. bad (agrees (c .before .byte2 .ensures .0) refl (c .if2 .left)))
+    carry _ _ (c .version-wrong .result) (c .version-wrong .ensures) inr
+    (⊎-elim (λ bad. absurd (bad (agrees (first (a .before)) (a .kind .ensures) (c .before .if1 .left)))) (λ w. w))
 
 pub kind-wrong-spec : {M : Type 1} → statement M
 kind-wrong-spec =
@@ -34,7 +30,5 @@ kind-wrong-spec =
     (λ c κs. search needs)
     (λ c κs. search needs)
     returns
-    (λ c. search needs)
     (λ c κs. search needs)
-    returns-2
-    returns-3)
+    returns-2)
