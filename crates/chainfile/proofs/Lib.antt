@@ -1,7 +1,6 @@
 pub mod Law
 pub mod Digits
 pub mod Fletcher
-pub mod Turn
 pub mod Content
 pub mod Tested
 pub mod Filling

@@ -10,7 +10,7 @@ use Rattle.chain.proofs.Unique.{framed}
 use Rattle.chainfile.specs.declared.Reading.{Reading}
 use Rattle.chainfile.specs.declared.Reading.the-variants.{Chain, Refused}
 use Rattle.chainfile.specs.Tells.{told}
-use Rattle.chainfile.proofs.Tested.{bounded}
+use Rattle.theory.specs.Files.Right.{bounded}
 
 -- A chain has states, and a refusal a number.
 proper : Reading → Type 0

@@ -17,7 +17,7 @@ use Rattle.chain.specs.declared.Chain.{Chain as Frame}
 use Rattle.chainfile.specs.Tells.{told, tables}
 use Rattle.chainfile.specs.declared.Reading.{Reading}
 use Rattle.chainfile.specs.declared.Reading.the-variants.{Chain, Refused}
-use Rattle.chainfile.proofs.Tested.{bounded}
+use Rattle.theory.specs.Files.Right.{bounded}
 use Rattle.figures.specs.Found.{Holds}
 
 module _ {a b : Numbers} (e : a ≡ b) where

@@ -16,7 +16,7 @@ use Rattle.theory.specs.Numbers.Sum.{below}
 use Rattle.theory.specs.Outcomes.Formed.{few-states}
 use Rattle.theory.specs.Outcomes.DemandTwo.{stopped-twelve}
 use Rattle.theory.specs.Files.FileOne.{file-numbers}
-use Rattle.chainfile.proofs.Tested.{bounded}
+use Rattle.theory.specs.Files.Right.{bounded}
 use Rattle.report.specs.Lines.{Ends, chain, file}
 use Rattle.report.proofs.Lengths.{Near}
 

@@ -1,6 +1,14 @@
 -- Chain files, the report and the call from C: one outcome each.
 pub mod Fletcher
+pub mod Sums
 pub mod Head
+pub mod Turn
+pub mod Right
+pub mod Agree
+pub mod Damage
+pub mod Runs
+pub mod Versions
+pub mod Before
 pub mod FileOne
 pub mod ReportOne
 pub mod CallOne

@@ -6,7 +6,7 @@ use Rattle.meaning.specs.Block.{recordsAt, recordSize}
 use Rattle.chain.proofs.Law.{holds, fails}
 use Rattle.chainfile.specs.Input.{input, end}
 use Rattle.chainfile.proofs.Law.{differs, agrees}
-use Rattle.chainfile.proofs.Turn.{third}
+use Rattle.theory.specs.Files.Turn.{third}
 use Rattle.chainfile.proofs.Content.{Framed, count-content, rest-content, head-decides, flag-decides, reserved-decides}
 use Rattle.chainfile.proofs.block.content_wrong.Statement.{statement}
 use Rattle.chainfile.proofs.block.content_wrong.Tie as tie

@@ -4,7 +4,7 @@ use native.Mathlib.Omega.{arith}
 use borrow.Author.Needs.{needs}
 use Rattle.meaning.specs.File.{countOf}
 use Rattle.chainfile.specs.Input.{input}
-use Rattle.chainfile.proofs.Turn.{at-head, at-state, at-edge, share, count-most}
+use Rattle.theory.specs.Files.Turn.{at-head, at-state, at-edge, share, count-most}
 use Rattle.meaning.specs.Block.{headStates, headEdges, stateBlocks, fullBlock}
 use Rattle.chainfile.proofs.block.count.Statement.{statement}
 use Rattle.chainfile.proofs.block.count.Tie as tie

@@ -2,7 +2,7 @@ use mathlib.Core.Path.{sym}
 use native.Mathlib.Omega.{arith}
 use borrow.Author.Needs.{needs}
 use Rattle.chainfile.specs.Input.{input}
-use Rattle.chainfile.proofs.Turn.{kind-head, kind-state, kind-edge}
+use Rattle.theory.specs.Files.Turn.{kind-head, kind-state, kind-edge}
 use Rattle.chainfile.proofs.block.kind.Statement.{statement}
 use Rattle.chainfile.proofs.block.kind.Tie as tie
 

@@ -2,7 +2,7 @@ use borrow.Author.Needs.{needs}
 use Rattle.meaning.specs.File.{CheckFault, BlockNumberFault, KindFault, ContentFault, BlockRefused}
 use Rattle.chain.proofs.Law.{holds, fails}
 use Rattle.chainfile.specs.Input.{input}
-use Rattle.chainfile.proofs.Tested.{right}
+use Rattle.theory.specs.Files.Right.{right}
 use Rattle.chainfile.proofs.block.test.Statement.{statement}
 use Rattle.chainfile.proofs.block.test.Tie as tie
 

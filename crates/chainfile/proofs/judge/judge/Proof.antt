@@ -3,7 +3,8 @@ use Rattle.meaning.specs.Block.{Input}
 use Rattle.meaning.specs.File.{LengthFault, BlockRight, FileRefused}
 use Rattle.chain.proofs.Law.{holds, fails}
 use Rattle.chainfile.specs.Input.{input}
-use Rattle.chainfile.proofs.Tested.{found-wrong, found-right, bounded, judge}
+use Rattle.chainfile.proofs.Tested.{found-wrong, found-right, judge}
+use Rattle.theory.specs.Files.Right.{bounded}
 use Rattle.chainfile.proofs.judge.judge.Statement.{statement}
 use Rattle.chainfile.proofs.judge.judge.Tie as tie
 
