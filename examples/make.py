@@ -7,19 +7,23 @@ import struct
 BLOCK = 512
 RECORDS_IN_A_BLOCK = 63
 
+# For each version, the modulus of the check and what its sums begin at.
+CHECKS = {1: (255, 0), 2: (251, 1)}
 
-def block(kind, number, records):
+
+def block(version, kind, number, records):
     """One block of 512 bytes: its fields, its records, zeros, and its check."""
-    body = struct.pack("<BBHH", kind, 1, number, len(records)) + b"".join(records)
+    body = struct.pack("<BBHH", kind, version, number, len(records)) + b"".join(records)
     body = body.ljust(BLOCK - 2, b"\0")
-    first = second = 0
+    modulus, begin = CHECKS[version]
+    first = second = begin
     for byte in body:
-        first = (first + byte) % 255
-        second = (second + first) % 255
+        first = (first + byte) % modulus
+        second = (second + first) % modulus
     return body + bytes([first, second])
 
 
-def chain_file(rows, goals, rewards=None, start=0, order=None):
+def chain_file(rows, goals, rewards=None, start=0, order=None, version=2):
     """The bytes of a chain file.
 
     rows     for each state, a dictionary of the weight to each target; a row's sum is its
@@ -27,6 +31,7 @@ def chain_file(rows, goals, rewards=None, start=0, order=None):
     goals    the goal states
     rewards  the reward of each state that has one
     order    the order in which states are removed, that of their numbers unless given
+    version  of all its blocks; version 1, whose check is weaker, is still read
     """
     rewards = rewards or {}
     order = order or list(range(len(rows)))
@@ -43,7 +48,7 @@ def chain_file(rows, goals, rewards=None, start=0, order=None):
     blocks = []
     for kind, records in kinds:
         for i in range(0, len(records), RECORDS_IN_A_BLOCK):
-            blocks.append(block(kind, len(blocks), records[i : i + RECORDS_IN_A_BLOCK]))
+            blocks.append(block(version, kind, len(blocks), records[i : i + RECORDS_IN_A_BLOCK]))
     return b"".join(blocks)
 
 
@@ -60,12 +65,12 @@ def address():
 def dice():
     """A die thrown with a coin, after Knuth and Yao. The goals are the six faces.
 
-    Chance 1/1; the expected reward counts the throws of the coin: 11/3.
+    Chance 1/1; the expected reward counts the throws of the coin: 11/3. It is a file of version 1.
     """
     turns = [(1, 2), (3, 4), (5, 6), (1, 7), (8, 9), (10, 11), (2, 12)]
     faces = range(7, 13)
     rows = [{heads: 1, tails: 1} for heads, tails in turns] + [{face: 1} for face in faces]
-    return chain_file(rows, goals=set(faces), rewards={state: 1 for state in range(7)})
+    return chain_file(rows, goals=set(faces), rewards={state: 1 for state in range(7)}, version=1)
 
 
 def long():

@@ -20,12 +20,17 @@ pub const HEAD: u8 = 1;
 pub const STATES: u8 = 2;
 pub const EDGES: u8 = 3;
 
-/// Fletcher's two sums modulo 255 over the bytes before the check.
+/// The versions that a block may carry.
+pub const VERSIONS: [u8; 2] = [1, 2];
+
+/// Fletcher's two sums over the bytes before the check: in a block that carries version 2 modulo 251,
+/// both begun at 1, and in any other modulo 255, both begun at 0.
 pub fn check(block: &[u8]) -> [u8; 2] {
-    let (mut first, mut second) = (0u32, 0u32);
+    let (modulus, begin) = if block[VERSION] == 2 { (251, 1) } else { (255, 0) };
+    let (mut first, mut second) = (begin, begin);
     for &byte in &block[..CHECK] {
-        first = (first + u32::from(byte)) % 255;
-        second = (second + first) % 255;
+        first = (first + u32::from(byte)) % modulus;
+        second = (second + first) % modulus;
     }
     [first as u8, second as u8]
 }
@@ -37,11 +42,11 @@ pub fn mend(block: &mut [u8]) {
 }
 
 /// A whole block with these records, its check written.
-pub fn build(kind: u8, number: usize, records: &[[u8; RECORD]]) -> [u8; LENGTH] {
+pub fn build(version: u8, kind: u8, number: usize, records: &[[u8; RECORD]]) -> [u8; LENGTH] {
     assert!(records.len() <= RECORDS, "more records than a block holds");
     let mut block = [0; LENGTH];
     block[KIND] = kind;
-    block[VERSION] = 1;
+    block[VERSION] = version;
     block[NUMBER..NUMBER + 2].copy_from_slice(&(number as u16).to_le_bytes());
     block[COUNT..COUNT + 2].copy_from_slice(&(records.len() as u16).to_le_bytes());
     for (place, record) in records.iter().enumerate() {
@@ -60,4 +65,47 @@ pub fn two_bytes(bytes: &[u8], at: usize) -> u16 {
 /// The four bytes at `at` as a number.
 pub fn four_bytes(bytes: &[u8], at: usize) -> u32 {
     u32::from_le_bytes([bytes[at], bytes[at + 1], bytes[at + 2], bytes[at + 3]])
+}
+
+#[cfg(test)]
+mod tests {
+    use super::*;
+
+    /// A block of version 2 with every byte value in it.
+    fn sample() -> [u8; LENGTH] {
+        let mut records = [[0; RECORD]; 32];
+        for (at, byte) in records.iter_mut().flatten().enumerate() {
+            *byte = at as u8;
+        }
+        build(2, EDGES, 7, &records)
+    }
+
+    #[test]
+    fn one_byte_is_seen_unless_it_differs_by_251() {
+        let block = sample();
+        for at in (0..CHECK).filter(|&at| at != VERSION) {
+            for value in 0..=255 {
+                let mut other = block;
+                other[at] = value;
+                let unseen = [0, 251].contains(&block[at].abs_diff(value));
+                assert_eq!(check(&other) == check(&block), unseen, "byte {at}, value {value}");
+            }
+        }
+    }
+
+    #[test]
+    fn ff_for_zeros_is_seen_unless_251_or_502_are_filled() {
+        for version in VERSIONS {
+            let mut block = [0; LENGTH];
+            block[VERSION] = version;
+            for begin in VERSION + 1..CHECK {
+                for end in begin + 1..=CHECK {
+                    let mut other = block;
+                    other[begin..end].fill(255);
+                    let unseen = version == 1 || [251, 502].contains(&(end - begin));
+                    assert_eq!(check(&other) == check(&block), unseen, "{begin} to {end}");
+                }
+            }
+        }
+    }
 }

@@ -1,7 +1,8 @@
 //! Damaged requests: every way in which a file, a mode or an answer's length can be wrong.
 
-use crate::block::{self, mend, FIRST_RECORD, LENGTH, RECORD, RECORDS};
+use crate::block::{self, mend, FIRST_RECORD, LENGTH, RECORD, RECORDS, VERSIONS};
 use crate::chain::Chain;
+use crate::damage_check::{by_251, check_byte, ff_for_zeros, version, zero_for_ff};
 use crate::damage_head::{head_field, outside_the_ranges};
 use crate::damage_tables;
 use crate::draft::Draft;
@@ -20,13 +21,16 @@ pub struct Request {
 /// A family of damage: a name, and what damages the file of a well-formed chain.
 pub type Damage = (&'static str, fn(&mut Random, Chain) -> Vec<u8>);
 
-pub const DAMAGES: [Damage; 11] = [
+pub const DAMAGES: [Damage; 14] = [
     ("a field", any_field),
     ("the head", head_field),
     ("outside the head's ranges", outside_the_ranges),
     ("any byte", any_byte),
+    ("a byte by 251", by_251),
     ("0 for FF", zero_for_ff),
+    ("FF for a run of zeros", ff_for_zeros),
     ("the check", check_byte),
+    ("the version", version),
     ("the length", length),
     ("beyond 69 blocks", beyond_the_most),
     ("moved blocks", moved_blocks),
@@ -84,6 +88,11 @@ fn any_length(random: &mut Random) -> usize {
     }
 }
 
+/// The file of a chain, in either version.
+pub fn any_file(random: &mut Random, chain: &Chain) -> Vec<u8> {
+    file::write(chain, random.pick(&VERSIONS))
+}
+
 /// One block of a file.
 pub fn block_at(file: &mut [u8], place: usize) -> &mut [u8] {
     &mut file[place * LENGTH..(place + 1) * LENGTH]
@@ -103,7 +112,7 @@ fn mend_at_times(random: &mut Random, block: &mut [u8]) {
 /// One or two fields of any block: its kind, version, number, count, a byte of a record, or the
 /// zeros after the last record.
 fn any_field(random: &mut Random, chain: Chain) -> Vec<u8> {
-    let mut file = file::write(&chain);
+    let mut file = any_file(random, &chain);
     for _ in 0..random.between(1, 2) {
         let place = any_block(random, &file);
         let block = block_at(&mut file, place);
@@ -136,7 +145,7 @@ pub fn other_byte(random: &mut Random, byte: u8) -> u8 {
 }
 
 fn any_byte(random: &mut Random, chain: Chain) -> Vec<u8> {
-    let mut file = file::write(&chain);
+    let mut file = any_file(random, &chain);
     let place = any_block(random, &file);
     let block = block_at(&mut file, place);
     let at = random.below(LENGTH);
@@ -145,41 +154,8 @@ fn any_byte(random: &mut Random, chain: Chain) -> Vec<u8> {
     file
 }
 
-/// Modulo 255 the bytes 0 and 255 are one: this damage passes the check unmended.
-fn zero_for_ff(random: &mut Random, chain: Chain) -> Vec<u8> {
-    let mut file = file::write(&chain);
-    let place = any_block(random, &file);
-    let block = block_at(&mut file, place);
-    let end = random.pick(&[FIRST_RECORD, FIRST_RECORD + RECORD, block::CHECK]);
-    let zeros: Vec<usize> = (0..end).filter(|&at| block[at] == 0).collect();
-    if !zeros.is_empty() {
-        block[random.pick(&zeros)] = 255;
-    }
-    file
-}
-
-/// A wrong check, among them 255 where the sum is 0 and the two sums exchanged.
-fn check_byte(random: &mut Random, chain: Chain) -> Vec<u8> {
-    let mut file = file::write(&chain);
-    let place = any_block(random, &file);
-    let block = block_at(&mut file, place);
-    let at = block::CHECK + random.below(2);
-    match random.below(3) {
-        0 => block[at] = other_byte(random, block[at]),
-        1 => block.swap(block::CHECK, block::CHECK + 1),
-        _ => {
-            // The last byte before the check turns the first sum into 0, which 255 may not stand for.
-            block[block::CHECK - 1] = 0;
-            block[block::CHECK - 1] = 255 - block::check(block)[0];
-            mend(block);
-            block[block::CHECK] = random.pick(&[0, 255]);
-        }
-    }
-    file
-}
-
 fn length(random: &mut Random, chain: Chain) -> Vec<u8> {
-    let mut file = file::write(&chain);
+    let mut file = any_file(random, &chain);
     let blocks = file.len() / LENGTH;
     match random.below(4) {
         0 => file.truncate(random.below(file.len())),
@@ -196,7 +172,7 @@ fn length(random: &mut Random, chain: Chain) -> Vec<u8> {
 
 /// More than the largest chain file, in whole blocks and not, with a good head and a bad one.
 fn beyond_the_most(random: &mut Random, chain: Chain) -> Vec<u8> {
-    let mut file = file::write(&chain);
+    let mut file = any_file(random, &chain);
     let blocks = MOST_BLOCKS + random.pick(&[0, 1, 1, 2, 187, 256]);
     let past = random.pick(&[0, 0, 0, 1, 511]);
     file.resize(blocks * LENGTH + past, random.pick(&[0, 255]));
@@ -210,7 +186,8 @@ fn beyond_the_most(random: &mut Random, chain: Chain) -> Vec<u8> {
 
 /// Two blocks exchanged, one dropped or one given twice; numbered anew or not.
 fn moved_blocks(random: &mut Random, chain: Chain) -> Vec<u8> {
-    let mut blocks: Vec<Vec<u8>> = file::write(&chain).chunks(LENGTH).map(<[u8]>::to_vec).collect();
+    let file = any_file(random, &chain);
+    let mut blocks: Vec<Vec<u8>> = file.chunks(LENGTH).map(<[u8]>::to_vec).collect();
     let (place, other) = (random.below(blocks.len()), random.below(blocks.len()));
     match random.below(3) {
         0 => blocks.swap(place, other),
@@ -240,7 +217,7 @@ fn noise(random: &mut Random, _: Chain) -> Vec<u8> {
     if length >= LENGTH && random.once_in(2) {
         // Some of the bytes that every head begins with: the more of them, the further it gets.
         let head = block_at(&mut file, 0);
-        let fields = [block::HEAD, 1, 0, 0, 1, 0];
+        let fields = [block::HEAD, random.pick(&VERSIONS), 0, 0, 1, 0];
         let right = random.between(0, fields.len());
         head[..right].copy_from_slice(&fields[..right]);
         mend(head);
@@ -251,14 +228,15 @@ fn noise(random: &mut Random, _: Chain) -> Vec<u8> {
 /// Whole blocks whose records are wrong: faults in the tables, or flags and zeros of some blocks.
 fn records_wrong(random: &mut Random, mut chain: Chain) -> Vec<u8> {
     if random.once_in(5) {
-        let mut file = file::write(&many_blocks(random));
+        let chain = many_blocks(random);
+        let mut file = any_file(random, &chain);
         for _ in 0..random.between(1, 3) {
             flag_or_zero_wrong(random, &mut file);
         }
         return file;
     }
     damage_tables::damage(random, &mut chain);
-    file::write(&chain)
+    any_file(random, &chain)
 }
 
 /// A flag above 1, or another number where a block has a zero, with the check mended.

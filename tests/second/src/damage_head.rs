@@ -2,13 +2,12 @@
 
 use crate::block::{mend, FIRST_RECORD, LENGTH, RECORDS};
 use crate::chain::{Chain, Edge, MOST_EDGES, MOST_STATES};
-use crate::damage::{any_block, block_at, other_byte};
-use crate::file;
+use crate::damage::{any_block, any_file, block_at, other_byte};
 use crate::random::Random;
 
 /// The fields that every later test leans on, with the head's check always mended.
 pub fn head_field(random: &mut Random, chain: Chain) -> Vec<u8> {
-    let mut file = file::write(&chain);
+    let mut file = any_file(random, &chain);
     let head = block_at(&mut file, 0);
     for _ in 0..random.between(1, 2) {
         match random.below(5) {
@@ -56,7 +55,7 @@ pub fn outside_the_ranges(random: &mut Random, mut chain: Chain) -> Vec<u8> {
             chain.edges = chain.edges.iter().copied().cycle().take(edges).collect();
         }
     }
-    file::write(&chain)
+    any_file(random, &chain)
 }
 
 /// A state that only leads to itself, last in the order.

@@ -7,18 +7,18 @@ use crate::refusal::Refusal;
 /// The most blocks of a chain file.
 pub const MOST_BLOCKS: usize = 1 + MOST_STATES.div_ceil(RECORDS) + MOST_EDGES.div_ceil(RECORDS);
 
-/// The chain file that holds these tables, well formed or not.
-pub fn write(chain: &Chain) -> Vec<u8> {
+/// The chain file of this version that holds these tables, well formed or not.
+pub fn write(chain: &Chain, version: u8) -> Vec<u8> {
     let edge_count = (chain.edges.len() as u16).to_le_bytes();
     let head = [chain.states() as u8, chain.start, edge_count[0], edge_count[1], 0, 0, 0, 0];
     let states: Vec<[u8; RECORD]> = (0..chain.states()).map(|i| state_record(chain, i)).collect();
     let edges: Vec<[u8; RECORD]> = chain.edges.iter().map(edge_record).collect();
 
-    let mut file = block::build(block::HEAD, 0, &[head]).to_vec();
+    let mut file = block::build(version, block::HEAD, 0, &[head]).to_vec();
     for (kind, records) in [(block::STATES, states), (block::EDGES, edges)] {
         for part in records.chunks(RECORDS) {
             let number = file.len() / block::LENGTH;
-            file.extend(block::build(kind, number, part));
+            file.extend(block::build(version, kind, number, part));
         }
     }
     file
@@ -41,7 +41,8 @@ pub fn read(file: &[u8]) -> Result<Chain, Refusal> {
         return Err(Refusal { number: 20, place: 0 });
     }
     let blocks: Vec<&[u8]> = file.chunks(block::LENGTH).collect();
-    let head = records(blocks[0], 0, block::HEAD, 1)?[0];
+    let version = blocks[0][block::VERSION];
+    let head = records(blocks[0], 0, version, block::HEAD, 1)?[0];
     let n = usize::from(head[0]);
     let edge_count = usize::from(two_bytes(head, 2));
     let head_fits = (1..=MOST_STATES).contains(&n)
@@ -63,7 +64,7 @@ pub fn read(file: &[u8]) -> Result<Chain, Refusal> {
     for (place, bytes) in blocks.iter().enumerate().skip(1) {
         if place <= state_blocks {
             let rest = n - chain.states();
-            for record in records(bytes, place, block::STATES, rest.min(RECORDS))? {
+            for record in records(bytes, place, version, block::STATES, rest.min(RECORDS))? {
                 if record[6] > 1 {
                     return Err(Refusal { number: 24, place });
                 }
@@ -74,7 +75,7 @@ pub fn read(file: &[u8]) -> Result<Chain, Refusal> {
             }
         } else {
             let rest = edge_count - chain.edges.len();
-            for record in records(bytes, place, block::EDGES, rest.min(RECORDS))? {
+            for record in records(bytes, place, version, block::EDGES, rest.min(RECORDS))? {
                 if record[2..4] != [0; 2] {
                     return Err(Refusal { number: 24, place });
                 }
@@ -86,15 +87,23 @@ pub fn read(file: &[u8]) -> Result<Chain, Refusal> {
     Ok(chain)
 }
 
-/// The records of the block at `place`, which must be of this kind and have this count.
+/// The records of the block at `place`, which must carry block 0's version, be of this kind and have
+/// this count.
 ///
 /// Tests what all kinds share, in its order: 21, 22, 23, 24.
-fn records(bytes: &[u8], place: usize, kind: u8, count: usize) -> Result<Vec<&[u8]>, Refusal> {
+fn records(
+    bytes: &[u8],
+    place: usize,
+    version: u8,
+    kind: u8,
+    count: usize,
+) -> Result<Vec<&[u8]>, Refusal> {
+    let known = block::VERSIONS.contains(&version) && bytes[block::VERSION] == version;
     let end = block::FIRST_RECORD + count * RECORD;
     let tests = [
         (21, bytes[block::CHECK..] == block::check(bytes)),
         (22, usize::from(two_bytes(bytes, block::NUMBER)) == place),
-        (23, bytes[block::KIND] == kind && bytes[block::VERSION] == 1),
+        (23, bytes[block::KIND] == kind && known),
         (24, usize::from(two_bytes(bytes, block::COUNT)) == count),
         (24, bytes[end..block::CHECK].iter().all(|&byte| byte == 0)),
     ];
@@ -112,13 +121,40 @@ mod tests {
     #[test]
     fn reads_what_it_wrote() {
         for case in worked::chains() {
-            assert_eq!(read(&write(&case.chain)), Ok(case.chain), "{}", case.name);
+            for version in block::VERSIONS {
+                let read = read(&write(&case.chain, version));
+                assert_eq!(read.as_ref(), Ok(&case.chain), "{}", case.name);
+            }
         }
     }
 
     #[test]
     fn zeros_pass_the_check_and_have_no_kind() {
         assert_eq!(read(&[0; 512]), Err(Refusal { number: 23, place: 0 }));
+    }
+
+    #[test]
+    fn one_version_byte_changed_is_21_or_23() {
+        for case in worked::chains() {
+            let file = write(&case.chain, 2);
+            for place in 0..file.len() / block::LENGTH {
+                for version in (0..=255).filter(|&version| version != 2) {
+                    let mut other = file.clone();
+                    other[place * block::LENGTH + block::VERSION] = version;
+                    let number = read(&other).expect_err(case.name).number;
+                    assert!([21, 23].contains(&number), "{}: {number}", case.name);
+                }
+            }
+        }
+    }
+
+    #[test]
+    fn two_versions_in_one_file_are_23() {
+        let chain = &worked::chains()[0].chain;
+        let [mut file, other] = [2, 1].map(|version| write(chain, version));
+        let last = file.len() - block::LENGTH;
+        file[last..].copy_from_slice(&other[last..]);
+        assert_eq!(read(&file), Err(Refusal { number: 23, place: last / block::LENGTH }));
     }
 
     #[test]

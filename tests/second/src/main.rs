@@ -12,6 +12,7 @@ mod block;
 mod chain;
 mod compare;
 mod damage;
+mod damage_check;
 mod damage_head;
 mod damage_tables;
 mod draft;

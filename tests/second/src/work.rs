@@ -1,6 +1,6 @@
 //! The whole work of a run, cut into units that any thread can take.
 
-use crate::block;
+use crate::block::{self, VERSIONS};
 use crate::chain::Chain;
 use crate::compare;
 use crate::damage::{self, Request, DAMAGES, RECORDS_WRONG};
@@ -78,8 +78,10 @@ fn worker(next: &AtomicU64, once_in: u64) -> Tally {
 fn known_answers(tally: &mut Tally) {
     for (place, worked) in worked::all().into_iter().enumerate() {
         let case = Case { family: worked.name, seed: place as u64 };
-        compare_chain(tally, case, &worked.chain);
-        compare::report_lines(tally, case, &file::write(&worked.chain), worked.lines);
+        for version in VERSIONS {
+            compare_chain(tally, case, &worked.chain, version);
+            compare::report_lines(tally, case, &file::write(&worked.chain, version), worked.lines);
+        }
     }
     for (family, file, lines) in EXAMPLES {
         let case = Case { family, seed: 0 };
@@ -93,7 +95,7 @@ fn known_answers(tally: &mut Tally) {
 /// A chain file with 65,536 blocks behind it: in two bytes its block total would be right.
 fn far_too_long(tally: &mut Tally) {
     let case = Case { family: "65,536 blocks too many", seed: 0 };
-    let mut file = file::write(&worked::chains()[0].chain);
+    let mut file = file::write(&worked::chains()[0].chain, 2);
     file.resize(file.len() + 65_536 * block::LENGTH, 0);
     compare::report(tally, case, &file);
     let request = Request { file, mode: EXACT, answer_length: ANSWER };
@@ -101,9 +103,15 @@ fn far_too_long(tally: &mut Tally) {
 }
 
 /// Compares every mode on a well-formed chain. Hands back the exact chance and the bounds.
-fn compare_chain(tally: &mut Tally, case: Case, chain: &Chain) -> (Option<Pair>, Option<Pair>) {
+fn compare_chain(
+    tally: &mut Tally,
+    case: Case,
+    chain: &Chain,
+    version: u8,
+) -> (Option<Pair>, Option<Pair>) {
     let mut random = Random::new(case.seed);
-    let mut request = Request { file: file::write(chain), mode: EXACT, answer_length: ANSWER };
+    let file = file::write(chain, version);
+    let mut request = Request { file, mode: EXACT, answer_length: ANSWER };
     let exact = compare::entry(tally, case, &request, Asked::EntryOnChain);
     request.mode = DEFAULT;
     request.answer_length = random.between(ANSWER, 3 * ANSWER);
@@ -119,10 +127,12 @@ fn compare_chain(tally: &mut Tally, case: Case, chain: &Chain) -> (Option<Pair>,
 fn one_chain(tally: &mut Tally, seed: u64, place: u64, with_report: bool) {
     let family = FAMILIES[(place % FAMILIES.len() as u64) as usize];
     let case = Case { family: family.0, seed };
-    let chain = generate::draw(&mut Random::new(seed), family);
-    let file = file::write(&chain);
+    let mut random = Random::new(seed);
+    let chain = generate::draw(&mut random, family);
+    let version = random.pick(&VERSIONS);
+    let file = file::write(&chain, version);
     tally.chain(&file);
-    compare_chain(tally, case, &chain);
+    compare_chain(tally, case, &chain, version);
     if with_report {
         compare::report(tally, case, &file);
     }
@@ -138,7 +148,8 @@ fn one_chain_in_many_orders(tally: &mut Tally, seed: u64) {
     let mut turns_that_fit = HashSet::new();
     for _ in 0..ORDERS {
         random.shuffle(&mut chain.order);
-        let (exact, bounds) = compare_chain(tally, case, &chain);
+        let version = random.pick(&VERSIONS);
+        let (exact, bounds) = compare_chain(tally, case, &chain, version);
         if let Some((chance, _)) = exact {
             chances.push(chance);
             turns_that_fit.insert(turns(&chain));
@@ -147,7 +158,7 @@ fn one_chain_in_many_orders(tally: &mut Tally, seed: u64) {
     }
     tally.reordered += u64::from(turns_that_fit.len() > 1);
     let Some(&chance) = chances.first() else { return };
-    let file = file::write(&chain);
+    let file = file::write(&chain, 2);
     tally.check(case, &file, chances.iter().all(|&other| other == chance), || {
         format!("one chain under many orders has the chances {chances:?}")
     });

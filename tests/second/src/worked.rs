@@ -137,14 +137,16 @@ pub fn all() -> Vec<Worked> {
 #[cfg(test)]
 mod tests {
     use super::*;
-    use crate::{equations, file, fraction::Fraction, live::Reach, report};
+    use crate::{block::VERSIONS, equations, file, fraction::Fraction, live::Reach, report};
 
     #[test]
     fn every_worked_chain_has_its_answer() {
         for case in all() {
-            let report = report::of_file(&file::write(&case.chain));
-            for line in case.lines {
-                assert!(report.lines().any(|l| l == *line), "{}: {line}\n{report}", case.name);
+            for version in VERSIONS {
+                let report = report::of_file(&file::write(&case.chain, version));
+                for line in case.lines {
+                    assert!(report.lines().any(|l| l == *line), "{}: {line}\n{report}", case.name);
+                }
             }
         }
     }
@@ -153,7 +155,7 @@ mod tests {
     fn the_address_report_is_whole() {
         let case = &chains()[0];
         let expected: String = case.lines.iter().map(|line| format!("{line}\n")).collect();
-        assert_eq!(report::of_file(&file::write(&case.chain)), expected);
+        assert_eq!(report::of_file(&file::write(&case.chain, 2)), expected);
     }
 
     #[test]
