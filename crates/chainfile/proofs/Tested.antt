@@ -5,10 +5,6 @@ use mathlib.Core.Logic.{⊎-elim}
 use native.Mathlib.Omega.{arith}
 use Rattle.meaning.specs.Block.{Input}
 use Rattle.meaning.specs.File.{
-  CheckFault,
-  BlockNumberFault,
-  KindFault,
-  ContentFault,
   BlockRefused,
   BlockRight,
   LengthFault,

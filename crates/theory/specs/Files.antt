@@ -1,4 +1,4 @@
--- Chain files, the report and the call from C: one outcome each.
+-- Chain files, the report and the call from C: one outcome each; and what damage to a file meets.
 pub mod Fletcher
 pub mod Sums
 pub mod Head
@@ -7,6 +7,7 @@ pub mod Right
 pub mod Agree
 pub mod Damage
 pub mod Runs
+pub mod Padding
 pub mod Versions
 pub mod Before
 pub mod FileOne

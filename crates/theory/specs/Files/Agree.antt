@@ -36,13 +36,9 @@ use Rattle.meaning.specs.File.{
   CheckFault,
   BlockNumberFault,
   kindOf,
-  VersionFault,
-  KindFault,
   countOf,
   NonZero,
   HeadFault,
-  FlagFault,
-  ReservedFault,
   ContentFault,
   BlockRight,
 }
@@ -55,7 +51,7 @@ use Rattle.theory.specs.Files.Right.{right, right-laid, unchecked, unpla
 abbrev pub Agree : Input → Input → ℕ → Type 0
 Agree f g b = (i : ℕ) → blockAt b ≤ i → i < blockAt (suc b) → (i ≡ versionAt b → ⊥) → byte f i ≡ byte g i
 
-number-agree : (f g : Input) (j width : ℕ) → ((i : ℕ) → j ≤ i → i < j + width → byte f i ≡ byte g i) → numberAt f j width ≡ numberAt g j width
+pub number-agree : (f g : Input) (j width : ℕ) → ((i : ℕ) → j ≤ i → i < j + width → byte f i ≡ byte g i) → numberAt f j width ≡ numberAt g j width
 number-agree f g j width h = sum-ext _ _ width (λ i l. ap (λ z. z * 256 ^ i) (h (j + i) (omega arith) (omega arith)))
 
 nonzero-agree : (f g : Input) {low high : ℕ} → ((i : ℕ) → low ≤ i → i < high → byte f i ≡ byte g i) → NonZero g low high → NonZero f low high
@@ -86,15 +82,17 @@ module _ (f g : Input) (head : Agree f g 0) where
   pub demanded-agree : demanded f ≡ demanded g
   demanded-agree = ap₂ (λ n e. 1 + blocksOf n + blocksOf e) states-agree edges-agree
 
+  pub kinds-agree : (b : ℕ) → kindOf f b ≡ kindOf g b
+  kinds-agree b = ap (λ n. choose (eqb b 0) 1 (choose (leb b (blocksOf n)) 2 3)) states-agree
+
+  pub counts-agree : (b : ℕ) → countOf f b ≡ countOf g b
+  counts-agree b =
+      ap₂ (λ n e.
+      choose (eqb b 0) 1
+      (choose (leb b (blocksOf n)) (min fullBlock (n - fullBlock * (b - 1))) (min fullBlock (e - fullBlock * (b - 1 - blocksOf n)))))
+      states-agree edges-agree
+
 module _ (f g : Input) (b : ℕ) (head : Agree f g 0) (own : Agree f g b) where
-  kinds-agree : kindOf f b ≡ kindOf g b
-  kinds-agree = ap (λ n. choose (eqb b 0) 1 (choose (leb b (blocksOf n)) 2 3)) (states-agree f g head)
-
-  counts-agree : countOf f b ≡ countOf g b
-  counts-agree =
-      ap₂ (λ n e. choose (eqb b 0) 1 (choose (leb b (blocksOf n)) (min fullBlock (n - fullBlock * (b - 1))) (min fullBlock (e - fullBlock * (b - 1 - blocksOf n)))))
-      (states-agree f g head) (edges-agree f g head)
-
   -- The check, where the version is the same too.
   pub check-agree : versionIn f b ≡ versionIn g b → CheckFault g b → CheckFault f b
   check-agree e =
@@ -110,7 +108,7 @@ module _ (f g : Input) (b : ℕ) (head : Agree f g 0) (own : Agree f g b) where
   place-agree d q = d (sym (number-agree f g (blockNumberAt b) 2 (λ i l h. own i (omega arith) (omega arith) (λ e. omega arith))) ∙ q)
 
   pub kind-agree : byte f (kindAt b) ≡ kindOf f b → byte g (kindAt b) ≡ kindOf g b
-  kind-agree q = sym (own (kindAt b) (omega arith) (omega arith) (λ e. omega arith)) ∙ q ∙ kinds-agree
+  kind-agree q = sym (own (kindAt b) (omega arith) (omega arith) (λ e. omega arith)) ∙ q ∙ (kinds-agree f g head b)
 
   inner : (i : ℕ) → recordsAt b ≤ i → i < checkAt b → byte f i ≡ byte g i
   inner i l h = own i (omega arith) (omega arith) (λ e. omega arith)
@@ -123,19 +121,25 @@ module _ (f g : Input) (b : ℕ) (head : Agree f g 0) (own : Agree f g b) where
 
   pub content-agree : ContentFault g b → ContentFault f b
   content-agree (ContentFault.count-wrong d) =
-      ContentFault.count-wrong (λ q. d (sym (number-agree f g (countAt b) 2 (λ i l h. own i (omega arith) (omega arith) (λ e. omega arith))) ∙ q ∙ counts-agree))
+      let e = number-agree f g (countAt b) 2 (λ i l h. own i (omega arith) (omega arith) (λ e. omega arith)) in
+      ContentFault.count-wrong (λ q. d (sym e ∙ q ∙ counts-agree f g head b))
   content-agree (ContentFault.rest-wrong w) =
-      ContentFault.rest-wrong (rw counts-agree (nonzero-agree f g (λ i l h. inner i (omega arith) h) w))
-  content-agree (ContentFault.record-wrong k w) = ContentFault.record-wrong (kinds-agree ∙ k) (head-agree w)
+      ContentFault.rest-wrong (rw (counts-agree f g head b) (nonzero-agree f g (λ i l h. inner i (omega arith) h) w))
+  content-agree (ContentFault.record-wrong k w) = ContentFault.record-wrong (kinds-agree f g head b ∙ k) (head-agree w)
   content-agree (ContentFault.flag-wrong k w) =
       let c = count-most g b in
-      ContentFault.flag-wrong (kinds-agree ∙ k)
-      (w .0, (omega (arith, counts-agree, w .1 .0), rw (inner (recordsAt b + recordSize * w .0 + flagByte) (omega arith) (omega (arith, w .1 .0))) (w .1 .1)))
+      ContentFault.flag-wrong (kinds-agree f g head b ∙ k) (
+        w .0,
+        (
+          omega (arith, counts-agree f g head b, w .1 .0),
+          rw (inner (recordsAt b + recordSize * w .0 + flagByte) (omega arith) (omega (arith, w .1 .0))) (w .1 .1),
+        ),
+      )
   content-agree (ContentFault.reserved-wrong k w) =
       let c = count-most g b in
       let l = w .1 .0 in
-      ContentFault.reserved-wrong (kinds-agree ∙ k)
-      (w .0, (omega (arith, counts-agree), nonzero-agree f g (λ i m h. inner i (omega arith) (omega arith)) (w .1 .1)))
+      ContentFault.reserved-wrong (kinds-agree f g head b ∙ k)
+      (w .0, (omega (arith, counts-agree f g head b), nonzero-agree f g (λ i m h. inner i (omega arith) (omega arith)) (w .1 .1)))
 
   -- The whole block, where both versions are the same too.
   pub right-agree : versionIn f b ≡ versionIn g b → versionIn f 0 ≡ versionIn g 0 → BlockRight f b → BlockRight g b

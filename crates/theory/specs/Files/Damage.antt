@@ -1,8 +1,10 @@
--- Damage to one block of an accepted version 2 file: one byte changed, and a run of zeros filled with FF.
+-- Damage to one block of an accepted file: what refuses the block refuses the file there; and one byte changed in a version 2 file.
 use Prim.Native.Nat.{ℕ, suc, _+_, _*_, _%_, _≤_, _<_}
 use mathlib.Core.Path.{_≡_, sym, ap, subst, _∙_}
 use mathlib.Core.Logic.{_⊎_, inl, inr, ⊎-elim}
 use native.Mathlib.Omega.{arith}
+use lib.ListN.{length, set, length-set}
+use lib.Seq.{getD-set-same, getD-set-other}
 use Rattle.meaning.specs.Block.{
   Input,
   inputLength,
@@ -15,28 +17,22 @@ use Rattle.meaning.specs.Block.{
   checkedBytes,
   firstSum,
   secondSum,
-  firstVersion,
   secondVersion,
   versionIn,
   checkModulus,
   checkBegin,
-  headStates,
-  headEdges,
   demanded,
 }
 use Rattle.meaning.specs.File.{
   LengthFault,
-  TotalFault,
   CheckFault,
-  BlockNumberFault,
   BlockRefused,
-  BlockRight,
   FileRefused,
   Accepted,
 }
 use Rattle.theory.specs.Numbers.Sum.{same, below}
 use Rattle.theory.specs.Files.Sums.{first-like, second-like, byte-seen}
-use Rattle.theory.specs.Files.Right.{right, right-laid}
+use Rattle.theory.specs.Files.Right.{right-laid}
 use Rattle.theory.specs.Files.Agree.{Agree, sumOf, sums-agree, demanded-agree, right-agree}
 
 -- g is as long as f and has the same bytes outside block b.
@@ -49,7 +45,8 @@ module _ {f g : Input} {b : ℕ} (accepted : Accepted f) (inside : b < demanded 
   whole w = accepted .whole (rw (else .same-length) w)
 
   agree : (a : ℕ) → (a ≡ b → ⊥) → Agree f g a
-  agree a d i l h v = ⊎-elim (λ (k : i < blockAt b). else .others i (inl k)) (λ (k : blockAt b ≤ i). else .others i (inr (omega arith))) (below i (blockAt b))
+  agree a d i l h v =
+      ⊎-elim (λ (k : i < blockAt b). else .others i (inl k)) (λ (k : blockAt b ≤ i). else .others i (inr (omega arith))) (below i (blockAt b))
 
   version-else : (a : ℕ) → (a ≡ b → ⊥) → versionIn f a ≡ versionIn g a
   version-else a d =
@@ -64,7 +61,9 @@ module _ {f g : Input} {b : ℕ} (accepted : Accepted f) (inside : b < demanded 
       let head = agree 0 (λ z. d (sym z)) in
       let e = demanded-agree f g head in
       FileRefused.block-wrong n b whole (λ t. accepted .total (λ q. t (sym (else .same-length) ∙ q ∙ ap (λ z. blockSize * z) e))) (omega arith) (omega arith)
-      (λ a h. right-agree f g a head (agree a (λ z. omega arith)) (version-else a (λ z. omega arith)) (version-else 0 (λ z. d (sym z))) (accepted .blocks a (omega arith)))
+      (λ a h.
+      right-agree f g a head (agree a (λ z. omega arith)) (version-else a (λ z. omega arith)) (version-else 0 (λ z. d (sym z)))
+      (accepted .blocks a (omega arith)))
       w)
       (same b 0)
 
@@ -102,6 +101,19 @@ pub record Changed (f g : Input) (b j : ℕ) : Type 0 where
   pub before : blockByte f b j < 256
   pub after : blockByte g b j < 256
   pub differs : blockByte f b j ≡ blockByte g b j → ⊥
+
+-- So it is where a byte that is kept is set.
+pub set-changed : (f : Input) (b j y : ℕ) → blockAt b + j < length (f .kept) → blockByte f b j < 256 → y < 256 → (blockByte f b j ≡ y → ⊥)
+    → Changed f (record { kept = set (f .kept) (blockAt b + j) y; more = f .more }) b j
+set-changed f b j y h low small d =
+    let e = getD-set-same (f .kept) (blockAt b + j) y 0 h in
+    record {
+      same-length = ap (λ n. n + f .more) (sym (length-set (f .kept) (blockAt b + j) y));
+      others = λ i n. sym (getD-set-other (f .kept) (blockAt b + j) i y 0 n);
+      before = low;
+      after = omega arith;
+      differs = λ q. d (q ∙ e);
+    }
 
 -- The two values differ by exactly 251.
 abbrev pub Apart : ℕ → ℕ → Type 0
@@ -143,7 +155,8 @@ module _ {f g : Input} {b j : ℕ} (accepted : Accepted f) (inside : b < demande
         seen accepted inside (around (omega arith)) second version checks
         (λ e.
         ⊎-elim (changed .differs) a
-        (byte-seen (blockByte f b) (blockByte g b) j (λ i n. changed .others (blockAt b + i) (λ z. n (omega arith))) checkedBytes h (changed .before) (changed .after) e))
+        (byte-seen (blockByte f b) (blockByte g b) j (λ i n. changed .others (blockAt b + i) (λ z. n (omega arith))) checkedBytes h
+        (changed .before) (changed .after) e))
 
     -- Where they do, the check still matches.
     pub byte-unseen : Apart (blockByte f b j) (blockByte g b j) → CheckFault g b → ⊥
@@ -154,6 +167,8 @@ module _ {f g : Input} {b j : ℕ} (accepted : Accepted f) (inside : b < demande
         like : (i : ℕ) → i < checkedBytes → blockByte f b i % 251 ≡ blockByte g b i % 251
         like i l =
             ⊎-elim
-            (λ (z : i ≡ j). rw z (⊎-elim (λ (e : blockByte f b j ≡ blockByte g b j + 251). omega arith) (λ (e : blockByte g b j ≡ blockByte f b j + 251). omega arith) a))
+            (λ (z : i ≡ j).
+            rw z
+            (⊎-elim (λ (e : blockByte f b j ≡ blockByte g b j + 251). omega arith) (λ (e : blockByte g b j ≡ blockByte f b j + 251). omega arith) a))
             (λ (n : i ≡ j → ⊥). ap (λ z. z % 251) (changed .others (blockAt b + i) (λ z. n (omega arith))))
             (same i j)

@@ -130,7 +130,8 @@ module _ {f : Input} {b : ℕ} where
           reserved = λ k w. content-right (ContentFault.reserved-wrong k w);
         }
       where
-        one-of : (versionIn f b ≡ firstVersion) ⊎ (versionIn f b ≡ firstVersion → ⊥) → (versionIn f b ≡ secondVersion) ⊎ (versionIn f b ≡ secondVersion → ⊥)
+        one-of : (versionIn f b ≡ firstVersion) ⊎ (versionIn f b ≡ firstVersion → ⊥)
+            → (versionIn f b ≡ secondVersion) ⊎ (versionIn f b ≡ secondVersion → ⊥)
             → (versionIn f b ≡ firstVersion) ⊎ (versionIn f b ≡ secondVersion)
         one-of (inl e) d = inl e
         one-of (inr h) (inl e) = inr e

@@ -36,10 +36,10 @@ Whole long = (long ≡ 251) ⊎ (long ≡ 502)
 module _ {f g : Input} {b k long : ℕ} (accepted : Accepted f) (inside : b < demanded f) (second : versionIn f 0 ≡ secondVersion)
     (over : Overwritten f g b k long)
   where
-    beside : (i : ℕ) → (i < blockAt b + k) ⊎ (blockAt b + k + long ≤ i) → byte f i ≡ byte g i
+    pub beside : (i : ℕ) → (i < blockAt b + k) ⊎ (blockAt b + k + long ≤ i) → byte f i ≡ byte g i
     beside i h = sym (over .run .others i h)
 
-    there : Elsewhere f g b
+    pub there : Elsewhere f g b
     there =
         record {
           same-length = over .same-length;
@@ -65,7 +65,7 @@ module _ {f g : Input} {b k long : ℕ} (accepted : Accepted f) (inside : b < de
     own : versionIn f b ≡ secondVersion
     own = right-laid (accepted .blocks b inside) .versioned ∙ second
 
-    version : versionIn g b ≡ secondVersion
+    pub version : versionIn g b ≡ secondVersion
     version = sym (apart (versionAt b) (λ z. omega (arith, own))) ∙ own
 
     checks : (i : ℕ) → checkAt b ≤ i → i < blockAt (suc b) → byte f i ≡ byte g i

@@ -5,30 +5,16 @@ use mathlib.Core.Logic.{_⊎_, inl, inr, ⊎-elim}
 use native.Mathlib.Omega.{arith}
 use Rattle.meaning.specs.Block.{
   Input,
-  inputLength,
-  byte,
-  blockByte,
   blockSize,
-  blockAt,
   versionAt,
-  checkAt,
-  checkedBytes,
-  firstSum,
-  secondSum,
   firstVersion,
   secondVersion,
   versionIn,
-  checkModulus,
-  checkBegin,
   demanded,
 }
 use Rattle.meaning.specs.File.{
-  LengthFault,
-  TotalFault,
   CheckFault,
   BlockNumberFault,
-  KindFault,
-  ContentFault,
   BlockRefused,
   BlockRight,
   FileRefused,
@@ -63,7 +49,8 @@ module _ {f g : Input} {b : ℕ} (accepted : Accepted f) (inside : b < demanded 
   further : (b ≡ 0 → ⊥) → (CheckFault g b → ⊥) → FileRefused g 23 b
   further d c =
       refused-there accepted inside there
-      (BlockRefused.kind-refused c (placed b inside) (inr (inr (λ e. changed .differs (carries b inside ∙ sym (e ∙ sym (other-version 0 (λ z. d (sym z))) ∙ second))))))
+      (BlockRefused.kind-refused c (placed b inside)
+      (inr (inr (λ e. changed .differs (carries b inside ∙ sym (e ∙ sym (other-version 0 (λ z. d (sym z))) ∙ second))))))
 
   unknown-head : (versionIn g b ≡ firstVersion → ⊥) → (CheckFault g b → ⊥) → FileRefused g 23 b
   unknown-head n c =
@@ -88,7 +75,8 @@ module _ {f g : Input} {b : ℕ} (accepted : Accepted f) (inside : b < demanded 
       head : BlockRight g b
       head =
           right g b c (placed b inside)
-          (⊎-elim (λ d. d (kind-agree f g b (agree-all 0) (agree-all b) (right-laid (accepted .blocks b inside) .kind))) (⊎-elim (λ d. d .0 e) (λ d. d (ap (versionIn g) z))))
+          (⊎-elim (λ d. d (kind-agree f g b (agree-all 0) (agree-all b) (right-laid (accepted .blocks b inside) .kind)))
+          (⊎-elim (λ d. d .0 e) (λ d. d (ap (versionIn g) z))))
           (λ w. content-right (accepted .blocks b inside) (content-agree f g b (agree-all 0) (agree-all b) w))
 
       unlike : versionIn g 1 ≡ versionIn g 0 → ⊥
@@ -110,7 +98,7 @@ module _ {f g : Input} {b : ℕ} (accepted : Accepted f) (inside : b < demanded 
 
 -- A version that is neither 1 nor 2.
 module _ (f : Input) (b : ℕ) (first : versionIn f b ≡ firstVersion → ⊥) (second : versionIn f b ≡ secondVersion → ⊥) where
-  -- The block is refused by 21, 22 or 23, and by no other number.
+  -- The block is refused, by 21, 22 or 23.
   pub unknown-refused : (n : ℕ) × BlockRefused f b n × (n ≤ 23)
   unknown-refused =
       elim (checked f b) [
