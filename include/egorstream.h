@@ -70,11 +70,11 @@ extern "C" {
 
 /* The file is empty, or its length is no multiple of 512. */
 #define EGORSTREAM_FILE_LENGTH_WRONG UINT32_C(20)
-/* A block's check does not match its bytes. */
+/* A block's check does not match its bytes, by the rule of the block's version. */
 #define EGORSTREAM_BLOCK_CHECK_WRONG UINT32_C(21)
 /* A block does not have the number of its place. */
 #define EGORSTREAM_BLOCK_NUMBER_WRONG UINT32_C(22)
-/* A block's kind or version is unknown, or its kind is out of turn. */
+/* A block's kind is unknown or out of turn, or its version is neither 1 nor 2 or not block 0's. */
 #define EGORSTREAM_BLOCK_KIND_WRONG UINT32_C(23)
 /* A count, flag or reserved byte is wrong, or the file does not have the blocks its head demands. */
 #define EGORSTREAM_BLOCK_CONTENT_WRONG UINT32_C(24)
