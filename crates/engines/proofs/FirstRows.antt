@@ -14,13 +14,13 @@ use Rattle.meaning.specs.Chain.{mostReward, Chain, denominator, edgeCount, from
 use Rattle.meaning.specs.Figure.{earned}
 use Rattle.meaning.specs.Row.{cell, trapColumn, unknownColumn, total, rounding}
 use Rattle.meaning.specs.Step.{row, Sets, Right, given, firstRow, noRow, first}
-use Rattle.meaning.specs.Refusal.{Lent, Entry, WellFormed}
+use Rattle.meaning.specs.Refusal.{Lent, Entry, workSize, WellFormed}
 use Rattle.theory.specs.Numbers.Sum.{same, below, sum-ext, sum-zero}
 use Rattle.theory.specs.Numbers.Tab.{tab-ext}
 use Rattle.theory.specs.Chains.Flow.{flow-ext}
 use Rattle.theory.specs.Stages.Given.{Fate, live, won, lost, LiveRow, goes-to, given-state, given-goal, given-trap, given-unknown, given-reward, given-length, given-total}
 use Rattle.theory.specs.Stages.First.{first-row}
-use Rattle.theory.specs.Outcomes.Formed.{few-states, room, formed-fine, from-in, denominators-length, denominator-small, reward-small, reward-none}
+use Rattle.theory.specs.Outcomes.Formed.{few-states, formed-fine, from-in, denominators-length, denominator-small, reward-small, reward-none}
 use Rattle.engines.specs.Table.{rowAt, Renewed}
 use Rattle.engines.specs.First.{columnOf, share, Held, Gatherable, finished, finishedAt, Finishable, Makeable}
 use Rattle.engines.specs.Turn.{Made}
@@ -215,12 +215,12 @@ module _ (c : Chain) (k : Sets) where
           }
 
 -- What a well-formed input has. The bounds engine is lent no rewards.
-pub first-given : (b : Bool) (x : Entry) (l : Lent) (k : Sets) → WellFormed x l → x .work ≡ true → (b ≡ rounding → x .rewards ≡ false) → Right (l .chain) k
+pub first-given : (b : Bool) (x : Entry) (l : Lent) (k : Sets) → WellFormed x l → workSize (l .chain .states) ≤ length (l .work) → (b ≡ rounding → x .rewards ≡ false) → Right (l .chain) k
     → Makeable b (l .chain) k (l .rewards) (l .work)
-first-given b x l k formed lent free right =
+first-given b x l k formed enough free right =
     record {
       few = few-states x l formed;
-      room = room x l formed lent;
+      room = enough;
       fine = formed-fine x l formed;
       sources = from-in x l formed;
       size = denominators-length x l formed;

@@ -1,10 +1,11 @@
 -- What an entry knows once the looking has said that its input is well formed.
-use Prim.Native.Nat.{ℕ}
+use Prim.Native.Nat.{ℕ, _≤_}
+use lib.ListN.{length}
 use mathlib.Core.Path.{_≡_, subst}
 use mathlib.Core.Bool.{Bool, true, false}
 use Rattle.meaning.specs.Row.{rounding}
 use Rattle.meaning.specs.Step.{Sets, Right}
-use Rattle.meaning.specs.Refusal.{Lent, Entry, Refused, WellFormed}
+use Rattle.meaning.specs.Refusal.{Lent, Entry, workSize, Refused, WellFormed}
 use mathlib.Core.List.{List}
 use mathlib.Core.Logic.{inr}
 use Rattle.meaning.specs.Outcome.{cleared}
@@ -58,11 +59,11 @@ module _ {x : Entry} {l : Lent} {f : Looked} (s : looked x l f) where
   clear e = subst (looked x l) e s
 
 -- What an elimination asks for.
-pub begun : (x : Entry) (l : Lent) → WellFormed x l → (b : Bool) (k : Sets) → x .order ≡ true → x .work ≡ true
+pub begun : (x : Entry) (l : Lent) → WellFormed x l → (b : Bool) (k : Sets) → x .order ≡ true → workSize (l .chain .states) ≤ length (l .work)
     → (b ≡ rounding → x .rewards ≡ false) → Right (l .chain) k → Begun b l k
-begun x l formed b k ordered worked free right =
+begun x l formed b k ordered room free right =
     record {
-      asked = first-given b x l k formed worked free right;
+      asked = first-given b x l k formed room free right;
       orders = order-length x l formed ordered;
       inside = order-in x l formed ordered;
       start = start-in x l formed;

@@ -1,7 +1,7 @@
 -- What the looking of an entry says.
 use Prim.Native.Nat.{ℕ}
 use mathlib.Core.Bool.{Bool, true}
-use Rattle.meaning.specs.Refusal.{Lent, Entry, Refused, WellFormed}
+use Rattle.meaning.specs.Refusal.{Lent, Entry, workSize, Refused, WellFormed}
 use Rattle.look.specs.Says.{Upto}
 use Rattle.survey.specs.Sets.{Known}
 use Rattle.engines.specs.declared.looking.Looked.{Looked}
@@ -9,7 +9,7 @@ use Rattle.engines.specs.declared.looking.Looked.the-variants.{Clear, Re
 
 -- An entry that is lent an order and a work table, and rewards or not.
 abbrev pub ordered : Bool → Entry
-ordered b = record { order = true; rewards = b; work = true }
+ordered b = record { order = true; rewards = b; fewest = 0; room = λ n _. workSize n }
 
 -- What is said before the numbers from k on are looked at; the sets are the chain's own.
 abbrev pub soFar : Entry → Lent → ℕ → Looked → Type 0

@@ -66,13 +66,14 @@ module _ (n : ℕ) {o : ℕ} where
   given-wrong true g h e = h (g ∙ e)
   given-wrong false g h e = h (g .0)
 
-module _ (x : Entry) {n d e o w p q : ℕ} (g : counted (x .order) o n p) (f : counted (x .rewards) w n q) where
+module _ (x : Entry) (any : x .fewest ≡ 0) {n d e o w p q : ℕ} (g : counted (x .order) o n p) (f : counted (x .rewards) w n q) where
   pub lend : Misshaped paid n d e p q → Misshaped x n d e o w
   lend (Misshaped.no-states h) = Misshaped.no-states h
   lend (Misshaped.many-states h) = Misshaped.many-states h
   lend (Misshaped.denominators-length h) = Misshaped.denominators-length h
   lend (Misshaped.edges-ragged h) = Misshaped.edges-ragged h
   lend (Misshaped.many-edges h) = Misshaped.many-edges h
+  lend (Misshaped.few-edges h) = absurd (omega arith)
   lend (Misshaped.order-length h) = Misshaped.order-length (lent-wrong n (x .order) g h)
   lend (Misshaped.rewards-length h) = Misshaped.rewards-length (lent-wrong n (x .rewards) f h)
 
@@ -82,6 +83,7 @@ module _ (x : Entry) {n d e o w p q : ℕ} (g : counted (x .order) o n p) (f : c
   reclaim (Misshaped.denominators-length h) = Misshaped.denominators-length h
   reclaim (Misshaped.edges-ragged h) = Misshaped.edges-ragged h
   reclaim (Misshaped.many-edges h) = Misshaped.many-edges h
+  reclaim (Misshaped.few-edges h) = absurd (omega arith)
   reclaim (Misshaped.order-length h) = Misshaped.order-length (given-wrong n (x .order) g h)
   reclaim (Misshaped.rewards-length h) = Misshaped.rewards-length (given-wrong n (x .rewards) f h)
 
@@ -94,18 +96,19 @@ module _ {n d e o w : ℕ} where
   shapely some few p full edges q r (Misshaped.denominators-length h) = h p
   shapely some few p full edges q r (Misshaped.edges-ragged h) = full h
   shapely some few p full edges q r (Misshaped.many-edges h) = omega arith
+  shapely some few p full edges q r (Misshaped.few-edges h) = omega arith
   shapely some few p full edges q r (Misshaped.order-length h) = h q
   shapely some few p full edges q r (Misshaped.rewards-length h) = h r
 
 -- A wrong shape is number 1, and a right one clears it.
-module _ (x : Entry) (l : Lent) (b : Bool) (o w : ℕ)
+module _ (x : Entry) (any : x .fewest ≡ 0) (l : Lent) (b : Bool) (o w : ℕ)
     (p : counted (x .order) (length (l .order)) (l .chain .states) o) (q : counted (x .rewards) (length (l .rewards)) (l .chain .states) w)
     (s : decides (Misshaped paid (l .chain .states) (length (l .chain .denominators)) (length (l .chain .edges)) o w) b) where
   pub misshapen : b ≡ true → Refused x l 1 0
-  misshapen t = refuse (begin x l) (at-0 (lend x p q (holds _ s t)))
+  misshapen t = refuse (begin x l) (at-0 (lend x any p q (holds _ s t)))
 
   pub shaped : b ≡ false → Upto x l 2
-  shaped t = next (begin x l) (off (λ f. fails _ s t (reclaim x p q f)))
+  shaped t = next (begin x l) (off (λ f. fails _ s t (reclaim x any p q f)))
 
 -- The lengths of a right shape.
 stable : (a b : ℕ) → ((a ≡ b → ⊥) → ⊥) → a ≡ b

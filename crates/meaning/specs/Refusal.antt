@@ -28,36 +28,39 @@ pub record Lent : Type 0 where
   pub rewards : List ℕ
   pub work : List ℕ
 
--- Which of these tables an entry is lent decides which numbers it can give.
-pub record Entry : Type 0 where
-  pub order : Bool
-  pub rewards : Bool
-  pub work : Bool
-
--- The entries for the chance and for the bounds: numbers 1 to 10.
-abbrev pub plain : Entry
-plain = record { order = true; rewards = false; work = true }
-
--- The entry for the expected reward: numbers 1 to 11.
-abbrev pub paid : Entry
-paid = record { order = true; rewards = true; work = true }
-
--- An entry that is lent a chain alone: numbers 1 and 3 to 9.
-abbrev pub bare : Entry
-bare = record { order = false; rewards = false; work = false }
-
--- How many numbers of the work table an entry needs.
+-- How many numbers of the work table an elimination needs.
 abbrev pub workSize : ℕ → ℕ
 workSize n = n * width n
 
+-- What an entry asks decides which numbers it can give: which tables it is lent, the least number of edges, and how long the table has to be
+-- that it writes, for so many states and edges.
+pub record Entry : Type 0 where
+  pub order : Bool
+  pub rewards : Bool
+  pub fewest : ℕ
+  pub room : ℕ → ℕ → ℕ
+
+-- The entries for the chance and for the bounds: numbers 1 to 10.
+abbrev pub plain : Entry
+plain = record { order = true; rewards = false; fewest = 0; room = λ n _. workSize n }
+
+-- The entry for the expected reward: numbers 1 to 11.
+abbrev pub paid : Entry
+paid = record { order = true; rewards = true; fewest = 0; room = λ n _. workSize n }
+
+-- An entry that is lent a chain alone: numbers 1 and 3 to 9.
+abbrev pub bare : Entry
+bare = record { order = false; rewards = false; fewest = 0; room = λ _ _. 0 }
+
 -- 1: n is not 1 to 64; a table length is other than n, or than 0 where the entry is not lent that table; numbers are left over past
--- the last whole edge, or over 4,096 edges.
+-- the last whole edge; over 4,096 edges, or fewer than the entry asks for.
 pub data Misshaped (x : Entry) (states denominators edges order rewards : ℕ) : Type 0 where
   no-states : states ≡ 0 → Misshaped x states denominators edges order rewards
   many-states : mostStates < states → Misshaped x states denominators edges order rewards
   denominators-length : (denominators ≡ states → ⊥) → Misshaped x states denominators edges order rewards
   edges-ragged : (edges % edgeSize ≡ 0 → ⊥) → Misshaped x states denominators edges order rewards
   many-edges : mostEdges < edges / edgeSize → Misshaped x states denominators edges order rewards
+  few-edges : edges / edgeSize < x .fewest → Misshaped x states denominators edges order rewards
   order-length : (order ≡ only (x .order) states → ⊥) → Misshaped x states denominators edges order rewards
   rewards-length : (rewards ≡ only (x .rewards) states → ⊥) → Misshaped x states denominators edges order rewards
 
@@ -125,7 +128,7 @@ faults x l =
     never
     ∷ whole
     (Misshaped x (c .states) (length (c .denominators)) (length (c .edges)) (length (l .order)) (length (l .rewards)))
-    ∷ lentFault (x .work) (whole (length (l .work) < workSize (c .states)))
+    ∷ whole (length (l .work) < x .room (c .states) (edgeCount (c .edges)))
     ∷ whole (c .states ≤ c .start)
     ∷ whole (GoalFault (c .states) (c .goals))
     ∷ DenominatorFault (c .states) (c .denominators)

@@ -16,7 +16,7 @@ use Rattle.meaning.specs.Report.{refusedText, linesText, Report, printing, Text
 use Rattle.theory.specs.Numbers.Tab.{tab-length}
 use Rattle.theory.specs.Outcomes.Formed.{few-states, few-edges}
 use Rattle.theory.specs.Outcomes.DemandTwo.{stopped-twelve}
-use Rattle.theory.specs.Outcomes.Entails.{fewer-formed}
+use Rattle.theory.specs.Outcomes.Bare.{bare-formed}
 use Rattle.chainfile.specs.Written.{Room, Written}
 use Rattle.chainfile.proofs.Steps.{whole}
 use Rattle.figures.specs.Told.{toldAnswer, toldLimits}
@@ -95,7 +95,7 @@ surveyed formed (SurveyOutcome.surveyed w s t m d g k a b e) = rw e (a, b)
 
 module _ {f : Input} {r : Figures} (formed : WellFormed paid (paidIn f)) (x : ReportAsked f r) where
   counted : Count (Goal (chainIn f)) (headStates f) (r .counts .goals) × Count (Live (chainIn f)) (headStates f) (r .counts .live)
-  counted = rw (x .counts .goals, x .counts .live) (surveyed (fewer-formed bare (paidIn f) formed) (x .counts .outcome))
+  counted = rw (x .counts .goals, x .counts .live) (surveyed (bare-formed paid (paidIn f) formed) (x .counts .outcome))
 
   edges : r .counts .edges ≡ headEdges f
   edges = omega (arith, x .counts .edges, tab-length 0 (edgeSize * headEdges f) (edgeNumber (edgeIn f)))

@@ -44,7 +44,7 @@ faults-within x l states edges = (
   (
     (λ p h. omega (arith, h .0)),
     (
-      lent-within (x .work) _ (λ p h. omega (arith, h .0)),
+      (λ p h. omega (arith, h .0)),
       (
         (λ p h. omega (arith, h .0)),
         (

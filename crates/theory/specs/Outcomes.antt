@@ -1,6 +1,5 @@
 -- From a well-formed input to the answer: every entry has one outcome, and what it is held to; the chains worked by hand.
 pub mod Formed
-pub mod Entails
 pub mod Bare
 pub mod Look
 pub mod Halt

@@ -1,5 +1,6 @@
 use mathlib.Core.Path.{refl}
 use mathlib.Core.List.{[]}
+use native.Mathlib.Omega.{arith}
 use borrow.Author.Needs.{needs}
 use Rattle.look.proofs.bare.Statement.{statement}
 use Rattle.look.proofs.bare.Tie as tie
@@ -16,12 +17,12 @@ l c = let a = c .before .before .before .args in lent (a .c) (a .denominators .n
 
 -- Numbers 2, 10 and 11 are passed over: their tables are not lent.
 up-3 : (c : tie.Else1) → Upto bare (l (c .before)) 3
-up-3 c = next (shaped bare _ _ _ _ (refl, refl) (refl, refl) (c .before .misshaped .ensures) (c .if1 .left)) (λ p a. a)
+up-3 c = next (shaped bare refl _ _ _ _ (refl, refl) (refl, refl) (c .before .misshaped .ensures) (c .if1 .left)) (λ p a. omega (arith, a .1))
 
 returns : tie.Need-returns
 returns c =
     let at = c .before .before in
-    say (c .refused .ensures) (misshapen bare (l at) _ _ _ (refl, refl) (refl, refl) (at .misshaped .ensures) (c .before .if1 .taken))
+    say (c .refused .ensures) (misshapen bare refl (l at) _ _ _ (refl, refl) (refl, refl) (at .misshaped .ensures) (c .before .if1 .taken))
 
 own-requires : tie.Need-own-requires
 own-requires c κs = sized (up-3 c) (lit< tt)

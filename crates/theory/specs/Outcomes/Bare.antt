@@ -2,15 +2,25 @@
 use Prim.Native.Nat.{ℕ, zero, suc, _+_, _-_, _≤_, _<_}
 use mathlib.Core.Path.{_≡_, refl, sym, subst}
 use mathlib.Core.Logic.{⊎-elim}
-use mathlib.Core.List.{[]}
+use mathlib.Core.List.{List, [], _∷_}
+use lib.ListN.{getD}
 use native.Mathlib.Omega.{arith}
-use Rattle.meaning.specs.Refusal.{Lent, Entry, bare, whole, Misshaped, faults, Applies, Refused, WellFormed}
+use Rattle.meaning.specs.Refusal.{Lent, Entry, bare, whole, never, Misshaped, faults, Applies, Refused, WellFormed}
 use Rattle.theory.specs.Numbers.Sum.{below}
-use Rattle.theory.specs.Outcomes.Entails.{Entails, none, more, entails-at}
 
 -- What is lent of it to an entry that is lent a chain alone.
 abbrev pub alone : Lent → Lent
 alone l = record { chain = l .chain; order = []; rewards = []; work = [] }
+
+-- Each fault of one list is that fault of another.
+data Entails : List (ℕ → Type 0) → List (ℕ → Type 0) → Type 1 where
+  none : Entails [] []
+  more : {F G : ℕ → Type 0} {Fs Gs : List (ℕ → Type 0)} → ((p : ℕ) → F p → G p) → Entails Fs Gs → Entails (F ∷ Fs) (G ∷ Gs)
+
+entails-at : {Fs Gs : List (ℕ → Type 0)} → Entails Fs Gs → (k p : ℕ) → getD Fs k never p → getD Gs k never p
+entails-at none k p h = absurd h
+entails-at (more f w) zero p h = f p h
+entails-at (more f w) (suc k) p h = entails-at w k p h
 
 module _ (x : Entry) (l : Lent) where
   shape : {n d e o w : ℕ} → Misshaped bare n d e 0 0 → Misshaped x n d e o w
@@ -19,6 +29,7 @@ module _ (x : Entry) (l : Lent) where
   shape (Misshaped.denominators-length h) = Misshaped.denominators-length h
   shape (Misshaped.edges-ragged h) = Misshaped.edges-ragged h
   shape (Misshaped.many-edges h) = Misshaped.many-edges h
+  shape (Misshaped.few-edges h) = absurd (omega arith)
   shape (Misshaped.order-length h) = absurd (h refl)
   shape (Misshaped.rewards-length h) = absurd (h refl)
 
@@ -30,7 +41,7 @@ module _ (x : Entry) (l : Lent) where
   among =
       more (λ p a. a)
       (more misshaped
-      (more (λ p a. absurd a)
+      (more (λ p (a : whole (0 < 0) p). absurd (omega (arith, a .1)))
       (more (λ p a. a)
       (more (λ p a. a)
       (more (λ p a. a)
@@ -40,6 +51,10 @@ module _ (x : Entry) (l : Lent) where
       (more (λ p a. a)
       (more (λ p a. absurd a)
       (more (λ p a. absurd a) none)))))))))))
+
+  -- What is well formed with all its tables is well formed with none.
+  pub bare-formed : WellFormed x l → WellFormed bare (alone l)
+  bare-formed formed = record { none = λ k p a. formed .none k p (entails-at among k p a) }
 
   -- Of 3 to 9, what applies among all that is lent applies to the chain alone.
   own : (k p : ℕ) → k < 7 → Applies x l (3 + k) p → Applies bare (alone l) (3 + k) p

@@ -6,7 +6,7 @@ use mathlib.Core.Bool.{Bool, true, false}
 use native.Mathlib.Omega.{arith}
 use lib.ListN.{length, getD, List·getD-eq-default}
 use Rattle.meaning.specs.Chain.{mostStates, mostEdges, M, mostReward, Chain, denominator, edgeSize, edgeCount, from, to, weight, along}
-use Rattle.meaning.specs.Refusal.{Lent, Entry, workSize, Misshaped, OrderFault, RewardFault, whole, lentFault, WellFormed}
+use Rattle.meaning.specs.Refusal.{Lent, Entry, Misshaped, OrderFault, RewardFault, lentFault, WellFormed}
 use Rattle.meaning.specs.Stop.{rewardOf, earns}
 use Rattle.theory.specs.Numbers.Sum.{below}
 use Rattle.theory.specs.Numbers.Every.{holds-every}
@@ -86,9 +86,11 @@ module _ (x : Entry) (l : Lent) (formed : WellFormed x l) where
   pub formed-fine : Fine c
   formed-fine = record { targets = to-in; weights = weight-positive; sums = row-sum }
 
-  pub room : x .work ≡ true → workSize (c .states) ≤ length (l .work)
-  room lent =
-      atMost _ _ (λ h. formed .none 2 0 (lends (x .work) (whole (length (l .work) < workSize (c .states))) 0 lent (refl, h)))
+  pub some-edges : x .fewest ≤ edgeCount (c .edges)
+  some-edges = atMost _ _ (λ h. shape (Misshaped.few-edges h))
+
+  pub room : x .room (c .states) (edgeCount (c .edges)) ≤ length (l .work)
+  room = atMost _ _ (λ h. formed .none 2 0 (refl, h))
 
   -- The order is each state once.
   module _ (lent : x .order ≡ true) where

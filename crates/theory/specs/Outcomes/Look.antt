@@ -9,7 +9,7 @@ use native.Mathlib.Decide.{ℕ-discrete, decLe, decLt}
 use lib.ListN.{length, getD}
 use Rattle.meaning.specs.Number.{only}
 use Rattle.meaning.specs.Chain.{mostStates, mostEdges, M, mostReward, edgeSize, edgeCount, from, to, weight, rowSum}
-use Rattle.meaning.specs.Refusal.{Lent, Entry, workSize, Misshaped, no-states, many-states, denominators-length, edges-ragged, many-edges, order-length, rewards-length, GoalFault, OutOfRange, Same, whole, never, lentFault, faults, Refused, WellFormed}
+use Rattle.meaning.specs.Refusal.{Lent, Entry, Misshaped, no-states, many-states, denominators-length, edges-ragged, many-edges, few-edges, order-length, rewards-length, GoalFault, OutOfRange, Same, whole, never, lentFault, faults, Refused, WellFormed}
 use Rattle.theory.specs.Numbers.Search.{turned, either, NoneBefore, LeastPlace, at, nowhere, clear-none, ranged, anywhere}
 
 module _ (x : Entry) (states denominators edges order rewards : ℕ) where
@@ -20,6 +20,7 @@ module _ (x : Entry) (states denominators edges order rewards : ℕ) where
       ⊎ (denominators ≡ states → ⊥)
       ⊎ (edges % edgeSize ≡ 0 → ⊥)
       ⊎ (mostEdges < edges / edgeSize)
+      ⊎ (edges / edgeSize < x .fewest)
       ⊎ (order ≡ only (x .order) states → ⊥)
       ⊎ (rewards ≡ only (x .rewards) states → ⊥)
 
@@ -29,8 +30,9 @@ module _ (x : Entry) (states denominators edges order rewards : ℕ) where
   shapes-in (inr (inr (inl h))) = denominators-length h
   shapes-in (inr (inr (inr (inl h)))) = edges-ragged h
   shapes-in (inr (inr (inr (inr (inl h))))) = many-edges h
-  shapes-in (inr (inr (inr (inr (inr (inl h)))))) = order-length h
-  shapes-in (inr (inr (inr (inr (inr (inr h)))))) = rewards-length h
+  shapes-in (inr (inr (inr (inr (inr (inl h)))))) = few-edges h
+  shapes-in (inr (inr (inr (inr (inr (inr (inl h))))))) = order-length h
+  shapes-in (inr (inr (inr (inr (inr (inr (inr h))))))) = rewards-length h
 
   pub shapes-out : Misshaped x states denominators edges order rewards → Shapes
   shapes-out (no-states h) = inl h
@@ -38,8 +40,9 @@ module _ (x : Entry) (states denominators edges order rewards : ℕ) where
   shapes-out (denominators-length h) = inr (inr (inl h))
   shapes-out (edges-ragged h) = inr (inr (inr (inl h)))
   shapes-out (many-edges h) = inr (inr (inr (inr (inl h))))
-  shapes-out (order-length h) = inr (inr (inr (inr (inr (inl h)))))
-  shapes-out (rewards-length h) = inr (inr (inr (inr (inr (inr h)))))
+  shapes-out (few-edges h) = inr (inr (inr (inr (inr (inl h)))))
+  shapes-out (order-length h) = inr (inr (inr (inr (inr (inr (inl h))))))
+  shapes-out (rewards-length h) = inr (inr (inr (inr (inr (inr (inr h))))))
 
   unfoldable pub misshaped : Dec (Misshaped x states denominators edges order rewards)
   unfolding turned either ℕ-discrete decLt Dec·not
@@ -50,8 +53,9 @@ module _ (x : Entry) (states denominators edges order rewards : ℕ) where
       (either (Dec·not (ℕ-discrete denominators states))
       (either (Dec·not (ℕ-discrete (edges % edgeSize) 0))
       (either (decLt mostEdges (edges / edgeSize))
+      (either (decLt (edges / edgeSize) (x .fewest))
       (either (Dec·not (ℕ-discrete order (only (x .order) states)))
-      (Dec·not (ℕ-discrete rewards (only (x .rewards) states)))))))))
+      (Dec·not (ℕ-discrete rewards (only (x .rewards) states))))))))))
 
 unfoldable pub out-of-range : (w : ℕ) → Dec (OutOfRange w)
 unfolding either ℕ-discrete decLt
@@ -81,7 +85,7 @@ sought x l =
     let c = l .chain in
     more (nowhere (λ q z. z))
     (more (wholly _ (misshaped x (c .states) (length (c .denominators)) (length (c .edges)) (length (l .order)) (length (l .rewards))))
-    (more (lently (x .work) _ (wholly _ (decLt (length (l .work)) (workSize (c .states)))))
+    (more (wholly _ (decLt (length (l .work)) (x .room (c .states) (edgeCount (c .edges)))))
     (more (wholly _ (decLe (c .states) (c .start)))
     (more (wholly (GoalFault (c .states) (c .goals)) (either (ℕ-discrete (c .goals) 0) (decLe (2 ^ c .states) (c .goals))))
     (more (ranged _ (c .states) (λ i. out-of-range (getD (c .denominators) i 0)))

@@ -31,7 +31,7 @@ clear-work-requires : tie.Need-clear-work-requires
 clear-work-requires c κs =
     let sets = c .before .before .before in
     let m = l (sets .before .before) in
-    (omega (arith, few-states paid m (formed sets)), omega (arith, room paid m (formed sets) refl))
+    (omega (arith, few-states paid m (formed sets)), omega (arith, room paid m (formed sets)))
 
 returns-2 : tie.Need-returns-2
 returns-2 c =
@@ -43,7 +43,7 @@ returns-2 c =
 run-requires : tie.Need-run-requires
 run-requires c κs =
     let sets = c .before .before .before in
-    begun paid (l (sets .before .before)) (formed sets) exact _ refl refl (λ e. absurd (apart e)) (clear {l = l (sets .before .before)} (sets .before .before .look-paid .ensures) (sets .sets .given .1) .1 .right)
+    begun paid (l (sets .before .before)) (formed sets) exact _ refl (room paid (l (sets .before .before)) (formed sets)) (λ e. absurd (apart e)) (clear {l = l (sets .before .before)} (sets .before .before .look-paid .ensures) (sets .sets .given .1) .1 .right)
   where
     apart : exact ≡ rounding → ⊥
     apart e = let z : _≡_ {A = ℕ} 0 1 = cc in omega arith

@@ -3,6 +3,7 @@ use mathlib.Core.Logic.{inl}
 use mathlib.Core.List.{[]}
 use borrow.Author.Needs.{needs}
 use Rattle.meaning.specs.Refusal.{Lent, plain}
+use Rattle.theory.specs.Outcomes.Formed.{room}
 use Rattle.chain.specs.Lent.{lent}
 use Rattle.engines.proofs.Looked.{refused-by, clear, begun, ran}
 use Rattle.engines.proofs.entry.unpaid.Statement.{statement}
@@ -18,7 +19,7 @@ run-requires c κs =
     let sets = c .before .before .before in
     let at = sets .before .before in
     let f = clear {l = l at} (at .look .ensures) (sets .sets .given .1) in
-    begun plain (l at) (f .0) _ _ refl refl (λ _. refl) (f .1 .right)
+    begun plain (l at) (f .0) _ _ refl (room plain (l at) (f .0)) (λ _. refl) (f .1 .right)
 
 returns : tie.Need-returns
 returns c =

@@ -24,7 +24,7 @@ K2 c k =
     → Upto (ordered b) (lent (a .c) (a .denominators .now) (a .edges .now) (a .order .now) w (a .work .now)) k
 
 up-2 : (c : tie.Else1) → K2 c 2
-up-2 c b w e = shaped (ordered b) _ _ _ _ refl e (c .before .misshaped .ensures) (c .if1 .left)
+up-2 c b w e = shaped (ordered b) refl _ _ _ _ refl e (c .before .misshaped .ensures) (c .if1 .left)
 
 up-3 : (c : tie.Else2) → K2 (c .before .before) 3
 up-3 c b w e = next (up-2 (c .before .before) b w e) (off (fails _ (c .before .short .ensures) (c .if2 .left)))
@@ -35,7 +35,7 @@ known : {l : List ℕ → Lent} {k n : ℕ} → ((b : Bool) (w : List ℕ) → c
 known {n = n} u = u true (replicate n 0) (length-replicate {A = ℕ} n 0)
 
 returns : tie.Need-returns
-returns c b w e = misshapen (ordered b) _ _ _ _ refl e (c .before .misshaped .ensures) (c .if1 .taken)
+returns c b w e = misshapen (ordered b) refl _ _ _ _ refl e (c .before .misshaped .ensures) (c .if1 .taken)
 
 short-requires : tie.Need-short-requires
 short-requires c κs = sized (known (up-2 c)) (lit< tt) .few-states
