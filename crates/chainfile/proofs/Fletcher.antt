@@ -1,10 +1,14 @@
 -- Fletcher's two sums in one pass, with one remainder at the end.
-use Prim.Native.Nat.{ℕ, _+_, _*_, _%_, _≤_, _<_}
+use Prim.Native.Nat.{ℕ, zero, suc, _+_, _*_, _%_, _≤_, _<_}
 use mathlib.Core.Path.{_≡_, sym, ap, _∙_}
-use native.Mathlib.Nat.{mod-eq-of-lt, mod-add-mod, add-mod}
+use native.Mathlib.Nat.{mod-eq-of-lt, mod-add-mod, add-mod, mod-lt}
 use native.Mathlib.Numerals.{add-one}
 use native.Mathlib.Omega.{arith}
-use Rattle.meaning.specs.Block.{firstSum, secondSum}
+use mathlib.Core.Bool.{Bool, true, false}
+use lib.Dec.{eqb}
+use Rattle.meaning.specs.Number.{choose}
+use Rattle.meaning.specs.Block.{Input, blockByte, firstSum, secondSum, secondVersion, versionIn, checkedBytes}
+use Rattle.theory.specs.Files.Agree.{sumOf}
 use Rattle.chainfile.specs.Input.{end}
 
 -- After i of the bytes: both sums so far, of which only the remainders count, and how large they are.
@@ -40,3 +44,25 @@ module _ {m s : ℕ} {f : ℕ → ℕ} {count : ℕ} where
   all {i} g h =
       let e : i ≡ count = omega (arith, g .upto) in
       (g .first-is ∙ ap (firstSum m s f) e, g .second-is ∙ ap (secondSum m s f) e)
+
+-- Each sum is below the modulus.
+first-small : (m s : ℕ) (f : ℕ → ℕ) (n : ℕ) → 0 < m → s < m → firstSum m s f n < m
+unfolding firstSum
+first-small m s f zero h k = k
+first-small m s f (suc n) h k = mod-lt _ h
+
+second-small : (m s : ℕ) (f : ℕ → ℕ) (n : ℕ) → 0 < m → s < m → secondSum m s f n < m
+unfolding secondSum
+second-small m s f zero h k = k
+second-small m s f (suc n) h k = mod-lt _ h
+
+-- Both sums of a block are bytes, whatever its version.
+small-of : (b : Bool) (f : ℕ → ℕ) (n : ℕ)
+    → (firstSum (choose b 251 255) (choose b 1 0) f n < 256) × (secondSum (choose b 251 255) (choose b 1 0) f n < 256)
+small-of true f n =
+    (omega (arith, first-small 251 1 f n (omega arith) (omega arith)), omega (arith, second-small 251 1 f n (omega arith) (omega arith)))
+small-of false f n =
+    (omega (arith, first-small 255 0 f n (omega arith) (omega arith)), omega (arith, second-small 255 0 f n (omega arith) (omega arith)))
+
+pub sums-small : (f : Input) (b : ℕ) → (sumOf firstSum f b < 256) × (sumOf secondSum f b < 256)
+sums-small f b = small-of (eqb (versionIn f b) secondVersion) (blockByte f b) checkedBytes

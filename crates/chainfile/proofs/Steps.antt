@@ -48,7 +48,7 @@ one before place x h =
     }
 
 -- A buffer keeps its length.
-front : {a t b : List ℕ} {p m : ℕ} → Written a p t b m → length (take p a ++ t) ≡ m
+pub front : {a t b : List ℕ} {p m : ℕ} → Written a p t b m → length (take p a ++ t) ≡ m
 front {a} {t} {b} {p} {m} v = simp (length-append, length-take-le p a (omega arith)) (omega arith)
 
 pub kept : {a t b : List ℕ} {p m : ℕ} → Written a p t b m → length b ≡ length a

@@ -1,3 +1,5 @@
 pub mod Input
+pub mod Made
+pub mod Packed
 pub mod Tells
 pub mod Written

@@ -47,7 +47,7 @@ fn block_number_wrong(kept: &[u8], b: usize) -> bool
 }
 
 // The kind whose turn it is.
-fn kind(kept: &[u8], b: usize) -> u64
+pub(crate) fn kind(kept: &[u8], b: usize) -> u64
     ensures { λ r. ⌜ r ≡ kindOf (input (now (kept .entry)) 0) b ⌝ }
 {
     if b == 0 {
@@ -104,7 +104,7 @@ fn held(records: usize, k: usize) -> usize
 }
 
 // How many records the block holds.
-fn count(kept: &[u8], b: usize) -> usize
+pub(crate) fn count(kept: &[u8], b: usize) -> usize
     requires { ⌜ b < mostBlocks ⌝ }
     ensures { λ r. ⌜ (r ≡ countOf (input (now (kept .entry)) 0) b) × (r ≤ fullBlock) ⌝ }
 {

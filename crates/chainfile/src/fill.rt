@@ -46,7 +46,9 @@ fn record_at(b: usize, i: usize) -> usize
 fn state_numbers(kept: &[u8], offset: usize, width: usize, table: &mut [u64])
     requires { ⌜ Within (input (now kept) 0) ⌝ }
     requires { ⌜ (headStates (input (now kept) 0) ≤ length (now table)) × (offset < recordSize) × (width ≤ 4) ⌝ }
-    ensures { λ _. ⌜ now (table .exit) ≡ filled (tabFrom 0 (headStates (input (now (kept .entry)) 0)) (λ i. numberAt (input (now (kept .entry)) 0) (stateAt i + offset) width)) (now (table .entry)) ⌝ }
+    ensures { λ _.
+        let f = input (now (kept .entry)) 0 in
+        ⌜ now (table .exit) ≡ filled (tabFrom 0 (headStates f) (λ i. numberAt f (stateAt i + offset) width)) (now (table .entry)) ⌝ }
 {
     let count = head::states(kept);
     let mut i = 0;
@@ -100,7 +102,10 @@ pub(crate) fn tables(
 )
     requires { ⌜ Within (input (now kept) 0) ⌝ }
     requires { ⌜ (Short (tables (now denominators) (now edges) (now order) (now rewards)) → ⊥) ⌝ }
-    ensures { λ _. ⌜ tables (now (denominators .exit)) (now (edges .exit)) (now (order .exit)) (now (rewards .exit)) ≡ filledIn (input (now (kept .entry)) 0) (tables (now (denominators .entry)) (now (edges .entry)) (now (order .entry)) (now (rewards .entry))) ⌝ }
+    ensures { λ _.
+        let before = tables (now (denominators .entry)) (now (edges .entry)) (now (order .entry)) (now (rewards .entry)) in
+        let after = tables (now (denominators .exit)) (now (edges .exit)) (now (order .exit)) (now (rewards .exit)) in
+        ⌜ after ≡ filledIn (input (now (kept .entry)) 0) before ⌝ }
 {
     state_numbers(kept, layout::DENOMINATOR, layout::QUAD, denominators);
     edge_numbers(kept, edges);

@@ -25,7 +25,7 @@ pub(crate) fn edges(kept: &[u8]) -> usize
 }
 
 // Every block but the last of its kind is full.
-fn blocks(records: usize) -> usize
+pub(crate) fn blocks(records: usize) -> usize
     requires { ⌜ records < 65536 ⌝ }
     ensures { λ r. ⌜ r ≡ blocksOf records ⌝ }
 {

@@ -1,4 +1,4 @@
-// The reader of chain files: a file is refused with its number and place, or its chain and tables are handed over.
+// Chain files. The reader: a file is refused with its number and place, or its chain and tables are handed over. The writer: the other way round.
 ghost use mathlib.Core.Path.{_≡_};
 ghost use Rattle.meaning.specs.File.{ReadOutcome, reading};
 ghost use Rattle.chainfile.specs.Input.{input};
@@ -12,12 +12,17 @@ mod fill;
 mod head;
 mod judge;
 mod layout;
+mod make;
+mod pack;
 mod records;
 mod store;
 mod sums;
+mod writer;
 
 pub use layout::LONGEST;
 pub use store::put_number;
+pub use writer::Writing;
+pub use writer::write;
 
 pub enum Reading {
     Chain { chain: Chain, edges: usize },
@@ -43,7 +48,10 @@ pub fn read(
     order: &mut [u64],
     rewards: &mut [u64],
 ) -> Reading
-    ensures { λ r. ⌜ ReadOutcome (input (now (kept .entry)) more) (tables (now (denominators .entry)) (now (edges .entry)) (now (order .entry)) (now (rewards .entry))) (told r) (tables (now (denominators .exit)) (now (edges .exit)) (now (order .exit)) (now (rewards .exit))) ⌝ }
+    ensures { λ r.
+        let before = tables (now (denominators .entry)) (now (edges .entry)) (now (order .entry)) (now (rewards .entry)) in
+        let after = tables (now (denominators .exit)) (now (edges .exit)) (now (order .exit)) (now (rewards .exit)) in
+        ⌜ ReadOutcome (input (now (kept .entry)) more) before (told r) after ⌝ }
 {
     if fill::short(denominators.len(), edges.len(), order.len(), rewards.len()) {
         return Reading::Refused {

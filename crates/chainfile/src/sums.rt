@@ -38,7 +38,9 @@ fn rule_of(version: u64) -> Rule
 // the end does for all of them.
 fn fletcher(kept: &[u8], at: usize, count: usize, modulus: u64, begin: u64) -> Sums
     requires { ⌜ (at + count ≤ end) × (0 < modulus) × (modulus < 65536) × (begin < modulus) ⌝ }
-    ensures { λ r. ⌜ (r .first ≡ firstSum modulus begin (λ j. byte (input (now (kept .entry)) 0) (at + j)) count) × (r .second ≡ secondSum modulus begin (λ j. byte (input (now (kept .entry)) 0) (at + j)) count) ⌝ }
+    ensures { λ r.
+        let f = input (now (kept .entry)) 0 in
+        ⌜ (r .first ≡ firstSum modulus begin (λ j. byte f (at + j)) count) × (r .second ≡ secondSum modulus begin (λ j. byte f (at + j)) count) ⌝ }
 {
     let mut first = begin;
     let mut second = begin;

@@ -7,7 +7,8 @@ use native.Mathlib.Omega.{arith}
 use lib.ListN.{length}
 use Rattle.meaning.specs.Number.{filled}
 use Rattle.meaning.specs.File.{Accepted}
-use Rattle.meaning.specs.Call.{defaultMode, exactMode, boundsMode, answerLength, answerBytes, wholeFile, Said, CallOutcome}
+use Rattle.meaning.specs.Block.{wholeFile}
+use Rattle.meaning.specs.Call.{defaultMode, exactMode, boundsMode, answerLength, answerBytes, Said, CallOutcome}
 use Rattle.theory.specs.Numbers.Sum.{below}
 use Rattle.figures.specs.Told.{toldAnswer, toldLimits}
 use Rattle.figures.specs.Found.{ChanceAsked, BoundsAsked, FiguresOutcome}

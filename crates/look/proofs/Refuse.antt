@@ -66,7 +66,7 @@ module _ (n : ℕ) {o : ℕ} where
   given-wrong true g h e = h (g ∙ e)
   given-wrong false g h e = h (g .0)
 
-module _ (x : Entry) (any : x .fewest ≡ 0) {n d e o w p q : ℕ} (g : counted (x .order) o n p) (f : counted (x .rewards) w n q) where
+module _ (x : Entry) {n d e o w p q : ℕ} (g : counted (x .order) o n p) (f : counted (x .rewards) w n q) where
   pub lend : Misshaped paid n d e p q → Misshaped x n d e o w
   lend (Misshaped.no-states h) = Misshaped.no-states h
   lend (Misshaped.many-states h) = Misshaped.many-states h
@@ -77,15 +77,15 @@ module _ (x : Entry) (any : x .fewest ≡ 0) {n d e o w p q : ℕ} (g : counted 
   lend (Misshaped.order-length h) = Misshaped.order-length (lent-wrong n (x .order) g h)
   lend (Misshaped.rewards-length h) = Misshaped.rewards-length (lent-wrong n (x .rewards) f h)
 
-  pub reclaim : Misshaped x n d e o w → Misshaped paid n d e p q
-  reclaim (Misshaped.no-states h) = Misshaped.no-states h
-  reclaim (Misshaped.many-states h) = Misshaped.many-states h
-  reclaim (Misshaped.denominators-length h) = Misshaped.denominators-length h
-  reclaim (Misshaped.edges-ragged h) = Misshaped.edges-ragged h
-  reclaim (Misshaped.many-edges h) = Misshaped.many-edges h
-  reclaim (Misshaped.few-edges h) = absurd (omega arith)
-  reclaim (Misshaped.order-length h) = Misshaped.order-length (given-wrong n (x .order) g h)
-  reclaim (Misshaped.rewards-length h) = Misshaped.rewards-length (given-wrong n (x .rewards) f h)
+  pub reclaim : (e / edgeSize < x .fewest → ⊥) → Misshaped x n d e o w → Misshaped paid n d e p q
+  reclaim enough (Misshaped.no-states h) = Misshaped.no-states h
+  reclaim enough (Misshaped.many-states h) = Misshaped.many-states h
+  reclaim enough (Misshaped.denominators-length h) = Misshaped.denominators-length h
+  reclaim enough (Misshaped.edges-ragged h) = Misshaped.edges-ragged h
+  reclaim enough (Misshaped.many-edges h) = Misshaped.many-edges h
+  reclaim enough (Misshaped.few-edges h) = absurd (enough h)
+  reclaim enough (Misshaped.order-length h) = Misshaped.order-length (given-wrong n (x .order) g h)
+  reclaim enough (Misshaped.rewards-length h) = Misshaped.rewards-length (given-wrong n (x .rewards) f h)
 
 module _ {n d e o w : ℕ} where
   pub shapely : 0 < n → n ≤ mostStates → d ≡ n → (((e % edgeSize ≡ 0 → ⊥) → ⊥)) → e / edgeSize ≤ mostEdges → o ≡ n → w ≡ n
@@ -105,10 +105,10 @@ module _ (x : Entry) (any : x .fewest ≡ 0) (l : Lent) (b : Bool) (o w : ℕ)
     (p : counted (x .order) (length (l .order)) (l .chain .states) o) (q : counted (x .rewards) (length (l .rewards)) (l .chain .states) w)
     (s : decides (Misshaped paid (l .chain .states) (length (l .chain .denominators)) (length (l .chain .edges)) o w) b) where
   pub misshapen : b ≡ true → Refused x l 1 0
-  misshapen t = refuse (begin x l) (at-0 (lend x any p q (holds _ s t)))
+  misshapen t = refuse (begin x l) (at-0 (lend x p q (holds _ s t)))
 
   pub shaped : b ≡ false → Upto x l 2
-  shaped t = next (begin x l) (off (λ f. fails _ s t (reclaim x any p q f)))
+  shaped t = next (begin x l) (off (λ f. fails _ s t (reclaim x p q (λ h. omega arith) f)))
 
 -- The lengths of a right shape.
 stable : (a b : ℕ) → ((a ≡ b → ⊥) → ⊥) → a ≡ b

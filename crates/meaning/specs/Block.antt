@@ -10,6 +10,10 @@ pub record Input : Type 0 where
   pub kept : List ℕ
   pub more : ℕ
 
+-- A file as an input: all of its bytes are kept.
+abbrev pub wholeFile : List ℕ → Input
+wholeFile file = record { kept = file; more = 0 }
+
 abbrev pub inputLength : Input → ℕ
 inputLength f = length (f .kept) + f .more
 

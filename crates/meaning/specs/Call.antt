@@ -6,12 +6,8 @@ use mathlib.Core.List.{List, _++_}
 use lib.ListN.{length}
 use Rattle.meaning.specs.Number.{tabFrom, filled}
 use Rattle.meaning.specs.Outcome.{Answer, ChanceOutcome, Bounds, between, BoundsOutcome}
-use Rattle.meaning.specs.Block.{Input, numberAt}
+use Rattle.meaning.specs.Block.{Input, wholeFile, numberAt}
 use Rattle.meaning.specs.File.{FileRefused, Accepted, plainIn}
-
--- The file as an input: all of its bytes are kept.
-abbrev pub wholeFile : List ℕ → Input
-wholeFile file = record { kept = file; more = 0 }
 
 -- Modes: 0 is the default and means exact, 1 exact, 2 bounds.
 abbrev pub defaultMode : ℕ

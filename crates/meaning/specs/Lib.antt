@@ -22,6 +22,10 @@ pub mod Survey
 pub mod Block
 -- "Chain files": 20 to 24, and the tables of an accepted file.
 pub mod File
+-- What is answered where bytes are written into a lent buffer.
+pub mod Buffer
+-- The writer of chain files.
+pub mod Write
 -- "Chain files": the call from C.
 pub mod Call
 -- "The report": numbers as text.

@@ -17,6 +17,7 @@ use Rattle.meaning.specs.Outcome.{
 use Rattle.meaning.specs.Survey.{Count}
 use Rattle.meaning.specs.Block.{Input, headStates, headEdges}
 use Rattle.meaning.specs.File.{FileRefused, Accepted, chainIn, plainIn, paidIn}
+use Rattle.meaning.specs.Buffer.{Writing, noWriting, writing}
 use Rattle.meaning.specs.Text.{bytesOf, decimal}
 
 -- A fraction, as 4375/4376.
@@ -71,35 +72,23 @@ pub data Report (f : Input) (t : List ℕ) : Type 0 where
 abbrev pub faceText : ℕ → Answer → List ℕ
 faceText face chance = lineText (bytesOf "face " ++ decimal face ++ bytesOf " ") (answerText chance)
 
--- What a text in a lent buffer answers: a refusal's number and place, or 0 and how long the text is.
-pub record Printing : Type 0 where
-  pub number : ℕ
-  pub place : ℕ
-  pub written : ℕ
-
-abbrev pub noPrinting : ℕ → ℕ → Printing
-noPrinting number place = record { number = number; place = place; written = 0 }
-
-abbrev pub printing : ℕ → Printing
-printing n = record { number = 0; place = 0; written = n }
-
 -- A buffer with less than the room for any such text is refused by 2, and stays. Else the text stands at its front, and bytes past the text
 -- stay.
-pub data TextOutcome (room : ℕ) (Text : List ℕ → Type 0) (before : List ℕ) (a : Printing) (after : List ℕ) : Type 0 where
-  short : length before < room → a ≡ noPrinting 2 0 → after ≡ before → TextOutcome room Text before a after
-  printed : room ≤ length before → (t : List ℕ) → Text t → a ≡ printing (length t) → after ≡ filled t before
+pub data TextOutcome (room : ℕ) (Text : List ℕ → Type 0) (before : List ℕ) (a : Writing) (after : List ℕ) : Type 0 where
+  short : length before < room → a ≡ noWriting 2 0 → after ≡ before → TextOutcome room Text before a after
+  printed : room ≤ length before → (t : List ℕ) → Text t → a ≡ writing (length t) → after ≡ filled t before
       → TextOutcome room Text before a after
 
 -- Room for any report, each line at its longest: counts of 2, 4, 2 and 2 digits, and fractions of 21 bytes.
 abbrev pub reportRoom : ℕ
 reportRoom = 147
 
-abbrev pub ReportOutcome : Input → List ℕ → Printing → List ℕ → Type 0
+abbrev pub ReportOutcome : Input → List ℕ → Writing → List ℕ → Type 0
 ReportOutcome f = TextOutcome reportRoom (Report f)
 
 -- Room for any line of a face: numbers of 64 bits have 20 digits, and a refusal's number has 10.
 abbrev pub faceRoom : ℕ
 faceRoom = 69
 
-abbrev pub FaceOutcome : ℕ → Answer → List ℕ → Printing → List ℕ → Type 0
+abbrev pub FaceOutcome : ℕ → Answer → List ℕ → Writing → List ℕ → Type 0
 FaceOutcome face chance = TextOutcome faceRoom (λ t. t ≡ faceText face chance)

@@ -12,7 +12,8 @@ use Rattle.meaning.specs.Survey.{Count, Survey, SurveyOutcome}
 use Rattle.meaning.specs.Block.{Input, headStates, headEdges}
 use Rattle.meaning.specs.File.{edgeIn, chainIn, paidIn, FileRefused, Accepted}
 use Rattle.meaning.specs.Text.{bytesOf}
-use Rattle.meaning.specs.Report.{refusedText, linesText, Report, printing, TextOutcome, reportRoom}
+use Rattle.meaning.specs.Buffer.{writing}
+use Rattle.meaning.specs.Report.{refusedText, linesText, Report, TextOutcome, reportRoom}
 use Rattle.theory.specs.Numbers.Tab.{tab-length}
 use Rattle.theory.specs.Outcomes.Formed.{few-states, few-edges}
 use Rattle.theory.specs.Outcomes.DemandTwo.{stopped-twelve}
@@ -75,8 +76,8 @@ pub stands : {Text : List ℕ → Type 0} {t before after : List ℕ} {r : ℕ} 
 stands {t = t} h w = record { text = t; wanted = h; whole = w .past ∙ zero-add (length t); bytes = whole w }
 
 pub printed : {Text : List ℕ → Type 0} {before after : List ℕ} {most r : ℕ} → most ≤ length before → Stands Text before r after
-    → TextOutcome most Text before (printing r) after
-printed h s = TextOutcome.printed h (s .text) (s .wanted) (ap printing (s .whole)) (s .bytes)
+    → TextOutcome most Text before (writing r) after
+printed h s = TextOutcome.printed h (s .text) (s .wanted) (ap writing (s .whole)) (s .bytes)
 
 -- There is room for the line of a refusal.
 pub refusal-room : {l : Lent} {a : Answer} {w : List ℕ} (buffer : List ℕ) → reportRoom ≤ length buffer → RewardOutcome l a w

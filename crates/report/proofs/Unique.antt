@@ -6,18 +6,19 @@ use native.Mathlib.Omega.{arith}
 use lib.ListN.{length, drop, length-append}
 use Rattle.meaning.specs.Outcome.{Answer}
 use Rattle.meaning.specs.Block.{Input}
-use Rattle.meaning.specs.Report.{Report, Printing, TextOutcome, ReportOutcome, FaceOutcome}
+use Rattle.meaning.specs.Buffer.{Writing}
+use Rattle.meaning.specs.Report.{Report, TextOutcome, ReportOutcome, FaceOutcome}
 use Rattle.theory.specs.Files.ReportOne.{report-one, text-one}
 use Rattle.report.specs.Stands.{told}
 use Rattle.report.specs.declared.Printed.{Printed}
 use Rattle.report.specs.declared.Printed.the-variants.{Length, Refused}
 
-module _ {a b : Printing} (e : a ≡ b) where
+module _ {a b : Writing} (e : a ≡ b) where
   number : a .number ≡ b .number
-  number = ap (λ (a : Printing). a .number) e
+  number = ap (λ (a : Writing). a .number) e
 
   size : a .written ≡ b .written
-  size = ap (λ (a : Printing). a .written) e
+  size = ap (λ (a : Writing). a .written) e
 
 -- A text is within the buffer, so that its part of the buffer can be lent on.
 pub within : {most n : ℕ} {Text : List ℕ → Type 0} {before after : List ℕ} (r : Printed) → TextOutcome most Text before (told r) after
@@ -37,7 +38,7 @@ unfolding proper
 told-one (Length n) (Length m) a b e = ap (λ (n : ℕ). Length n) (size e)
 told-one (Length n) (Refused m p) a b e = absurd (omega (arith, number e))
 told-one (Refused n p) (Length m) a b e = absurd (omega (arith, number e))
-told-one (Refused n p) (Refused m q) a b e = ap₂ (λ (n p : ℕ). Refused n p) (number e) (ap (λ (a : Printing). a .place) e)
+told-one (Refused n p) (Refused m q) a b e = ap₂ (λ (n p : ℕ). Refused n p) (number e) (ap (λ (a : Writing). a .place) e)
 
 module _ {most : ℕ} {Text : List ℕ → Type 0} (some : (t : List ℕ) → Text t → 0 < length t) where
   is-proper : {before after : List ℕ} (r : Printed) → TextOutcome most Text before (told r) after → proper r

@@ -4,7 +4,7 @@ use mathlib.Core.Path.{_≡_}
 use mathlib.Core.List.{List}
 use lib.ListN.{length}
 use Rattle.meaning.specs.Number.{filled}
-use Rattle.meaning.specs.Report.{Printing, printing, noPrinting}
+use Rattle.meaning.specs.Buffer.{Writing, writing, noWriting}
 use Rattle.report.specs.declared.Printed.{Printed}
 use Rattle.report.specs.declared.Printed.the-variants.{Length, Refused}
 
@@ -16,6 +16,6 @@ pub record Stands (Text : List ℕ → Type 0) (before : List ℕ) (returned : �
   pub bytes : after ≡ filled text before
 
 -- The numbers of each case.
-abbrev pub told : Printed → Printing
-told (Length n) = printing n
-told (Refused number place) = noPrinting number place
+abbrev pub told : Printed → Writing
+told (Length n) = writing n
+told (Refused number place) = noWriting number place

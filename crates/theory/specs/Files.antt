@@ -11,6 +11,8 @@ pub mod Padding
 pub mod Versions
 pub mod Before
 pub mod FileOne
+pub mod Alike
+pub mod Written
 pub mod ReportOne
 pub mod CallOne
 pub mod CallRead

@@ -3,6 +3,7 @@ pub mod Sum
 pub mod Tab
 pub mod Gcd
 pub mod Bits
+pub mod Digits
 pub mod Shift
 pub mod Every
 pub mod Search

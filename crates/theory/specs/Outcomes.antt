@@ -2,6 +2,7 @@
 pub mod Formed
 pub mod Bare
 pub mod Look
+pub mod Places
 pub mod Halt
 pub mod Begin
 pub mod Whole

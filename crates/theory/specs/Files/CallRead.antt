@@ -11,7 +11,8 @@ use Rattle.meaning.specs.Figure.{Chance}
 use Rattle.meaning.specs.Refusal.{Lent, Entry, Applies}
 use Rattle.meaning.specs.Outcome.{Outcome, refused, stopped, answered, Answer, Bounds, between, BoundsFigure}
 use Rattle.meaning.specs.File.{chainIn, plainIn}
-use Rattle.meaning.specs.Call.{defaultMode, exactMode, boundsMode, answerBytes, answerNumber, answerRead, wholeFile, Said, CallOutcome}
+use Rattle.meaning.specs.Block.{wholeFile}
+use Rattle.meaning.specs.Call.{defaultMode, exactMode, boundsMode, answerBytes, answerNumber, answerRead, Said, CallOutcome}
 use Rattle.meaning.specs.Demand.{BothChance}
 use Rattle.theory.specs.Outcomes.DemandTwo.{stopped-twelve, chance-of}
 use Rattle.theory.specs.Files.FileOne.{file-numbers}

@@ -9,7 +9,8 @@ use Rattle.meaning.specs.Refusal.{Entry, Lent, Refused, WellFormed}
 use Rattle.meaning.specs.Block.{Input, headStates, headEdges}
 use Rattle.meaning.specs.File.{plainIn, paidIn}
 use Rattle.meaning.specs.Text.{bytesOf}
-use Rattle.meaning.specs.Report.{refusedText, linesText, Report, Printing, printing, TextOutcome}
+use Rattle.meaning.specs.Buffer.{Writing, writing}
+use Rattle.meaning.specs.Report.{refusedText, linesText, Report, TextOutcome}
 use Rattle.theory.specs.Outcomes.Determined.{refused-one}
 use Rattle.theory.specs.Chains.Counted.{count-one}
 use Rattle.theory.specs.Outcomes.Entries.{chance-determined, reward-determined, bounds-determined}
@@ -41,7 +42,7 @@ report-one {f} (Report.reported a w g v cg cv c q b x y z oc or ob e) (Report.re
     e ∙ same ∙ sym e′
 
 -- One answer and one buffer, where the text is one.
-pub text-one : {most : ℕ} {Text : List ℕ → Type 0} {before after after′ : List ℕ} {a a′ : Printing}
+pub text-one : {most : ℕ} {Text : List ℕ → Type 0} {before after after′ : List ℕ} {a a′ : Writing}
     → ((t t′ : List ℕ) → Text t → Text t′ → t ≡ t′) → TextOutcome most Text before a after → TextOutcome most Text before a′ after′
     → (a ≡ a′) × (after ≡ after′)
 text-one one (TextOutcome.short h e k) (TextOutcome.short h′ e′ k′) = (e ∙ sym e′, k ∙ sym k′)
@@ -49,4 +50,4 @@ text-one one (TextOutcome.short h e k) (TextOutcome.printed h′ t′ w′ e′ 
 text-one one (TextOutcome.printed h t w e k) (TextOutcome.short h′ e′ k′) = absurd (omega arith)
 text-one {before = before} one (TextOutcome.printed h t w e k) (TextOutcome.printed h′ t′ w′ e′ k′) =
     let q = one t t′ w w′ in
-    (e ∙ ap (λ t. printing (length t)) q ∙ sym e′, k ∙ ap (λ t. filled t before) q ∙ sym k′)
+    (e ∙ ap (λ t. writing (length t)) q ∙ sym e′, k ∙ ap (λ t. filled t before) q ∙ sym k′)

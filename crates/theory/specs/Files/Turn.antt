@@ -79,3 +79,12 @@ module _ (f : Input) (b : ℕ) where
       go (Turn.head z k n) = omega arith
       go (Turn.state p h k n) = omega arith
       go (Turn.edge p h k n) = omega arith
+
+  -- There are three kinds.
+  pub kind-most : kindOf f b ≤ 3
+  kind-most = go turn
+    where
+      go : Turn f b → kindOf f b ≤ 3
+      go (Turn.head z k n) = omega arith
+      go (Turn.state p h k n) = omega arith
+      go (Turn.edge p h k n) = omega arith

@@ -1,0 +1,128 @@
+-- What the writer promises: one answer and one buffer; the file is read back as what was lent; and a file of version 2 that is well formed is
+-- written again byte for byte.
+use Prim.Native.Nat.{ℕ, zero, suc, _*_, _≤_}
+use mathlib.Core.Path.{_≡_, refl, sym, ap, ap₂, subst, _∙_}
+use mathlib.Core.List.{List}
+use native.Mathlib.Omega.{arith}
+use lib.ListN.{length, take, drop}
+use lib.Seq.{take-at}
+use Rattle.meaning.specs.Number.{filled}
+use Rattle.meaning.specs.Chain.{Chain, edgeSize, edgeCount, edgeNumber}
+use Rattle.meaning.specs.Refusal.{Lent, paid, Misshaped, Applies, Refused, WellFormed}
+use Rattle.meaning.specs.Block.{Input, wholeFile, secondVersion, versionIn, headStates, headEdges, denominatorIn, rewardIn, orderIn}
+use Rattle.meaning.specs.File.{Accepted, edgeIn, chainIn, ordersIn, rewardsIn, paidIn, Tables, Short, Reading, ReadOutcome}
+use Rattle.meaning.specs.Buffer.{Writing, noWriting, writing}
+use Rattle.meaning.specs.Write.{Bytes, FileOf, fileSize, filing, WriteOutcome, refused, written}
+use Rattle.theory.specs.Numbers.Tab.{tab-length}
+use Rattle.theory.specs.Outcomes.Determined.{refused-one}
+use Rattle.theory.specs.Files.FileOne.{read-one}
+use Rattle.theory.specs.Files.Right.{Bounded, bounded}
+use Rattle.theory.specs.Files.Alike.{accepted-length, alike}
+
+-- Two files of what is lent are equal, byte for byte.
+pub file-of-one : {l : Lent} {a b : List ℕ} → FileOf l a → FileOf l b → a ≡ b
+file-of-one {a = a} {b} x y =
+    alike a b (x .bytes) (y .bytes) (x .accepted) (y .accepted) (x .chain ∙ sym (y .chain)) (x .order ∙ sym (y .order))
+    (x .rewards ∙ sym (y .rewards)) (x .version ∙ sym (y .version))
+
+-- How many edges a file's chain has.
+edges-in : (file : List ℕ) → let f = wholeFile file in length (chainIn f .edges) ≡ edgeSize * headEdges f
+edges-in file = let f = wholeFile file in tab-length 0 (edgeSize * headEdges f) (edgeNumber (edgeIn f))
+
+edges-of : {l : Lent} {file : List ℕ} → FileOf l file → headEdges (wholeFile file) ≡ edgeCount (l .chain .edges)
+edges-of {l} {file} x =
+    let e : length (chainIn (wholeFile file) .edges) ≡ length (l .chain .edges) = ap (λ (c : Chain). length (c .edges)) (x .chain) in
+    omega (arith, edges-in file)
+
+-- How long the file is.
+pub file-of-size : {l : Lent} {file : List ℕ} → FileOf l file → length file ≡ fileSize (l .chain .states) (edgeCount (l .chain .edges))
+file-of-size x =
+    accepted-length (x .accepted) ∙ ap₂ fileSize (ap (λ (c : Chain). c .states) (x .chain)) (edges-of x)
+
+-- One answer, and one buffer.
+pub write-one : {l : Lent} {a a′ : Writing} {after after′ : List ℕ} → WriteOutcome l a after → WriteOutcome l a′ after′
+    → (a ≡ a′) × (after ≡ after′)
+write-one (refused n p r e k) (refused n′ p′ r′ e′ k′) =
+    let o = refused-one r r′ in (e ∙ ap₂ noWriting (o .0) (o .1) ∙ sym e′, k ∙ sym k′)
+write-one (refused n p r e k) (written w f x e′ k′) = absurd (w .none n p (r .applies))
+write-one (written w f x e k) (refused n p r e′ k′) = absurd (w .none n p (r .applies))
+write-one {l} (written w f x e k) (written w′ f′ x′ e′ k′) =
+    let o = file-of-one x x′ in
+    (e ∙ ap (λ f. writing (length f)) o ∙ sym e′, k ∙ ap (λ f. filled f (l .work)) o ∙ sym k′)
+
+-- With number 0, what was written is a file of what is lent, and the buffer has kept its other bytes.
+pub read-back : {l : Lent} {a : Writing} {after : List ℕ} → WriteOutcome l a after → a .number ≡ 0
+    → FileOf l (take (a .written) after) × (after ≡ filled (take (a .written) after) (l .work))
+read-back {l} (refused n p r e k) z =
+    absurd (subst (λ n. Applies filing l n p) (ap (λ (a : Writing). a .number) (sym e) ∙ z) (r .applies))
+read-back {l} {a} {after} (written w f x e k) z =
+    let o : f ≡ take (a .written) after =
+    sym (ap₂ take (ap (λ (a : Writing). a .written) e) k ∙ take-at f (drop (length f) (l .work)) (length f) refl) in
+    (subst (FileOf l) o x, k ∙ ap (λ f. filled f (l .work)) o)
+
+-- The tables that are read from it are those that were lent.
+pub read-again : {l : Lent} {a : Writing} {after : List ℕ} {before filledTables : Tables} {r : Reading} → WriteOutcome l a after → a .number ≡ 0
+    → (Short before → ⊥) → ReadOutcome (wholeFile (take (a .written) after)) before r filledTables
+    → (r ≡ record { number = 0; place = 0; states = l .chain .states; start = l .chain .start; goals = l .chain .goals; edges = edgeCount (l .chain .edges) })
+    × (filledTables
+    ≡ record {
+      denominators = filled (l .chain .denominators) (before .denominators);
+      edges = filled (l .chain .edges) (before .edges);
+      order = filled (l .order) (before .order);
+      rewards = filled (l .rewards) (before .rewards);
+    })
+read-again {l} {before = before} o z long read =
+    let x = read-back o z .0 in
+    let e = read-one read (ReadOutcome.accepted long (x .accepted) refl refl) in (
+      e .0
+          ∙ ap₂ (λ (c : Chain) n. record { number = 0; place = 0; states = c .states; start = c .start; goals = c .goals; edges = n }) (x .chain) (edges-of x),
+      e .1
+          ∙ (λ i.
+          record {
+            denominators = filled (x .chain i .denominators) (before .denominators);
+            edges = filled (x .chain i .edges) (before .edges);
+            order = filled (x .order i) (before .order);
+            rewards = filled (x .rewards i) (before .rewards);
+          }),
+    )
+
+-- What the writer is lent to write a file's chain again.
+abbrev pub again : List ℕ → List ℕ → Lent
+again file buffer =
+    let f = wholeFile file in record { chain = chainIn f; order = ordersIn f; rewards = rewardsIn f; work = buffer }
+
+module _ (file : List ℕ) (bytes : Bytes file) (second : versionIn (wholeFile file) 0 ≡ secondVersion) (taken : Accepted (wholeFile file))
+    (clear : (k p : ℕ) → 3 ≤ k → Applies paid (paidIn (wholeFile file)) k p → ⊥) (buffer : List ℕ) (room : length file ≤ length buffer)
+  where
+    abbrev f : Input
+    f = wholeFile file
+
+    shapely : Misshaped filing (headStates f) (length (chainIn f .denominators)) (length (chainIn f .edges)) (length (ordersIn f)) (length (rewardsIn f)) → ⊥
+    shapely = go (bounded f (taken .blocks 0 (omega arith)))
+      where
+        go : Bounded f → Misshaped filing (headStates f) (length (chainIn f .denominators)) (length (chainIn f .edges)) (length (ordersIn f)) (length (rewardsIn f)) → ⊥
+        go b (Misshaped.no-states h) = omega (arith, b .some-states)
+        go b (Misshaped.many-states h) = omega (arith, b .few-states)
+        go b (Misshaped.denominators-length h) = h (tab-length 0 (headStates f) (denominatorIn f))
+        go b (Misshaped.edges-ragged h) = h (omega (arith, edges-in file))
+        go b (Misshaped.many-edges h) = omega (arith, b .few-edges, edges-in file)
+        go b (Misshaped.few-edges h) = omega (arith, b .some-edges, edges-in file)
+        go b (Misshaped.order-length h) = h (tab-length 0 (headStates f) (orderIn f))
+        go b (Misshaped.rewards-length h) = h (tab-length 0 (headStates f) (rewardIn f))
+
+    same : FileOf (again file buffer) file
+    same = record { bytes = bytes; version = second; accepted = taken; chain = refl; order = refl; rewards = refl }
+
+    formed : WellFormed filing (again file buffer)
+    formed = record { none = go }
+      where
+        go : (k p : ℕ) → Applies filing (again file buffer) k p → ⊥
+        go zero p h = h
+        go (suc zero) p h = shapely (h .1)
+        go (suc (suc zero)) p h = omega (arith, h .1, file-of-size same)
+        go (suc (suc (suc k))) p h = clear (suc (suc (suc k))) p (omega arith) h
+
+    -- A file of version 2 that meets none of 20 to 24 and 3 to 11 is written again byte for byte, whatever the buffer held.
+    pub written-again : {a : Writing} {after : List ℕ} → WriteOutcome (again file buffer) a after
+        → (a ≡ writing (length file)) × (after ≡ filled file buffer)
+    written-again o = write-one o (written formed file same refl refl)
