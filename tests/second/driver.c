@@ -1,11 +1,18 @@
 /*
- * Calls the C entry on requests that come on standard input, one after the other, so that a program on any machine can try it.
+ * Calls the C entries on requests that come on standard input, one after the other, so that a program on any machine can try them.
  *
- * A request: five 4-byte numbers in the machine's order (mode, file length, memory length, where the answer begins in the memory, answer
- * length), then the file, then the memory. The reply: two such numbers (what the entry returned, whether the file is unchanged), then the
- * memory as the entry left it. An empty file is handed over as a null pointer.
+ * A request begins with a 4-byte number in the machine's order: 0 for the chance, 1 for the writer.
  *
- * The file and the memory end where a page begins that nobody may touch: who reads or writes past them is stopped.
+ * The chance: five such numbers (mode, file length, memory length, where the answer begins in the memory, answer length), then the file,
+ * then the memory. The reply: two such numbers (what the entry returned, whether the file is unchanged), then the memory as the entry left
+ * it.
+ *
+ * The writer: seven such numbers (how many numbers each of the four tables has, memory length, where the buffer begins in the memory, buffer
+ * length), then states, start and goals as 8-byte numbers, the tables in 8-byte numbers, the memory. The reply: four 4-byte numbers (number,
+ * place, length, whether the tables are unchanged), then the memory.
+ *
+ * What is empty is handed over as a null pointer. The file, the tables and the memory end where a page begins that nobody may touch: who
+ * reads or writes past them is stopped.
  */
 #define _DEFAULT_SOURCE
 
@@ -76,8 +83,10 @@ static void take(void *bytes, size_t length)
     }
 }
 
-static void answer(const uint32_t request[5])
+static void answer(void)
 {
+    uint32_t request[5];
+    take(request, sizeof request);
     size_t file_length = request[1], memory_length = request[2];
     uint8_t *file = room(file_length), *copy = room(file_length), *memory = room(memory_length);
     take(file, file_length);
@@ -96,11 +105,51 @@ static void answer(const uint32_t request[5])
     leave(file, file_length);
 }
 
+static void write_file(void)
+{
+    uint32_t request[7];
+    uint64_t numbers[3];
+    const uint64_t *table[4];
+    uint8_t *lent[4], *copy[4];
+    take(request, sizeof request);
+    take(numbers, sizeof numbers);
+    for (int i = 0; i < 4; i++) {
+        size_t length = request[i] * sizeof(uint64_t);
+        lent[i] = room(length);
+        copy[i] = room(length);
+        take(lent[i], length);
+        memcpy(copy[i], lent[i], length);
+        table[i] = length == 0 ? NULL : (const uint64_t *)(const void *)lent[i];
+    }
+    size_t memory_length = request[4];
+    uint8_t *memory = room(memory_length);
+    take(memory, memory_length);
+
+    struct egorstream_written written =
+        egorstream_write(numbers[0], numbers[1], numbers[2], table[0], request[0], table[1], request[1], table[2], request[2], table[3],
+                         request[3], request[6] == 0 ? NULL : memory + request[5], request[6]);
+    uint32_t reply[4] = {written.number, written.place, (uint32_t)written.length, 1};
+    for (int i = 0; i < 4; i++) {
+        size_t length = request[i] * sizeof(uint64_t);
+        reply[3] &= memcmp(copy[i], lent[i], length) == 0;
+        leave(copy[i], length);
+        leave(lent[i], length);
+    }
+    fwrite(reply, sizeof reply, 1, stdout);
+    fwrite(memory, 1, memory_length, stdout);
+    fflush(stdout);
+    leave(memory, memory_length);
+}
+
 int main(void)
 {
-    uint32_t request[5];
-    while (fread(request, sizeof request, 1, stdin) == 1) {
-        answer(request);
+    uint32_t kind;
+    while (fread(&kind, sizeof kind, 1, stdin) == 1) {
+        if (kind == 0) {
+            answer();
+        } else {
+            write_file();
+        }
     }
     return 0;
 }

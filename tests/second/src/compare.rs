@@ -3,10 +3,13 @@
 use crate::block::four_bytes;
 use crate::damage::Request;
 use crate::entry::{self, Pair, ANSWER, BOUNDS};
+use crate::file;
 use crate::fraction::Fraction;
-use crate::product::{self, Call, Reply};
+use crate::product::{self, Call, Reply, Writing, Written};
 use crate::random::Random;
+use crate::refusal::Refusal;
 use crate::report;
+use crate::tables::Tables;
 use crate::tally::{Asked, Case, Tally};
 
 /// Bytes before and behind the answer that must stay as they are.
@@ -82,6 +85,43 @@ fn decode(answer: &[u8]) -> Option<Pair> {
         return None;
     }
     Some((Fraction::new(lower, lower_by), Fraction::new(upper, upper_by)))
+}
+
+/// Calls the writer; compares what it returns, the file and every byte of the buffer and around it.
+pub fn writer(tally: &mut Tally, case: Case, tables: &Tables, buffer_length: usize) {
+    let expected = tables.written(buffer_length);
+    let mut random = Random::new(case.seed);
+    let start = random.between(AROUND - 8, AROUND);
+    // What the buffer held before must not show in the file.
+    let before = random.pick(&[Some(0xff), None]);
+    let byte = |random: &mut Random| before.unwrap_or_else(|| random.byte());
+    let mut memory: Vec<u8> = (0..buffer_length + 2 * AROUND).map(|_| byte(&mut random)).collect();
+    let mut expected_memory = memory.clone();
+    let mut told = Written { number: 0, place: 0, length: 0, tables_unchanged: true };
+    match &expected {
+        Ok(file) => {
+            expected_memory[start..start + file.len()].copy_from_slice(file);
+            told.length = file.len() as u32;
+        }
+        Err(Refusal { number, place }) => {
+            told.number = *number;
+            told.place = *place as u32;
+        }
+    }
+    let came = product::write(&Writing { tables, start, buffer_length }, &mut memory);
+    let alike = came.as_ref().is_ok_and(|came| *came == told) && memory == expected_memory;
+    tally.check(case, &memory, alike, || {
+        let wrong = (0..memory.len()).filter(|&at| memory[at] != expected_memory[at]).count();
+        format!("writer, buffer of {buffer_length}: expected {told:?}, came {came:?}, {wrong} bytes wrong")
+    });
+    tally.number(Asked::Writer, told.number);
+    // What the product wrote is read back as these tables, and those are written as it was.
+    if let (Ok(_), Some(file)) = (&expected, memory.get(start..start + told.length as usize)) {
+        let again = file::read(file).map(|chain| Tables::of(&chain).written(file.len()));
+        tally.check(case, file, matches!(again, Ok(Ok(again)) if again == file), || {
+            "what the writer wrote is not read back as what was lent".to_string()
+        });
+    }
 }
 
 /// Whether the product's bounds hold the product's exact chance.

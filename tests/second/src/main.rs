@@ -1,6 +1,6 @@
 //! A second implementation of document 01, compared with the product.
 //!
-//! It makes chains and damaged requests from fixed seeds, calls the C entry of the product's static
+//! It makes chains and damaged requests from fixed seeds, calls the C entries of the product's static
 //! library on all of them and its program `nightchance` on a part, and compares every answer with
 //! its own. Its last line is `second: N passed, 0 failed`, where N counts comparisons.
 //!
@@ -14,6 +14,7 @@ mod compare;
 mod damage;
 mod damage_check;
 mod damage_head;
+mod damage_lent;
 mod damage_tables;
 mod draft;
 mod entry;
@@ -31,6 +32,7 @@ mod refusal;
 mod report;
 mod sharp;
 mod steps;
+mod tables;
 mod tally;
 mod work;
 mod worked;

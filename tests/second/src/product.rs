@@ -1,6 +1,7 @@
 //! The product as its users meet it: the C entry of its static library, and its program. Both are
 //! x86-64 code, so both are run as processes, in the way that a script knows for this machine.
 
+use crate::tables::Tables;
 use std::cell::RefCell;
 use std::io::{self, Read, Write};
 use std::mem;
@@ -63,24 +64,47 @@ impl Driver {
         Driver { process, requests, replies }
     }
 
-    fn call(&mut self, call: &Call, memory: &mut [u8]) -> io::Result<Reply> {
+    /// Sends these numbers, these bytes and the memory; takes so many numbers and the memory.
+    fn ask<const N: usize>(
+        &mut self,
+        numbers: &[usize],
+        bytes: &[u8],
+        memory: &mut [u8],
+    ) -> io::Result<[u32; N]> {
         let requests = self.requests.as_mut().expect("it is piped");
-        let lengths = [call.file.len(), memory.len(), call.start, call.answer_length];
-        requests.write_all(&call.mode.to_ne_bytes())?;
-        for length in lengths {
-            let length = u32::try_from(length).expect("a request has less than 4 GiB");
-            requests.write_all(&length.to_ne_bytes())?;
+        for &number in numbers {
+            let number = u32::try_from(number).expect("a request has less than 4 GiB");
+            requests.write_all(&number.to_ne_bytes())?;
         }
-        requests.write_all(call.file)?;
+        requests.write_all(bytes)?;
         requests.write_all(memory)?;
         requests.flush()?;
-        let mut numbers = [[0; 4]; 2];
-        for number in &mut numbers {
+        let mut reply = [[0; 4]; N];
+        for number in &mut reply {
             self.replies.read_exact(number)?;
         }
         self.replies.read_exact(memory)?;
-        let [number, unchanged] = numbers.map(u32::from_ne_bytes);
+        Ok(reply.map(u32::from_ne_bytes))
+    }
+
+    fn call(&mut self, call: &Call, memory: &mut [u8]) -> io::Result<Reply> {
+        let Call { file, mode, start, answer_length } = *call;
+        let numbers = [0, mode as usize, file.len(), memory.len(), start, answer_length];
+        let [number, unchanged] = self.ask(&numbers, file, memory)?;
         Ok(Reply { number, file_unchanged: unchanged == 1 })
+    }
+
+    fn write(&mut self, write: &Writing, memory: &mut [u8]) -> io::Result<Written> {
+        let Writing { tables, start, buffer_length } = *write;
+        let lists = [&tables.denominators, &tables.edges, &tables.order, &tables.rewards];
+        let mut numbers = vec![1];
+        numbers.extend(lists.map(Vec::len));
+        numbers.extend([memory.len(), start, buffer_length]);
+        let head = [tables.states, tables.start, tables.goals];
+        let lent = head.iter().chain(lists.into_iter().flatten());
+        let bytes: Vec<u8> = lent.flat_map(|number| number.to_ne_bytes()).collect();
+        let [number, place, length, unchanged] = self.ask(&numbers, &bytes, memory)?;
+        Ok(Written { number, place, length, tables_unchanged: unchanged == 1 })
     }
 
     /// How a driver ended on which a call failed with this error.
@@ -123,6 +147,29 @@ pub fn chance(call: &Call, memory: &mut [u8]) -> io::Result<Reply> {
     DRIVER.with_borrow_mut(|driver| {
         // The next call finds a new driver, so that a crash is one failure and the run goes on.
         driver.call(call, memory).map_err(|error| mem::replace(driver, Driver::new()).ended(error))
+    })
+}
+
+/// One call of the writer. The buffer is the part of the memory from `start` on.
+pub struct Writing<'a> {
+    pub tables: &'a Tables,
+    pub start: usize,
+    pub buffer_length: usize,
+}
+
+#[derive(Debug, PartialEq, Eq)]
+pub struct Written {
+    pub number: u32,
+    pub place: u32,
+    pub length: u32,
+    pub tables_unchanged: bool,
+}
+
+/// What the writer returns; `memory` then holds what it left there.
+pub fn write(writing: &Writing, memory: &mut [u8]) -> io::Result<Written> {
+    DRIVER.with_borrow_mut(|driver| {
+        let written = driver.write(writing, memory);
+        written.map_err(|error| mem::replace(driver, Driver::new()).ended(error))
     })
 }
 

@@ -16,6 +16,7 @@ pub enum Asked {
     EntryOnChain,
     EntryOnDamage,
     Report,
+    Writer,
 }
 
 /// The numbers that a file's bytes, a mode and an answer's length can give; 0 is an answer. 11 needs
@@ -23,6 +24,8 @@ pub enum Asked {
 const GIVEN: [RangeInclusive<usize>; 3] = [0..=10, 12..=12, 20..=24];
 /// Those that need a mode or an answer, which a report does not have.
 const NOT_REPORTED: [usize; 2] = [1, 2];
+/// Those that the writer can give.
+const WRITTEN: RangeInclusive<usize> = 0..=11;
 /// How many different chains a run has at least, and how many that fit in different orders.
 const CHAINS: usize = 20_000;
 const REORDERED: u64 = 300;
@@ -40,7 +43,7 @@ pub struct Tally {
     failed: u64,
     told: Vec<String>,
     /// How often each number was expected, by `Asked`; 0 is an answer.
-    numbers: [[u64; NUMBERS]; 3],
+    numbers: [[u64; NUMBERS]; 4],
     /// The generated chains, each by a hash of its file, so that none counts twice.
     chains: HashSet<u64>,
     /// Chains whose chance fits in two different orders or more.
@@ -92,11 +95,15 @@ impl Tally {
     /// chains or orders are too few.
     pub fn judge_coverage(&mut self) {
         for number in GIVEN.into_iter().flatten() {
-            let [chains, damage, reports] = self.numbers.map(|column| column[number]);
+            let [chains, damage, reports, _] = self.numbers.map(|column| column[number]);
             self.cover(chains + damage > 0, || format!("no call of the entry expects {number}"));
             if !NOT_REPORTED.contains(&number) {
                 self.cover(reports > 0, || format!("no report expects {number}"));
             }
+        }
+        for number in WRITTEN {
+            let writes = self.numbers[Asked::Writer as usize][number];
+            self.cover(writes > 0, || format!("no call of the writer expects {number}"));
         }
         let (chains, reordered) = (self.chains.len(), self.reordered);
         self.cover(chains >= CHAINS, || format!("only {chains} chains differ"));
@@ -135,11 +142,11 @@ impl Tally {
         for failure in &self.told {
             println!("{failure}");
         }
-        println!("number   entry on chains   entry on damage   reports");
+        println!("number   entry on chains   entry on damage   reports   writer");
         for number in 0..NUMBERS {
-            let [chains, damage, reports] = self.numbers.map(|column| column[number]);
-            if chains + damage + reports > 0 {
-                println!("{number:6}   {chains:15}   {damage:15}   {reports:7}");
+            let [chains, damage, reports, writes] = self.numbers.map(|column| column[number]);
+            if chains + damage + reports + writes > 0 {
+                println!("{number:6}   {chains:15}   {damage:15}   {reports:7}   {writes:6}");
             }
         }
         let [fractions, infinite, refused] = self.rewards;

@@ -4,12 +4,14 @@ use crate::block::{self, VERSIONS};
 use crate::chain::Chain;
 use crate::compare;
 use crate::damage::{self, Request, DAMAGES, RECORDS_WRONG};
+use crate::damage_lent::{self, LENT_DAMAGES};
 use crate::entry::{Pair, ANSWER, BOUNDS, DEFAULT, EXACT};
 use crate::examples::EXAMPLES;
 use crate::file;
 use crate::generate::{self, FAMILIES};
 use crate::live::Reach;
 use crate::random::Random;
+use crate::tables::Tables;
 use crate::tally::{Asked, Case, Tally};
 use crate::worked;
 use std::collections::HashSet;
@@ -23,7 +25,8 @@ const SEED: u64 = 0x6e69_6768_7463_6861;
 const CHAINS: u64 = 2_100 * FAMILIES.len() as u64;
 const ORDERED: u64 = 400;
 const DAMAGED: u64 = 2_000 * DAMAGES.len() as u64;
-const UNITS: u64 = CHAINS + ORDERED + DAMAGED;
+const LENT: u64 = 500 * LENT_DAMAGES.len() as u64;
+const UNITS: u64 = CHAINS + ORDERED + DAMAGED + LENT;
 
 /// How many orders each chain of the ordered part is given.
 const ORDERS: usize = 8;
@@ -67,8 +70,10 @@ fn worker(next: &AtomicU64, once_in: u64) -> Tally {
             one_chain(&mut tally, seed, place, with_report);
         } else if place < CHAINS + ORDERED {
             one_chain_in_many_orders(&mut tally, seed);
-        } else {
+        } else if place < CHAINS + ORDERED + DAMAGED {
             one_damage(&mut tally, seed, place, with_report);
+        } else {
+            one_writing(&mut tally, seed, place);
         }
     }
 }
@@ -133,6 +138,8 @@ fn one_chain(tally: &mut Tally, seed: u64, place: u64, with_report: bool) {
     let file = file::write(&chain, version);
     tally.chain(&file);
     compare_chain(tally, case, &chain, version);
+    let tables = Tables::of(&chain);
+    compare::writer(tally, case, &tables, buffer_length(&mut random, tables.file_length()));
     if with_report {
         compare::report(tally, case, &file);
     }
@@ -182,4 +189,22 @@ fn one_damage(tally: &mut Tally, seed: u64, place: u64, with_report: bool) {
     if with_report || damage.0 == RECORDS_WRONG {
         compare::report(tally, case, &request.file);
     }
+}
+
+/// Tables that are damaged, and buffers of every length that matters.
+fn one_writing(tally: &mut Tally, seed: u64, place: u64) {
+    let damage = LENT_DAMAGES[(place % LENT_DAMAGES.len() as u64) as usize];
+    let case = Case { family: damage.0, seed };
+    let mut random = Random::new(seed);
+    let tables = damage_lent::lent(&mut random, damage);
+    let longest = file::MOST_BLOCKS * block::LENGTH;
+    let length = if tables.states > 64 { longest } else { tables.file_length() };
+    let length = buffer_length(&mut random, length);
+    compare::writer(tally, case, &tables, length);
+}
+
+/// A file's own length, one byte less, none, or more.
+fn buffer_length(random: &mut Random, file_length: usize) -> usize {
+    let more = file_length + random.below(2 * block::LENGTH);
+    random.pick(&[file_length, file_length, more, more, file_length - 1, 0])
 }
