@@ -1,7 +1,7 @@
 /*
- * Times the C entry on chain files, in both modes.
+ * Times the C entries on chain files: the chance in both modes, and the writing of the file again.
  *
- *     entry FILE ..                     one line a mode and file, for bench/table.py
+ *     entry FILE ..                     three lines a file, for bench/table.py
  *     entry calls N exact|bounds FILE   only makes N calls, for a profiler
  */
 #include "bench.h"
@@ -49,6 +49,64 @@ static void time_mode(const struct bench_file *file, const char *what, uint32_t 
     bench_line(file, what, result, timing);
 }
 
+/* The tables of a file, for the writer. It trusts the file, which the entry took for well formed. */
+struct tables {
+    const struct bench_file *file;
+    uint64_t states, start, goals, edge_count;
+    uint64_t denominators[64], order[64], rewards[64], edges[3 * 4096];
+    uint8_t buffer[EGORSTREAM_MOST_FILE_LENGTH];
+    struct egorstream_written written;
+};
+
+/* A record of the kind whose first block is given: 63 records of 8 bytes a block, from byte 6 on. */
+static const uint8_t *record(const struct bench_file *file, size_t first_block, size_t index)
+{
+    return file->bytes + (first_block + index / 63) * 512 + 6 + index % 63 * 8;
+}
+
+static void read_tables(const struct bench_file *file, struct tables *tables)
+{
+    const uint8_t *head = record(file, 0, 0);
+    tables->file = file;
+    tables->states = head[0];
+    tables->start = head[1];
+    tables->edge_count = head[2] | (uint64_t)head[3] << 8;
+    tables->goals = 0;
+    for (size_t i = 0; i < tables->states; i++) {
+        const uint8_t *state = record(file, 1, i);
+        tables->denominators[i] = bench_number_at(state);
+        tables->rewards[i] = state[4] | (uint64_t)state[5] << 8;
+        tables->goals |= (uint64_t)state[6] << i;
+        tables->order[i] = state[7];
+    }
+    for (size_t i = 0; i < tables->edge_count; i++) {
+        const uint8_t *edge = record(file, 1 + (tables->states + 62) / 63, i);
+        tables->edges[3 * i] = edge[0];
+        tables->edges[3 * i + 1] = edge[1];
+        tables->edges[3 * i + 2] = bench_number_at(edge + 4);
+    }
+}
+
+static void call_write(void *work)
+{
+    struct tables *t = work;
+    t->written = egorstream_write(t->states, t->start, t->goals, t->denominators, t->states, t->edges,
+                                  3 * t->edge_count, t->order, t->states, t->rewards, t->states, t->buffer,
+                                  sizeof t->buffer);
+}
+
+static void time_write(const struct bench_file *file)
+{
+    static struct tables tables;
+    read_tables(file, &tables);
+    struct bench_timing timing = bench_time(call_write, &tables);
+    if (tables.written.number != EGORSTREAM_ANSWERED || tables.written.length != file->length ||
+        memcmp(tables.buffer, file->bytes, file->length) != 0) {
+        bench_fail(file->name, "the writer does not write the file again as it is");
+    }
+    bench_line(file, "write", "-", timing);
+}
+
 static uint32_t mode_of(const char *word)
 {
     if (strcmp(word, "exact") == 0) {
@@ -85,6 +143,7 @@ int main(int argc, char **argv)
         bench_read(&file, argv[i]);
         time_mode(&file, "exact", EGORSTREAM_MODE_EXACT);
         time_mode(&file, "bounds", EGORSTREAM_MODE_BOUNDS);
+        time_write(&file);
     }
     return EXIT_SUCCESS;
 }

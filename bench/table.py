@@ -15,6 +15,7 @@ import sys
 NAMES = {
     "exact": "entry exact",
     "bounds": "entry bounds",
+    "write": "entry write",
     "dixon": "FLINT Dixon",
     "dixon:solver": "FLINT Dixon, alone",
     "size": "FLINT by size",
@@ -23,6 +24,8 @@ NAMES = {
     "lapack:solver": "LAPACK, alone",
 }
 ENTRY = ("exact", "bounds")
+# What is a time of the product's own code.
+OWN = (*ENTRY, "write")
 FLINT = ("dixon", "size")
 # What starts from the file's bytes and has a result.
 COMPARED = (*ENTRY, *FLINT, "lapack")
@@ -112,8 +115,8 @@ def said(measurement):
 
 
 def ratio(measurement, entry):
-    """How many times as long as a call of the entry. A refusal is no answer, and so is not compared."""
-    if measurement is entry or measurement.refusal() is not None or entry.refusal() is not None:
+    """How many times as long as a call of the entry. A refusal is no answer, and writing no chance: they are not compared."""
+    if measurement is entry or measurement.what == "write" or measurement.refusal() is not None or entry.refusal() is not None:
         return "-"
     times = measurement.median / entry.median
     return f"{times:,.0f}" if times >= 100 else f"{times:.3g}"
@@ -129,7 +132,7 @@ def table(found, mark):
             yield form.format(
                 chain,
                 NAMES[what],
-                duration(row.median) + (mark if what in ENTRY else ""),
+                duration(row.median) + (mark if what in OWN else ""),
                 f"{100 * row.spread:.1f} %",
                 row.calls,
                 *(figure + mark if figure != "-" else figure for figure in ratios),

@@ -1,5 +1,6 @@
 /*
- * The chance that a chain reaches a goal, from the bytes of a chain file.
+ * The chance that a chain reaches a goal, from the bytes of a chain file; and the chain file of a
+ * chain, from its tables.
  *
  * Link with libegorstream.a.
  */
@@ -28,19 +29,22 @@ extern "C" {
 /* The longest chain file: 69 blocks of 512 bytes. */
 #define EGORSTREAM_MOST_FILE_LENGTH (69 * 512)
 
-/* What the entry returns. */
+/* What egorstream_chance returns, and the number that egorstream_write answers. */
 
-/* The answer is written. */
+/* The answer, or the file, is written. */
 #define EGORSTREAM_ANSWERED UINT32_C(0)
 
 /* The request is wrong: the caller must be mended. */
 
-/* The mode is above 2. */
+/*
+ * The mode is above 2. For egorstream_write: the number of states is not 1 to 64, a table's length
+ * does not fit it, the edge numbers are not in threes, or there are no edges or over 4,096.
+ */
 #define EGORSTREAM_MODE_OR_LENGTH_WRONG UINT32_C(1)
-/* The answer has fewer than 16 bytes. */
+/* The answer has fewer than 16 bytes. For egorstream_write: the buffer is shorter than the file. */
 #define EGORSTREAM_ANSWER_TOO_SHORT UINT32_C(2)
 
-/* The file is whole, but it holds no chain: what wrote it must be mended. */
+/* The file is whole, but it or the tables hold no chain: what wrote them must be mended. */
 
 /* The start is no state of the chain. */
 #define EGORSTREAM_START_WRONG UINT32_C(3)
@@ -58,7 +62,7 @@ extern "C" {
 #define EGORSTREAM_ROW_SUM_WRONG UINT32_C(9)
 /* The order names a state that the chain does not have, or one state twice. */
 #define EGORSTREAM_ORDER_WRONG UINT32_C(10)
-/* A reward is above 65,535. This entry has no rewards and never returns it. */
+/* A reward is above 65,535. Only egorstream_write gives it: a file has no room for one. */
 #define EGORSTREAM_REWARD_WRONG UINT32_C(11)
 
 /* The chain is well formed, but its exact chance was not found. */
@@ -102,6 +106,44 @@ extern "C" {
  */
 uint32_t egorstream_chance(const uint8_t *file, size_t file_length, uint32_t mode,
                            uint8_t *answer, size_t answer_length);
+
+/* What egorstream_write answers: 0, 0 and the file's length; or a refusal's number and place, and 0. */
+struct egorstream_written {
+    uint32_t number;
+    uint32_t place;
+    uint64_t length;
+};
+
+/*
+ * Writes the chain file of a chain at the front of a buffer. What it writes is read back as the same
+ * chain, with the edges in the order given.
+ *
+ * states, start          The number of states, 1 to 64, which are numbered from 0, and the one that
+ *                        the chain starts in.
+ * goals                  Bit i says whether state i is a goal.
+ * denominators           One for each state, 1 to 2,147,483,647.
+ * edges                  Three numbers for each edge: from, to, weight; 1 to 4,096 edges. The weights
+ *                        of a state's edges add up to its denominator.
+ * order                  Each state once: the order in which states are removed.
+ * rewards                One for each state, 0 to 65,535.
+ * buffer                 Room for the file, at any alignment. EGORSTREAM_MOST_FILE_LENGTH bytes are
+ *                        enough for every chain.
+ *
+ * Each length counts numbers, that of the buffer bytes. The tables are only read; they are aligned as
+ * uint64_t is, and do not overlap the buffer. A null pointer with length 0 is an empty table.
+ *
+ * The number is one of 1 to 11, the least that applies; its place is a state, the index of an edge or
+ * a position of the order, each from 0, or else 0. On a refusal the whole buffer stays as it was.
+ * Otherwise bytes past the file stay as they were.
+ *
+ * It needs a stack of a few kilobytes and keeps nothing between calls.
+ */
+struct egorstream_written egorstream_write(uint64_t states, uint64_t start, uint64_t goals,
+                                           const uint64_t *denominators, size_t denominators_length,
+                                           const uint64_t *edges, size_t edges_length,
+                                           const uint64_t *order, size_t order_length,
+                                           const uint64_t *rewards, size_t rewards_length,
+                                           uint8_t *buffer, size_t buffer_length);
 
 #ifdef __cplusplus
 }
