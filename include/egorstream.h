@@ -130,7 +130,7 @@ struct egorstream_written {
  *                        enough for every chain.
  *
  * Each length counts numbers, that of the buffer bytes. The tables are only read; they are aligned as
- * uint64_t is, and do not overlap the buffer. A null pointer with length 0 is an empty table.
+ * uint64_t is, and do not overlap the buffer. A null pointer with length 0 is an empty table or buffer.
  *
  * The number is one of 1 to 11, the least that applies; its place is a state, the index of an edge or
  * a position of the order, each from 0, or else 0. On a refusal the whole buffer stays as it was.

@@ -11,7 +11,7 @@
  * length), then states, start and goals as 8-byte numbers, the tables in 8-byte numbers, the memory. The reply: four 4-byte numbers (number,
  * place, length, whether the tables are unchanged), then the memory.
  *
- * What is empty is handed over as a null pointer. The file, the tables and the memory end where a page begins that nobody may touch: who
+ * A file, a table or a buffer that is empty is handed over as a null pointer. The file, the tables and the memory end where a page begins that nobody may touch: who
  * reads or writes past them is stopped.
  */
 #define _DEFAULT_SOURCE
@@ -128,7 +128,9 @@ static void write_file(void)
     struct egorstream_written written =
         egorstream_write(numbers[0], numbers[1], numbers[2], table[0], request[0], table[1], request[1], table[2], request[2], table[3],
                          request[3], request[6] == 0 ? NULL : memory + request[5], request[6]);
-    uint32_t reply[4] = {written.number, written.place, (uint32_t)written.length, 1};
+    /* No file has so many bytes: a length that does not fit shows as one that is not expected. */
+    uint32_t length = written.length > UINT32_MAX ? UINT32_MAX : (uint32_t)written.length;
+    uint32_t reply[4] = {written.number, written.place, length, 1};
     for (int i = 0; i < 4; i++) {
         size_t length = request[i] * sizeof(uint64_t);
         reply[3] &= memcmp(copy[i], lent[i], length) == 0;

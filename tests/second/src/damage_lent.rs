@@ -8,7 +8,10 @@ use crate::tables::{Tables, EDGE, MOST_REWARD};
 /// What is done to the tables.
 type Damage = fn(&mut Random, &mut Tables);
 
-/// Each with its name; one may give several numbers, and two may be done to one chain.
+/// From this one on each damages a single number.
+const SINGLE: usize = 6;
+
+/// Each with its name; one may give several numbers, and every second chain gets one more of them.
 pub const LENT_DAMAGES: [(&str, Damage); 13] = [
     ("lent: states", states),
     ("lent: a table's length", length),
@@ -50,6 +53,11 @@ pub fn lent(random: &mut Random, damage: (&str, Damage)) -> Tables {
     let family = random.pick(&FAMILIES);
     let mut tables = Tables::of(&generate::draw(random, family));
     damage.1(random, &mut tables);
+    // A second one only to single numbers, and where there are any: the least number is given.
+    let lists = [&tables.denominators, &tables.edges, &tables.order, &tables.rewards];
+    if random.once_in(2) && lists.iter().all(|list| list.len() >= EDGE) {
+        random.pick(&LENT_DAMAGES[SINGLE..]).1(random, &mut tables);
+    }
     tables
 }
 
