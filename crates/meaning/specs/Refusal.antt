@@ -21,7 +21,8 @@ use Rattle.meaning.specs.Chain.{
 }
 use Rattle.meaning.specs.Row.{width}
 
--- What an entry is lent. A table that an entry is not lent is empty here.
+-- What an entry is lent. A table that an entry is not lent is empty here. `work` is the table that it writes: its work table, or the
+-- writer's buffer.
 pub record Lent : Type 0 where
   pub chain : Chain
   pub order : List ℕ

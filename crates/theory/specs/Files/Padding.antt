@@ -8,7 +8,7 @@ use native.Mathlib.Omega.{arith}
 use lib.ListN.{getD}
 use Rattle.meaning.specs.Number.{sumTo}
 use Rattle.meaning.specs.Chain.{edgeSize, edgeNumber, weight}
-use Rattle.meaning.specs.Refusal.{paid, WellFormed}
+use Rattle.meaning.specs.Refusal.{paid, Applies}
 use Rattle.meaning.specs.Block.{
   Input,
   byte,
@@ -61,7 +61,7 @@ weight-in f e h =
     let m : (edgeSize * e + 2) % edgeSize ≡ 2 = omega arith in
     ap₂ (λ x y. getD (edgeIn f x) y 0) q m)
 
-module _ {f : Input} {b : ℕ} (accepted : Accepted f) (inside : b < demanded f) (formed : WellFormed paid (paidIn f)) where
+module _ {f : Input} {b : ℕ} (accepted : Accepted f) (inside : b < demanded f) (clear : (k p : ℕ) → 3 ≤ k → Applies paid (paidIn f) k p → ⊥) where
   -- Record r of the block has a byte that is not zero.
   record-some : (r : ℕ) → r < countOf f b → ((i : ℕ) → recordsAt b + recordSize * r ≤ i → i < recordsAt b + recordSize * r + recordSize → byte f i ≡ 0) → ⊥
   record-some r h z = go (turn f b)
@@ -74,12 +74,12 @@ module _ {f : Input} {b : ℕ} (accepted : Accepted f) (inside : b < demanded f)
       go (Turn.state p l k n) =
           let i = fullBlock * (b - 1) + r in
           let m : i < headStates f = omega arith in
-          formed .none 5 i
+          clear 5 i (omega arith)
           (m, inl (tab-at (headStates f) (denominatorIn f) 0 i m ∙ number-zero f (stateAt i) 4 (λ j x y. z j (omega arith) (omega arith))))
       go (Turn.edge p l k n) =
           let e = fullBlock * (b - 1 - stateBlocks f) + r in
           let m : e < headEdges f = omega arith in
-          formed .none 7 e (
+          clear 7 e (omega arith) (
             omega (arith, tab-length 0 (edgeSize * headEdges f) (edgeNumber (edgeIn f))),
             inl (weight-in f e m ∙ number-zero f (edgeAt f e + 4) 4 (λ j x y. z j (omega arith) (omega arith))),
           )
@@ -98,7 +98,7 @@ module _ {f : Input} {b : ℕ} (accepted : Accepted f) (inside : b < demanded f)
   some-count z = omega (arith, ap (byte f) (add-zero (countAt b)), some-records, count-most f b, right-laid (accepted .blocks b inside) .counts)
 
 module _ {f g : Input} {b k long : ℕ} (accepted : Accepted f) (inside : b < demanded f) (second : versionIn f 0 ≡ secondVersion)
-    (over : Overwritten f g b k long) (formed : WellFormed paid (paidIn f)) (two : Whole long)
+    (over : Overwritten f g b k long) (clear : (k p : ℕ) → 3 ≤ k → Applies paid (paidIn f) k p → ⊥) (two : Whole long)
   where
     wide : 251 ≤ long
     wide = ⊎-elim (λ e. omega arith) (λ e. omega arith) two
@@ -106,7 +106,7 @@ module _ {f g : Input} {b k long : ℕ} (accepted : Accepted f) (inside : b < de
     low : 5 ≤ k
     low =
         ⊎-elim
-        (λ (h : k < 5). absurd (some-count accepted inside formed (over .run .zeros (countAt b) (omega arith) (omega (arith, wide)))))
+        (λ (h : k < 5). absurd (some-count accepted inside clear (over .run .zeros (countAt b) (omega arith) (omega (arith, wide)))))
         (λ (h : 5 ≤ k). h)
         (below k 5)
 
@@ -134,7 +134,7 @@ module _ {f g : Input} {b k long : ℕ} (accepted : Accepted f) (inside : b < de
     past =
         ⊎-elim
         (λ (h : slot < countOf f b).
-        absurd (record-some accepted inside formed slot h (λ i l m. over .run .zeros i (omega arith) (omega (arith, wide)))))
+        absurd (record-some accepted inside clear slot h (λ i l m. over .run .zeros i (omega arith) (omega (arith, wide)))))
         (λ (h : countOf f b ≤ slot). h)
         (below slot (countOf f b))
 
