@@ -6,7 +6,7 @@ use lib.Dec.{eqb, leb, ltb}
 use Rattle.meaning.specs.Number.{choose, bit}
 use Rattle.meaning.specs.Chain.{mostStates, mostEdges, edgeSize, edgeCount, from, to, weight}
 use Rattle.meaning.specs.Refusal.{Lent}
-use Rattle.meaning.specs.Block.{Input, fullBlock, stateBlocks, secondVersion}
+use Rattle.meaning.specs.Block.{Input, fullBlock, stateBlocks, flagByte, orderByte, weightByte, secondVersion}
 
 -- What is lent makes a file: the tables fit one another, and each number fits into its bytes.
 pub record Fitting (l : Lent) : Type 0 where
@@ -31,10 +31,10 @@ abbrev pub headRecord : ℕ → ℕ → ℕ → ℕ
 headRecord states start edges = states * 256 ^ 0 + start * 256 ^ 1 + edges * 256 ^ 2
 
 abbrev pub stateRecord : ℕ → ℕ → ℕ → ℕ → ℕ
-stateRecord denominator reward flag order = denominator * 256 ^ 0 + reward * 256 ^ 4 + flag * 256 ^ 6 + order * 256 ^ 7
+stateRecord denominator reward flag order = denominator * 256 ^ 0 + reward * 256 ^ 4 + flag * 256 ^ flagByte + order * 256 ^ orderByte
 
 abbrev pub edgeRecord : ℕ → ℕ → ℕ → ℕ
-edgeRecord source target weight = source * 256 ^ 0 + target * 256 ^ 1 + weight * 256 ^ 4
+edgeRecord source target weight = source * 256 ^ 0 + target * 256 ^ 1 + weight * 256 ^ weightByte
 
 -- Record k of a kind.
 unfoldable pub recordOf : Lent → ℕ → ℕ → ℕ
