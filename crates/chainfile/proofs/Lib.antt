@@ -6,10 +6,5 @@ pub mod Tested
 pub mod Filling
 pub mod Flags
 pub mod Steps
-pub mod Packing
-pub mod Making
-pub mod Fields
-pub mod Filing
-pub mod Cleared
 pub mod Storing
 pub mod Unique

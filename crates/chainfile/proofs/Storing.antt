@@ -11,7 +11,7 @@ use Rattle.chainfile.specs.Written.{Room, Written, Stored, written, full
 use Rattle.chainfile.proofs.Steps.{Copied}
 use Rattle.chainfile.proofs.Steps as steps
 
-size : (width x : ℕ) → length (littleEndian width x) ≡ width
+pub size : (width x : ℕ) → length (littleEndian width x) ≡ width
 size width x = tab-length 0 width (λ i. x / 256 ^ i % 256)
 
 -- After i of the bytes, rest is what the later ones are made of.

@@ -1,23 +1,15 @@
--- What the reader promises determines its answer, case and all, and the tables afterwards; likewise the writer, and its buffer.
+-- What the reader promises determines its answer, case and all, and the tables afterwards.
 use Prim.Native.Nat.{ℕ, _<_}
 use mathlib.Core.Path.{_≡_, ap, ap₂}
 use native.Mathlib.Omega.{arith}
 use Rattle.meaning.specs.Block.{Input}
 use Rattle.meaning.specs.File.{Tables, Reading as Answer, ReadOutcome}
 use Rattle.theory.specs.Files.FileOne.{file-numbers, read-one}
-use mathlib.Core.List.{List}
-use Rattle.meaning.specs.Refusal.{Lent}
-use Rattle.meaning.specs.Buffer.{Writing as Numbers}
-use Rattle.meaning.specs.Write.{WriteOutcome, refused, written}
-use Rattle.theory.specs.Outcomes.Places.{refused-places}
-use Rattle.theory.specs.Files.Written.{file-of-size, write-one}
 use Rattle.chain.specs.declared.Chain.{Chain as Frame}
 use Rattle.chain.proofs.Unique.{framed}
 use Rattle.chainfile.specs.declared.Reading.{Reading}
 use Rattle.chainfile.specs.declared.Reading.the-variants.{Chain, Refused}
-use Rattle.chainfile.specs.declared.writer.Writing.{Writing}
-use Rattle.chainfile.specs.declared.writer.Writing.the-variants.{Length, Refused as Unwritten}
-use Rattle.chainfile.specs.Tells.{told, toldWriting}
+use Rattle.chainfile.specs.Tells.{told}
 use Rattle.theory.specs.Files.Right.{bounded}
 
 -- A chain has states, and a refusal a number.
@@ -59,36 +51,3 @@ pub unique : (f : Input) (t after after′ : Tables) (r r′ : Reading) → Read
 unique f t after after′ r r′ o o′ =
     let e = read-one o o′ in
     (told-one r r′ (is-proper f t after r o) (is-proper f t after′ r′ o′) (e .0), e .1)
-
--- What the writer promises determines its answer, case and all, and the buffer afterwards.
-module _ {a b : Numbers} (e : a ≡ b) where
-  written-number : a .number ≡ b .number
-  written-number = ap (λ (a : Numbers). a .number) e
-
-  written-size : a .written ≡ b .written
-  written-size = ap (λ (a : Numbers). a .written) e
-
--- A file has bytes, and a refusal a number.
-filed : Writing → Type 0
-filed (Length n) = 0 < n
-filed (Unwritten number place) = 0 < number
-
-is-filed : {l : Lent} {after : List ℕ} (r : Writing) → WriteOutcome l (toldWriting r) after → filed r
-unfolding filed
-is-filed (Length n) (refused k p z e d) = absurd (omega (arith, written-number e, refused-places k p z))
-is-filed (Length n) (written w f x e d) = omega (arith, written-size e, file-of-size x)
-is-filed (Unwritten n p) (refused k q z e d) = omega (arith, written-number e, refused-places k q z)
-is-filed (Unwritten n p) (written w f x e d) = absurd (omega (arith, written-size e, file-of-size x))
-
-filed-one : (r r′ : Writing) → filed r → filed r′ → toldWriting r ≡ toldWriting r′ → r ≡ r′
-unfolding filed
-filed-one (Length n) (Length m) a b e = ap (λ (n : ℕ). Length n) (written-size e)
-filed-one (Length n) (Unwritten m p) a b e = absurd (omega (arith, written-number e))
-filed-one (Unwritten n p) (Length m) a b e = absurd (omega (arith, written-number e))
-filed-one (Unwritten n p) (Unwritten m q) a b e =
-    ap₂ (λ (n p : ℕ). Unwritten n p) (written-number e) (ap (λ (a : Numbers). a .place) e)
-
-pub write-unique : {l : Lent} {after after′ : List ℕ} (r r′ : Writing) → WriteOutcome l (toldWriting r) after
-    → WriteOutcome l (toldWriting r′) after′
-    → (r ≡ r′) × (after ≡ after′)
-write-unique r r′ o o′ = let e = write-one o o′ in (filed-one r r′ (is-filed r o) (is-filed r′ o′) (e .0), e .1)

@@ -1,5 +1,3 @@
 pub mod Input
-pub mod Made
-pub mod Packed
 pub mod Tells
 pub mod Written

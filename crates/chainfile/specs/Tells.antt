@@ -10,9 +10,6 @@ use Rattle.chainfile.specs.declared.judge.Verdict.{Verdict}
 use Rattle.chainfile.specs.declared.judge.Verdict.the-variants.{Accepted as Taken, Refused as Refusing}
 use Rattle.chainfile.specs.declared.Reading.{Reading}
 use Rattle.chainfile.specs.declared.Reading.the-variants.{Chain, Refused}
-use Rattle.chainfile.specs.declared.writer.Writing.{Writing}
-use Rattle.chainfile.specs.declared.writer.Writing.the-variants.{Length, Refused as Unwritten}
-use Rattle.meaning.specs.Buffer.{Writing as Numbers, writing, noWriting}
 
 -- A block is right, or refused with a number.
 abbrev pub tested : Input → ℕ → Block → Type 0
@@ -50,7 +47,3 @@ abbrev pub told : Reading → Answer
 told (Chain c edges) =
     record { number = 0; place = 0; states = c .states; start = c .start; goals = c .goals; edges = edges }
 told (Refused number place) = noReading number place
-
-abbrev pub toldWriting : Writing → Numbers
-toldWriting (Length n) = writing n
-toldWriting (Unwritten number place) = noWriting number place

@@ -47,7 +47,7 @@ fn block_number_wrong(kept: &[u8], b: usize) -> bool
 }
 
 // The kind whose turn it is.
-pub(crate) fn kind(kept: &[u8], b: usize) -> u64
+pub fn kind(kept: &[u8], b: usize) -> u64
     ensures { λ r. ⌜ r ≡ kindOf (input (now (kept .entry)) 0) b ⌝ }
 {
     if b == 0 {
@@ -89,14 +89,12 @@ fn kind_wrong(kept: &[u8], b: usize) -> bool
 
 // How many of so many records block k of their kind holds.
 fn held(records: usize, k: usize) -> usize
-    requires { ⌜ k < mostBlocks ⌝ }
     ensures { λ r. ⌜ r ≡ min fullBlock (records - fullBlock * k) ⌝ }
 {
-    let before = layout::FULL * k;
-    if records <= before {
+    if records / layout::FULL < k {
         return 0;
     }
-    let left = records - before;
+    let left = records - layout::FULL * k;
     if layout::FULL < left {
         return layout::FULL;
     }
@@ -104,8 +102,7 @@ fn held(records: usize, k: usize) -> usize
 }
 
 // How many records the block holds.
-pub(crate) fn count(kept: &[u8], b: usize) -> usize
-    requires { ⌜ b < mostBlocks ⌝ }
+pub fn count(kept: &[u8], b: usize) -> usize
     ensures { λ r. ⌜ (r ≡ countOf (input (now (kept .entry)) 0) b) × (r ≤ fullBlock) ⌝ }
 {
     let kind = kind(kept, b);

@@ -13,7 +13,7 @@ fn wide(x: u8) -> u64
     x as u64
 }
 
-pub(crate) fn byte(kept: &[u8], at: usize) -> u64
+pub fn byte(kept: &[u8], at: usize) -> u64
     ensures { λ r. ⌜ (r ≡ getD (now (kept .entry)) at 0) × (r < 256) ⌝ }
 {
     if at < kept.len() {

@@ -25,14 +25,17 @@ pub(crate) fn edges(kept: &[u8]) -> usize
 }
 
 // Every block but the last of its kind is full.
-pub(crate) fn blocks(records: usize) -> usize
-    requires { ⌜ records < 65536 ⌝ }
+pub fn blocks(records: usize) -> usize
     ensures { λ r. ⌜ r ≡ blocksOf records ⌝ }
 {
-    (records + (layout::FULL - 1)) / layout::FULL
+    let full = records / layout::FULL;
+    if records % layout::FULL == 0 {
+        return full;
+    }
+    full + 1
 }
 
-pub(crate) fn state_blocks(kept: &[u8]) -> usize
+pub fn state_blocks(kept: &[u8]) -> usize
     ensures { λ r. ⌜ (r ≡ stateBlocks (input (now (kept .entry)) 0)) × (r < 256) ⌝ }
 {
     blocks(states(kept))

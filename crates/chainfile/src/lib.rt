@@ -1,4 +1,4 @@
-// Chain files. The reader: a file is refused with its number and place, or its chain and tables are handed over. The writer: the other way round.
+// The reader of chain files: a file is refused with its number and place, or its chain and tables are handed over. What is public beside it is for the writer.
 ghost use mathlib.Core.Path.{_≡_};
 ghost use Rattle.meaning.specs.File.{ReadOutcome, reading};
 ghost use Rattle.chainfile.specs.Input.{input};
@@ -6,23 +6,18 @@ ghost use Rattle.chainfile.specs.Tells.{Within, told, tables};
 use crate::judge::Verdict;
 use chain::Chain;
 
-mod block;
-mod bytes;
+pub mod block;
+pub mod bytes;
 mod fill;
-mod head;
+pub mod head;
 mod judge;
-mod layout;
-mod make;
-mod pack;
+pub mod layout;
 mod records;
 mod store;
-mod sums;
-mod writer;
+pub mod sums;
 
 pub use layout::LONGEST;
 pub use store::put_number;
-pub use writer::Writing;
-pub use writer::write;
 
 pub enum Reading {
     Chain { chain: Chain, edges: usize },

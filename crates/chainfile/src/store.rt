@@ -3,7 +3,7 @@ ghost use Prim.Native.Nat.{_+_, _≤_};
 ghost use lib.ListN.{length};
 ghost use Rattle.chainfile.specs.Written.{Stored, Written, littleEndian};
 
-pub(crate) fn store(buffer: &mut [u8], at: usize, width: usize, x: u64) -> usize
+fn store(buffer: &mut [u8], at: usize, width: usize, x: u64) -> usize
     requires { ⌜ at + width ≤ length (now buffer) ⌝ }
     ensures { λ r. ⌜ Written (now (buffer .entry)) at (littleEndian width x) (now (buffer .exit)) r ⌝ }
 {

@@ -1,8 +1,9 @@
 // Fletcher's two sums.
 ghost use mathlib.Core.Path.{_≡_};
-ghost use Prim.Native.Nat.{_+_, _≤_, _<_};
+ghost use Prim.Native.Nat.{ℕ, _+_, _≤_, _<_};
+ghost use lib.ListN.{length};
 ghost use Rattle.meaning.specs.Block.{firstSum, secondSum, checkModulus, checkBegin, checkedBytes, byte, blockByte};
-ghost use Rattle.chainfile.specs.Input.{input, mostBlocks, end};
+ghost use Rattle.chainfile.specs.Input.{input};
 use crate::bytes;
 use crate::layout;
 
@@ -12,9 +13,9 @@ struct Rule {
     begin: u64,
 }
 
-pub(crate) struct Sums {
-    pub(crate) first: u64,
-    pub(crate) second: u64,
+pub struct Sums {
+    pub first: u64,
+    pub second: u64,
 }
 
 // A version other than 2 goes by the old rule.
@@ -34,19 +35,31 @@ fn rule_of(version: u64) -> Rule
     }
 }
 
-// Of `count` bytes from byte `at` on, modulo `modulus`, both begun at `begin`. A file has so few bytes that neither sum wraps: one remainder at
-// the end does for all of them.
-fn fletcher(kept: &[u8], at: usize, count: usize, modulus: u64, begin: u64) -> Sums
-    requires { ⌜ (at + count ≤ end) × (0 < modulus) × (modulus < 65536) × (begin < modulus) ⌝ }
+// Where block b begins; of a block that lies past the bytes, where they end.
+fn block_start(kept: &[u8], b: usize) -> usize
     ensures { λ r.
         let f = input (now (kept .entry)) 0 in
-        ⌜ (r .first ≡ firstSum modulus begin (λ j. byte f (at + j)) count) × (r .second ≡ secondSum modulus begin (λ j. byte f (at + j)) count) ⌝ }
+        ⌜ (r ≤ length (f .kept)) × ((j : ℕ) → byte f (r + j) ≡ blockByte f b j) ⌝ }
+{
+    if kept.len() / layout::BLOCK < b {
+        return kept.len();
+    }
+    layout::BLOCK * b
+}
+
+// Of all bytes of a block that are checked, modulo `modulus`, both begun at `begin`. They are so few that neither sum wraps: one remainder at
+// the end does for all of them.
+fn fletcher(block: &[u8], modulus: u64, begin: u64) -> Sums
+    requires { ⌜ (0 < modulus) × (modulus < 65536) × (begin < modulus) ⌝ }
+    ensures { λ r.
+        let f = input (now (block .entry)) 0 in
+        ⌜ (r .first ≡ firstSum modulus begin (byte f) checkedBytes) × (r .second ≡ secondSum modulus begin (byte f) checkedBytes) ⌝ }
 {
     let mut first = begin;
     let mut second = begin;
     let mut i = 0;
-    while i < count {
-        first += bytes::byte(kept, at + i);
+    while i < layout::CHECKED {
+        first += bytes::byte(block, i);
         second += first;
         i += 1;
     }
@@ -57,8 +70,7 @@ fn fletcher(kept: &[u8], at: usize, count: usize, modulus: u64, begin: u64) -> S
 }
 
 // The check of block b by the rule of this version.
-pub(crate) fn check(kept: &[u8], b: usize, version: u64) -> Sums
-    requires { ⌜ b < mostBlocks ⌝ }
+pub fn check(kept: &[u8], b: usize, version: u64) -> Sums
     ensures { λ r.
         let block = blockByte (input (now (kept .entry)) 0) b in
         ⌜ r .first ≡ firstSum (checkModulus version) (checkBegin version) block checkedBytes ⌝ }
@@ -67,11 +79,6 @@ pub(crate) fn check(kept: &[u8], b: usize, version: u64) -> Sums
         ⌜ r .second ≡ secondSum (checkModulus version) (checkBegin version) block checkedBytes ⌝ }
 {
     let rule = rule_of(version);
-    fletcher(
-        kept,
-        layout::BLOCK * b,
-        layout::CHECKED,
-        rule.modulus,
-        rule.begin,
-    )
+    let at = block_start(kept, b);
+    fletcher(&kept[at..], rule.modulus, rule.begin)
 }

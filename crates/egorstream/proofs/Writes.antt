@@ -11,8 +11,8 @@ use Rattle.theory.specs.Outcomes.Places.{refused-places}
 use Rattle.theory.specs.Files.Written.{file-of-size, write-one}
 use Rattle.chain.specs.declared.Chain.{Chain}
 use Rattle.chain.specs.Lent.{lent as framed}
-use Rattle.chainfile.specs.Tells.{toldWriting}
-use Rattle.chainfile.specs.declared.writer.Writing.{Writing as Answer}
+use Rattle.chainwriter.specs.Tells.{told as answered}
+use Rattle.chainwriter.specs.declared.Writing.{Writing as Answer}
 use Rattle.egorstream.specs.declared.write.Written.{Written}
 use Rattle.egorstream.specs.Told.{lent, told}
 
@@ -25,7 +25,7 @@ place-small (written w f x e d) = let z = ap (λ (a : Writing). a .written) e in
 -- The chain is made of the numbers that were given.
 pub faced : {c : Chain} {states start goals : ℕ} {denominators edges order rewards before after : List ℕ} (r : Answer) {a : Writing}
     → (c .states ≡ states) × (c .start ≡ start) × (c .goals ≡ goals)
-    → WriteOutcome (framed c denominators edges order rewards before) (toldWriting r) after → toldWriting r ≡ a
+    → WriteOutcome (framed c denominators edges order rewards before) (answered r) after → answered r ≡ a
     → WriteOutcome (lent states start goals denominators edges order rewards before) a after
 faced {c} {denominators = denominators} {edges} {order} {rewards} {before} {after} r {a} n o e =
     subst (λ (l : Lent). WriteOutcome l a after) (λ i. lent (n .0 i) (n .1 i) (n .2 i) denominators edges order rewards before)

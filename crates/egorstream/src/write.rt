@@ -2,7 +2,7 @@
 ghost use Rattle.meaning.specs.Write.{WriteOutcome};
 ghost use Rattle.egorstream.specs.Told.{told, lent};
 use chain::Chain;
-use chainfile::Writing;
+use chainwriter::Writing;
 
 // A refusal's number and place, or 0 and how long the file is.
 #[repr(C)]
@@ -28,7 +28,7 @@ pub extern "C" fn egorstream_write(
         ⌜ WriteOutcome (l (now (buffer .entry))) (told r) (now (buffer .exit)) ⌝ }
 {
     let c = Chain::new(states as usize, start as usize, goals);
-    match chainfile::write(c, denominators, edges, order, rewards, buffer) {
+    match chainwriter::write(c, denominators, edges, order, rewards, buffer) {
         Writing::Refused { number, place } => Written {
             number,
             place: place as u32,

@@ -1,16 +1,16 @@
-use Prim.Native.Nat.{_+_, _-_}
-use native.Mathlib.Omega.{arith}
+use Prim.Native.Nat.{_-_}
 use lib.ListN.{getD}
 use borrow.Author.Needs.{needs}
+use Rattle.meaning.specs.Block.{checkedBytes}
 use Rattle.chainfile.proofs.Fletcher.{Summed, none, more, all}
 use Rattle.chainfile.proofs.sums.fletcher.Statement.{statement}
 use Rattle.chainfile.proofs.sums.fletcher.Tie as tie
 
 abbrev Inv-loop : tie.InvT-loop
-Inv-loop kept at count modulus begin first₀ second₀ i₀ first second i = Summed modulus begin (λ j. getD kept (at + j) 0) count i first second
+Inv-loop block modulus begin first₀ second₀ i₀ first second i = Summed modulus begin (λ j. getD block j 0) checkedBytes i first second
 
 abbrev μ-loop : tie.MeasureT-loop
-μ-loop kept at count modulus begin first₀ second₀ i₀ first second i = count - i
+μ-loop block modulus begin first₀ second₀ i₀ first second i = checkedBytes - i
 
 loop-holds : tie.Need-loop-holds Inv-loop μ-loop
 loop-holds c = none (search needs) (search needs)
@@ -28,7 +28,6 @@ fletcher-spec =
     Inv-loop
     μ-loop
     loop-holds
-    (λ c. search needs)
     (λ c κs. search needs)
     (λ c. search needs)
     (λ c. search needs)

@@ -1,7 +1,7 @@
 use mathlib.Core.Path.{ap}
 use native.Mathlib.Omega.{arith}
 use borrow.Author.Needs.{needs}
-use Rattle.chainfile.specs.Tells.{toldWriting}
+use Rattle.chainwriter.specs.Tells.{told}
 use Rattle.egorstream.proofs.Writes.{place-small, faced}
 use Rattle.egorstream.proofs.write.egorstream_write.Statement.{statement}
 use Rattle.egorstream.proofs.write.egorstream_write.Tie as tie
@@ -11,18 +11,18 @@ cast-t19 c =
     let w = c .before .before .before .before .before in
     omega (
       arith,
-      place-small (faced (w .write .result) (w .before .before .new .ensures) (w .write .ensures) (ap toldWriting (c .before .number .given .1))),
+      place-small (faced (w .write .result) (w .before .before .new .ensures) (w .write .ensures) (ap told (c .before .number .given .1))),
     )
 
 returns : tie.Need-returns
 returns c =
     let w = c .before .before .before .before .before in
-    faced (w .write .result) (w .before .before .new .ensures) (w .write .ensures) (ap toldWriting (c .before .number .given .1))
+    faced (w .write .result) (w .before .before .new .ensures) (w .write .ensures) (ap told (c .before .number .given .1))
 
 returns-2 : tie.Need-returns-2
 returns-2 c =
     let w = c .before .before .before .before .before in
-    faced (w .write .result) (w .before .before .new .ensures) (w .write .ensures) (ap toldWriting (c .before .length .given .1))
+    faced (w .write .result) (w .before .before .new .ensures) (w .write .ensures) (ap told (c .before .length .given .1))
 
 pub egorstream-write-spec : {M : Type 1} → statement M
 egorstream-write-spec =
