@@ -40,7 +40,7 @@ module _ (l : Lent) (formed : WellFormed filing l) (w : List ℕ) where
   past t i some h =
       ⊎-elim (λ (k : i < length t). h k) (λ (k : length t ≤ i). rw (List·getD-eq-default t 0 {n = i} k) some) (below i (length t))
 
-  pub fitting : Fitting (record { chain = l .chain; order = l .order; rewards = l .rewards; work = w })
+  pub fitting : Fitting (record { chain = l .chain; order = l .order; rewards = l .rewards; work = w; list = l .list })
   fitting =
       let n = few-states filing l formed in
       let d = denominators-length filing l formed in

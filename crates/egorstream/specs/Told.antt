@@ -12,6 +12,7 @@ lent states start goals denominators edges order rewards buffer =
       order = order;
       rewards = rewards;
       work = buffer;
+      list = 0;
     }
 
 abbrev pub told : Written → Writing

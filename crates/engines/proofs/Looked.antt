@@ -1,5 +1,7 @@
 -- What an entry knows once the looking has said that its input is well formed.
-use Prim.Native.Nat.{ℕ, _≤_}
+use Prim.Native.Nat.{ℕ, _≤_, _<_}
+use native.Mathlib.Omega.{arith}
+use Rattle.meaning.specs.Number.{only}
 use lib.ListN.{length}
 use mathlib.Core.Path.{_≡_, subst}
 use mathlib.Core.Bool.{Bool, true, false}
@@ -7,11 +9,11 @@ use Rattle.meaning.specs.Row.{rounding}
 use Rattle.meaning.specs.Step.{Sets, Right}
 use Rattle.meaning.specs.Refusal.{Lent, Entry, workSize, Refused, WellFormed}
 use mathlib.Core.List.{List}
-use mathlib.Core.Logic.{inr}
+use mathlib.Core.Logic.{_⊎_, inl, inr}
 use Rattle.meaning.specs.Outcome.{cleared}
 use Rattle.meaning.specs.Survey.{SurveyOutcome}
 use Rattle.theory.specs.Outcomes.Bare.{alone, bare-refuses, bare-clears}
-use Rattle.look.specs.Says.{Upto}
+use Rattle.look.specs.Says.{Upto, counted}
 use Rattle.survey.specs.Sets.{Known}
 use Rattle.survey.specs.Told.{told}
 use Rattle.survey.specs.declared.Survey.{Survey}
@@ -36,6 +38,18 @@ module _ {x : Entry} {l : Lent} (u : Upto x l 3) {r : Survey} (o : SurveyOutcome
   survey-clears e =
       let f = found (alone l) o e in
       (record { clear = λ k h p a. bare-clears x l (λ k p h a. u .clear k h p a) (f .0) k p h a }, f .1)
+
+-- The list lacks records exactly where the length lacks that is given for it.
+module _ {n r list : ℕ} where
+  pub lacking-in : {A : Type 0} (t : Bool) → counted t r n list → A ⊎ (r < only t n) → A ⊎ (list < n)
+  lacking-in t f (inl h) = inl h
+  lacking-in true f (inr h) = inr (omega (arith, f, h))
+  lacking-in false f (inr h) = absurd (omega (arith, h))
+
+  pub lacking-out : {A : Type 0} (t : Bool) → counted t r n list → A ⊎ (list < n) → A ⊎ (r < only t n)
+  lacking-out t f (inl h) = inl h
+  lacking-out true f (inr h) = inr (omega (arith, f, h))
+  lacking-out false f (inr h) = absurd (omega (arith, f .1, h))
 
 -- What is said before the numbers from k on are looked at, and of all once these are cleared.
 module _ (x : Entry) (l : Lent) (k : ℕ) where

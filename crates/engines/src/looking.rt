@@ -1,12 +1,13 @@
 // The looking of the entries: 1 and 2, then what the survey refuses, 3 to 9, then 10 and, where rewards are lent, 11.
+ghost use mathlib.Core.Logic.{_⊎_};
 ghost use mathlib.Core.Bool.{Bool};
 ghost use mathlib.Core.List.{List, []};
 ghost use Prim.Native.Nat.{ℕ, _≤_, _<_};
 ghost use lib.ListN.{length};
 ghost use Rattle.meaning.specs.Chain.{mostStates};
-ghost use Rattle.meaning.specs.Refusal.{plain, paid, workSize};
+ghost use Rattle.meaning.specs.Refusal.{plain, paid, listing, workSize};
 ghost use Rattle.chain.specs.Decide.{decides};
-ghost use Rattle.chain.specs.Lent.{lent};
+ghost use Rattle.chain.specs.Lent.{lent, withList};
 ghost use Rattle.look.specs.Says.{counted};
 ghost use Rattle.engines.specs.Looking.{ordered, soFar, looked};
 use chain::Chain;
@@ -22,15 +23,18 @@ pub(crate) enum Looked {
     Refused { number: u32, place: usize },
 }
 
-// The work table is too short.
-fn short(n: usize, work: usize) -> bool
+// The work table is too short, or the step list.
+fn short(n: usize, work: usize, list: usize) -> bool
     requires { ⌜ n ≤ mostStates ⌝ }
-    ensures { λ r. ⌜ decides (work < workSize n) r ⌝ }
+    ensures { λ r. ⌜ decides ((work < workSize n) ⊎ (list < n)) r ⌝ }
 {
+    if list < n {
+        return true;
+    }
     work < n * (n + Chain::BESIDE)
 }
 
-// The numbers 1 to 10. Of the rewards only the length counts here; the caller gives n where none are lent.
+// The numbers 1 to 10. Of the rewards and of the step list only the length counts here; the caller gives n where none are lent.
 fn tables(
     c: Chain,
     denominators: &[u64],
@@ -38,12 +42,16 @@ fn tables(
     order: &[u64],
     rewards: usize,
     work: &[u64],
+    list: usize,
 ) -> Looked
     ensures { λ r.
+        let n = c .states in
         let d = now (denominators .entry) in
         let e = now (edges .entry) in
         let o = now (order .entry) in
-        ⌜ ((b : Bool) (w : List ℕ) → counted b (length w) (c .states) rewards → soFar (ordered b) (lent c d e o w (now (work .entry))) 11 r) ⌝ }
+        let v = now (work .entry) in
+        ⌜ ((b t : Bool) (w : List ℕ) (k : ℕ) → counted b (length w) n rewards → counted t k n list
+        → soFar (ordered b t) (withList k (lent c d e o w v)) 11 r) ⌝ }
 {
     let n = c.states;
     if misshaped(n, denominators.len(), edges, order.len(), rewards) {
@@ -52,7 +60,7 @@ fn tables(
             place: 0,
         };
     }
-    if short(n, work.len()) {
+    if short(n, work.len(), list) {
         return Looked::Refused {
             number: 2,
             place: 0,
@@ -88,7 +96,23 @@ pub(crate) fn look(
         let l = lent c (now (denominators .entry)) (now (edges .entry)) (now (order .entry)) [] (now (work .entry)) in
         ⌜ looked plain l r ⌝ }
 {
-    tables(c, denominators, edges, order, c.states, work)
+    tables(c, denominators, edges, order, c.states, work, c.states)
+}
+
+// The looking of the chance entry's companion, which is lent a list of so many records: 1 to 10.
+pub(crate) fn look_listed(
+    c: Chain,
+    denominators: &[u64],
+    edges: &[u64],
+    order: &[u64],
+    work: &[u64],
+    list: usize,
+) -> Looked
+    ensures { λ r.
+        let l = lent c (now (denominators .entry)) (now (edges .entry)) (now (order .entry)) [] (now (work .entry)) in
+        ⌜ looked listing (withList list l) r ⌝ }
+{
+    tables(c, denominators, edges, order, c.states, work, list)
 }
 
 // The looking of an entry for the expected reward: 1 to 11.
@@ -104,7 +128,7 @@ pub(crate) fn look_paid(
         let l = lent c (now (denominators .entry)) (now (edges .entry)) (now (order .entry)) (now (rewards .entry)) (now (work .entry)) in
         ⌜ looked paid l r ⌝ }
 {
-    match tables(c, denominators, edges, order, rewards.len(), work) {
+    match tables(c, denominators, edges, order, rewards.len(), work, c.states) {
         Looked::Refused { number, place } => Looked::Refused { number, place },
         Looked::Clear(sets) => {
             if let Place::At(i) = scan::rewards(c.states, rewards) {

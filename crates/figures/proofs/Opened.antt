@@ -106,6 +106,7 @@ module _ {f : Input} {t after : Tables} (room : Short t → ⊥) where
                     order = fo .1 i;
                     rewards = fr .1 i;
                     work = replicate (workSize mostStates) 0;
+                    list = 0;
                   };
             };
       }

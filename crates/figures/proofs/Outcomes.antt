@@ -34,10 +34,10 @@ retold {r} t e = subst (Tells r) e t
 module _ {f : Input} {c : Chain} {denominators edges order rewards : List ℕ} (h : Holds f c denominators edges order rewards) where
   -- Without the rewards the tables are what the entries for the chance and for the bounds are lent.
   unpaid : ours c denominators edges order [] ≡ plainIn f
-  unpaid = ap (λ (l : Lent). record { chain = l .chain; order = l .order; rewards = []; work = l .work }) (h .paid)
+  unpaid = ap (λ (l : Lent). record { chain = l .chain; order = l .order; rewards = []; work = l .work; list = l .list }) (h .paid)
 
   bare : lent c denominators edges [] [] [] ≡ bareIn f
-  bare = ap (λ (l : Lent). record { chain = l .chain; order = []; rewards = []; work = [] }) (h .paid)
+  bare = ap (λ (l : Lent). record { chain = l .chain; order = []; rewards = []; work = []; list = 0 }) (h .paid)
 
   chance-found : (a : Answer) → Found (ChanceOutcome (ours c denominators edges order [])) (toldAnswer a)
       → Found (ChanceOutcome (plainIn f)) (toldAnswer a)

@@ -42,7 +42,7 @@ pub record Holds (f : Input) (c : Chain) (denominators edges order rewards : Lis
 
 -- A survey is lent the chain of an accepted file alone.
 abbrev pub bareIn : Input → Lent
-bareIn f = record { chain = chainIn f; order = []; rewards = []; work = [] }
+bareIn f = record { chain = chainIn f; order = []; rewards = []; work = []; list = 0 }
 
 -- The chance, and nothing else.
 pub record ChanceAsked (f : Input) (r : Figures) : Type 0 where

@@ -45,6 +45,7 @@ lend states goals denominators edges rewards =
       order = tabFrom 0 states (λ i. i);
       rewards = rewards;
       work = replicate (workSize states + 2) 7;
+      list = 0;
     }
 
 -- The address chain: 5 is ok, 6 is the error. Then with 5, with 6, and with both as goals.

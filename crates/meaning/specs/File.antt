@@ -177,6 +177,7 @@ lentIn f rewards =
       order = ordersIn f;
       rewards = rewards;
       work = replicate (workSize mostStates) 0;
+      list = 0;
     }
 
 -- The entries for the chance and for the bounds are lent no rewards.

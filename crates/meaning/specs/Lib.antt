@@ -16,6 +16,8 @@ pub mod Refusal
 pub mod Stop
 -- "Numbers of refusal": what each entry answers, and its work table then.
 pub mod Outcome
+-- The step list of request 2: what is said of each state that the exact engine removes.
+pub mod Steps
 -- The survey: which states have a path to a goal, which are live, whether the goal may be missed, and the counts that the report prints.
 pub mod Survey
 -- "Chain files": where each field of a block lies, and the check.

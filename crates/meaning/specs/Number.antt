@@ -1,5 +1,5 @@
 -- Whole numbers: the few words about sums, choices, bits, lists and divisors that the other definitions are written in.
-use Prim.Native.Nat.{ℕ, zero, suc, _+_, _*_, _/_, _%_, _^_, _<_, _∣_}
+use Prim.Native.Nat.{ℕ, zero, suc, _+_, _*_, _/_, _%_, _^_, _<_, _∣_, max}
 use mathlib.Core.Path.{_≡_}
 use mathlib.Core.Bool.{Bool, true, false}
 use mathlib.Core.List.{List, [], _∷_, _++_}
@@ -21,6 +21,15 @@ abbrev pub choose {ℓ} : {A : Type ℓ} → Bool → A → A → A
 choose true x y = x
 choose false x y = y
 
+-- 1 for a number above 0, and 0 for 0.
+abbrev pub present : ℕ → ℕ
+present x = choose (eqb x 0) 0 1
+
+-- The largest of 1 and f 0, f 1, .., f (n - 1).
+unfoldable pub largest : (ℕ → ℕ) → ℕ → ℕ
+largest f zero = 1
+largest f (suc n) = max (largest f n) (f n)
+
 -- Bit i of a set of states that is written as one number.
 abbrev pub bit : ℕ → ℕ → ℕ
 bit s i = s / 2 ^ i % 2
@@ -31,7 +40,7 @@ tabFrom i zero f = []
 tabFrom i (suc n) f = f i ∷ tabFrom (suc i) n f
 
 -- A list at the front of a table; what is past the list's own stays.
-abbrev pub filled : List ℕ → List ℕ → List ℕ
+abbrev pub filled {ℓ} : {A : Type ℓ} → List A → List A → List A
 filled l t = l ++ drop (length l) t
 
 -- g divides a and b, and whatever divides both divides g.

@@ -22,36 +22,42 @@ use Rattle.meaning.specs.Chain.{
 use Rattle.meaning.specs.Row.{width}
 
 -- What an entry is lent. A table that an entry is not lent is empty here. `work` is the table that it writes: its work table, or the
--- writer's buffer.
+-- writer's buffer. Of a step list it counts here only how many records it has.
 pub record Lent : Type 0 where
   pub chain : Chain
   pub order : List ℕ
   pub rewards : List ℕ
   pub work : List ℕ
+  pub list : ℕ
 
 -- How many numbers of the work table an elimination needs.
 abbrev pub workSize : ℕ → ℕ
 workSize n = n * width n
 
--- What an entry asks decides which numbers it can give: which tables it is lent, the least number of edges, and how long the table has to be
--- that it writes, for so many states and edges.
+-- What an entry asks decides which numbers it can give: which tables it is lent, the least number of edges, how long the table has to be
+-- that it writes, for so many states and edges, and how many records its step list has to have, for so many states.
 pub record Entry : Type 0 where
   pub order : Bool
   pub rewards : Bool
   pub fewest : ℕ
   pub room : ℕ → ℕ → ℕ
+  pub records : ℕ → ℕ
 
 -- The entries for the chance and for the bounds: numbers 1 to 10.
 abbrev pub plain : Entry
-plain = record { order = true; rewards = false; fewest = 0; room = λ n _. workSize n }
+plain = record { order = true; rewards = false; fewest = 0; room = λ n _. workSize n; records = λ _. 0 }
 
 -- The entry for the expected reward: numbers 1 to 11.
 abbrev pub paid : Entry
-paid = record { order = true; rewards = true; fewest = 0; room = λ n _. workSize n }
+paid = record { order = true; rewards = true; fewest = 0; room = λ n _. workSize n; records = λ _. 0 }
 
 -- An entry that is lent a chain alone: numbers 1 and 3 to 9.
 abbrev pub bare : Entry
-bare = record { order = false; rewards = false; fewest = 0; room = λ _ _. 0 }
+bare = record { order = false; rewards = false; fewest = 0; room = λ _ _. 0; records = λ _. 0 }
+
+-- The companion of the entry for the chance, which is lent a step list of n records or more: numbers 1 to 10.
+abbrev pub listing : Entry
+listing = record { order = true; rewards = false; fewest = 0; room = λ n _. workSize n; records = λ n. n }
 
 -- 1: n is not 1 to 64; a table length is other than n, or than 0 where the entry is not lent that table; numbers are left over past
 -- the last whole edge; over 4,096 edges, or fewer than the entry asks for.
@@ -64,6 +70,10 @@ pub data Misshaped (x : Entry) (states denominators edges order rewards : ℕ) :
   few-edges : edges / edgeSize < x .fewest → Misshaped x states denominators edges order rewards
   order-length : (order ≡ only (x .order) states → ⊥) → Misshaped x states denominators edges order rewards
   rewards-length : (rewards ≡ only (x .rewards) states → ⊥) → Misshaped x states denominators edges order rewards
+
+-- 2: the table that the entry writes is too short, or its step list has too few records.
+abbrev pub RoomFault : Entry → ℕ → ℕ → ℕ → ℕ → Type 0
+RoomFault x states edges work list = (work < x .room states edges) ⊎ (list < x .records states)
 
 -- 4: the goal set is empty, or holds a number not below n.
 abbrev pub GoalFault : ℕ → ℕ → Type 0
@@ -129,7 +139,7 @@ faults x l =
     never
     ∷ whole
     (Misshaped x (c .states) (length (c .denominators)) (length (c .edges)) (length (l .order)) (length (l .rewards)))
-    ∷ whole (length (l .work) < x .room (c .states) (edgeCount (c .edges)))
+    ∷ whole (RoomFault x (c .states) (edgeCount (c .edges)) (length (l .work)) (l .list))
     ∷ whole (c .states ≤ c .start)
     ∷ whole (GoalFault (c .states) (c .goals))
     ∷ DenominatorFault (c .states) (c .denominators)

@@ -30,7 +30,7 @@ fileSize states edges = blockSize * (1 + blocksOf states + blocksOf edges)
 
 -- The writer gives the numbers 1 to 11. A chain with no edges is 1. The buffer is the table that it writes; shorter than the file it is 2.
 abbrev pub filing : Entry
-filing = record { order = true; rewards = true; fewest = 1; room = fileSize }
+filing = record { order = true; rewards = true; fewest = 1; room = fileSize; records = λ _. 0 }
 
 -- A refusal leaves the whole buffer. Else a file stands at its front, the file's length is the answer, and bytes past the file stay.
 pub data WriteOutcome (l : Lent) (a : Writing) (after : List ℕ) : Type 0 where

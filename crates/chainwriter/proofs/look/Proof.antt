@@ -1,5 +1,6 @@
 use Prim.Native.Nat.{ℕ, _*_}
 use mathlib.Core.Path.{_≡_, refl}
+use mathlib.Core.Logic.{inl}
 use mathlib.Core.List.{List, []}
 use native.Mathlib.Omega.{arith}
 use lib.Dec.{lit<}
@@ -9,6 +10,7 @@ use Rattle.meaning.specs.Chain.{edgeCount}
 use Rattle.meaning.specs.Refusal.{Lent, formed}
 use Rattle.meaning.specs.Write.{fileSize, filing}
 use Rattle.theory.specs.Outcomes.Bare.{bare-refuses, bare-clears}
+use Rattle.theory.specs.Outcomes.Formed.{roomy}
 use Rattle.chain.specs.Lent.{lent}
 use Rattle.chain.proofs.Law.{holds, fails}
 use Rattle.look.specs.Says.{Upto}
@@ -42,10 +44,10 @@ size c = omega (arith, c .total .ensures .0, c .before .count .ensures)
 
 returns-2 : tie.Need-returns-2
 returns-2 c w e =
-    let at = c .before in say refl (refuse (up-2 (at .before .before) w) (at-0 (omega (arith, size at, e, c .if2 .taken))))
+    let at = c .before in say refl (refuse (up-2 (at .before .before) w) (at-0 (inl (omega (arith, size at, e, c .if2 .taken)))))
 
 up-3 : (c : tie.Else2) (w : List ℕ) → Room (c .before .before .before .before) w → Upto filing (l (c .before .before .before .before) w) 3
-up-3 c w e = next (up-2 (c .before .before .before) w) (off (λ h. omega (arith, size (c .before), e, c .if2 .left, h)))
+up-3 c w e = next (up-2 (c .before .before .before) w) (off (roomy (omega (arith, size (c .before), e, c .if2 .left)) (omega arith)))
 
 returns-3 : tie.Need-returns-3
 returns-3 c w e =

@@ -53,7 +53,7 @@ returns-2 c =
     let e : total .total .result ≡ 1 + blocksOf (t .chain .states) + blocksOf (edgeCount (t .chain .edges)) =
     total .total .ensures .0 ∙ ap (λ z. 1 + blocksOf (t .chain .states) + blocksOf z) (total .before .count .ensures) in
     let file =
-    file-of (record { chain = t .chain; order = t .order; rewards = t .rewards; work = [] }) _ (fitting t (cleared (told total)) [])
+    file-of (record { chain = t .chain; order = t .order; rewards = t .rewards; work = []; list = 0 }) _ (fitting t (cleared (told total)) [])
     (λ b h. front-block f (long total) b (omega (arith, e)))
     (front-bytes (blockAt (total .total .result)) (blocks .blocks2 .last .1 .1 .1 .1 .1 .0) (λ j. omega (arith, c .slice-known2 .given j)))
     (size ∙ ap (λ z. blockSize * z) e) in

@@ -13,6 +13,7 @@ use Rattle.meaning.specs.Block.{Input, wholeFile, secondVersion, versionIn, hea
 use Rattle.meaning.specs.File.{Accepted, edgeIn, chainIn, ordersIn, rewardsIn, paidIn, Tables, Short, Reading, ReadOutcome}
 use Rattle.meaning.specs.Buffer.{Writing, noWriting, writing}
 use Rattle.meaning.specs.Write.{Bytes, FileOf, fileSize, filing, WriteOutcome, refused, written}
+use Rattle.theory.specs.Outcomes.Formed.{roomy}
 use Rattle.theory.specs.Numbers.Tab.{tab-length}
 use Rattle.theory.specs.Outcomes.Determined.{refused-one}
 use Rattle.theory.specs.Files.FileOne.{read-one}
@@ -89,7 +90,7 @@ read-again {l} {before = before} o z long read =
 -- What the writer is lent to write a file's chain again.
 abbrev pub again : List ℕ → List ℕ → Lent
 again file buffer =
-    let f = wholeFile file in record { chain = chainIn f; order = ordersIn f; rewards = rewardsIn f; work = buffer }
+    let f = wholeFile file in record { chain = chainIn f; order = ordersIn f; rewards = rewardsIn f; work = buffer; list = 0 }
 
 module _ (file : List ℕ) (bytes : Bytes file) (second : versionIn (wholeFile file) 0 ≡ secondVersion) (taken : Accepted (wholeFile file))
     (clear : (k p : ℕ) → 3 ≤ k → Applies paid (paidIn (wholeFile file)) k p → ⊥) (buffer : List ℕ) (room : length file ≤ length buffer)
@@ -119,7 +120,7 @@ module _ (file : List ℕ) (bytes : Bytes file) (second : versionIn (wholeFile f
         go : (k p : ℕ) → Applies filing (again file buffer) k p → ⊥
         go zero p h = h
         go (suc zero) p h = shapely (h .1)
-        go (suc (suc zero)) p h = omega (arith, h .1, file-of-size same)
+        go (suc (suc zero)) p h = roomy (omega (arith, file-of-size same)) (omega arith) (h .1)
         go (suc (suc (suc k))) p h = clear (suc (suc (suc k))) p (omega arith) h
 
     -- A file of version 2 that meets none of 20 to 24 and 3 to 11 is written again byte for byte, whatever the buffer held.

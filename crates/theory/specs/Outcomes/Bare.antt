@@ -1,16 +1,18 @@
 -- What refuses a chain alone refuses it among the tables of any entry, and clears the numbers 3 to 9 there.
 use Prim.Native.Nat.{ℕ, zero, suc, _+_, _-_, _≤_, _<_}
 use mathlib.Core.Path.{_≡_, refl, sym, subst}
-use mathlib.Core.Logic.{⊎-elim}
+use mathlib.Core.Logic.{_⊎_, ⊎-elim}
 use mathlib.Core.List.{List, [], _∷_}
 use lib.ListN.{getD}
 use native.Mathlib.Omega.{arith}
+use native.Mathlib.Nat.{le-refl}
 use Rattle.meaning.specs.Refusal.{Lent, Entry, bare, whole, never, Misshaped, faults, Applies, Refused, WellFormed}
 use Rattle.theory.specs.Numbers.Sum.{below}
+use Rattle.theory.specs.Outcomes.Formed.{roomy}
 
 -- What is lent of it to an entry that is lent a chain alone.
 abbrev pub alone : Lent → Lent
-alone l = record { chain = l .chain; order = []; rewards = []; work = [] }
+alone l = record { chain = l .chain; order = []; rewards = []; work = []; list = 0 }
 
 -- Each fault of one list is that fault of another.
 data Entails : List (ℕ → Type 0) → List (ℕ → Type 0) → Type 1 where
@@ -41,7 +43,7 @@ module _ (x : Entry) (l : Lent) where
   among =
       more (λ p a. a)
       (more misshaped
-      (more (λ p (a : whole (0 < 0) p). absurd (omega (arith, a .1)))
+      (more (λ p (a : whole ((0 < 0) ⊎ (0 < 0)) p). absurd (roomy (le-refl 0) (le-refl 0) (a .1)))
       (more (λ p a. a)
       (more (λ p a. a)
       (more (λ p a. a)

@@ -1,7 +1,7 @@
 -- What a well-formed input has, said positively.
 use Prim.Native.Nat.{ℕ, _%_, _^_, _≤_, _<_}
 use mathlib.Core.Path.{_≡_, refl, sym}
-use mathlib.Core.Logic.{inl, inr, ⊎-elim}
+use mathlib.Core.Logic.{_⊎_, inl, inr, ⊎-elim}
 use mathlib.Core.Bool.{Bool, true, false}
 use native.Mathlib.Omega.{arith}
 use lib.ListN.{length, getD, List·getD-eq-default}
@@ -27,6 +27,11 @@ atMost x y f = omega arith
 
 positive : (x : ℕ) → (x ≡ 0 → ⊥) → 0 < x
 positive x f = omega arith
+
+-- Room that is asked for and is there.
+pub roomy : {asked work records list : ℕ} → asked ≤ work → records ≤ list → (work < asked) ⊎ (list < records) → ⊥
+roomy h k (inl a) = omega (arith, h, a)
+roomy h k (inr a) = omega (arith, k, a)
 
 -- A table that is lent has its faults.
 lends : (b : Bool) (F : ℕ → Type 0) (p : ℕ) → b ≡ true → F p → lentFault b F p
@@ -90,7 +95,10 @@ module _ (x : Entry) (l : Lent) (formed : WellFormed x l) where
   some-edges = atMost _ _ (λ h. shape (Misshaped.few-edges h))
 
   pub room : x .room (c .states) (edgeCount (c .edges)) ≤ length (l .work)
-  room = atMost _ _ (λ h. formed .none 2 0 (refl, h))
+  room = atMost _ _ (λ h. formed .none 2 0 (refl, inl h))
+
+  pub list-room : x .records (c .states) ≤ l .list
+  list-room = atMost _ _ (λ h. formed .none 2 0 (refl, inr h))
 
   -- The order is each state once.
   module _ (lent : x .order ≡ true) where

@@ -85,7 +85,7 @@ sought x l =
     let c = l .chain in
     more (nowhere (λ q z. z))
     (more (wholly _ (misshaped x (c .states) (length (c .denominators)) (length (c .edges)) (length (l .order)) (length (l .rewards))))
-    (more (wholly _ (decLt (length (l .work)) (x .room (c .states) (edgeCount (c .edges)))))
+    (more (wholly _ (either (decLt (length (l .work)) (x .room (c .states) (edgeCount (c .edges)))) (decLt (l .list) (x .records (c .states)))))
     (more (wholly _ (decLe (c .states) (c .start)))
     (more (wholly (GoalFault (c .states) (c .goals)) (either (ℕ-discrete (c .goals) 0) (decLe (2 ^ c .states) (c .goals))))
     (more (ranged _ (c .states) (λ i. out-of-range (getD (c .denominators) i 0)))

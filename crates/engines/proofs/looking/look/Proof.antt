@@ -14,7 +14,7 @@ returns : tie.Need-returns
 returns c =
     let a = c .before .before .before .before .before .args in
     settle plain (lent (a .c) (a .denominators .now) (a .edges .now) (a .order .now) [] (a .work .now)) 11 (c .tables .result)
-    (λ u. well (next u (λ p a. a))) (c .tables .ensures false [] (refl, refl))
+    (λ u. well (next u (λ p a. a))) (c .tables .ensures false false [] 0 (refl, refl) (refl, refl))
 
 pub look-spec : {M : Type 1} → statement M
 look-spec = tie.close (tie.spec (λ c κs. search needs) returns)

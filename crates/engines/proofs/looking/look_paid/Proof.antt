@@ -1,5 +1,5 @@
 use mathlib.Core.Path.{refl}
-use mathlib.Core.Bool.{true}
+use mathlib.Core.Bool.{true, false}
 use borrow.Author.Needs.{needs}
 use Rattle.meaning.specs.Refusal.{Lent, paid}
 use Rattle.chain.specs.Lent.{lent}
@@ -16,7 +16,7 @@ l c =
     lent (a .c) (a .denominators .now) (a .edges .now) (a .order .now) (a .rewards .now) (a .work .now)
 
 said : (c : tie.After-tables) → soFar paid (l c) 11 (c .tables .result)
-said c = c .tables .ensures true _ refl
+said c = c .tables .ensures true false _ 0 refl (refl, refl)
 
 returns : tie.Need-returns
 returns c =

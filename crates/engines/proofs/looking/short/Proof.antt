@@ -1,4 +1,5 @@
 use Prim.Native.Nat.{_<_}
+use mathlib.Core.Logic.{_⊎_, inl, inr, ⊎-elim}
 use native.Mathlib.Omega.{arith}
 use native.Mathlib.Nat.{mul-le-mul, add-le-add, le-refl}
 use Rattle.chain.proofs.Law.{compares}
@@ -8,10 +9,16 @@ use Rattle.engines.proofs.looking.short.Statement.{statement}
 use Rattle.engines.proofs.looking.short.Tie as tie
 
 mul-result : tie.Need-mul-result
-mul-result c = let h = c .pre in omega (arith, mul-le-mul h (add-le-add h (le-refl 4)))
+mul-result c = let h = c .before .pre in omega (arith, mul-le-mul h (add-le-add h (le-refl 4)))
 
 returns : tie.Need-returns
-returns c = let n = c .args .n in compares (c .args .work < workSize n) (c .args .work) (workSize n) (λ h. h) (λ h. h)
+returns c = inr (c .if1 .taken)
+
+returns-2 : tie.Need-returns-2
+returns-2 c =
+    let a = c .before .args in
+    compares ((a .work < workSize (a .n)) ⊎ (a .list < a .n)) (a .work) (workSize (a .n)) inl
+    (⊎-elim (λ h. h) (λ h. absurd (omega (arith, h, c .if1 .left))))
 
 pub short-spec : {M : Type 1} → statement M
-short-spec = tie.close (tie.spec (λ c. search needs) mul-result returns)
+short-spec = tie.close (tie.spec returns (λ c. search needs) mul-result returns-2)
