@@ -13,4 +13,5 @@ pub mod Entries
 pub mod DemandTwo
 pub mod DemandThree
 pub mod Small
+pub mod Steps
 pub mod Listed

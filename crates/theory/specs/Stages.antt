@@ -7,3 +7,4 @@ pub mod Stage
 pub mod Fits
 pub mod Unrounded
 pub mod Last
+pub mod Records

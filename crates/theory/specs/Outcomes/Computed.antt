@@ -1,7 +1,7 @@
 -- Each entry has an outcome, and it can be computed where the chain's sets are known.
 use Prim.Native.Nat.{ℕ, _+_, _/_, _<_}
-use mathlib.Core.Path.{refl}
-use mathlib.Core.Bool.{Bool}
+use mathlib.Core.Path.{_≡_, refl}
+use mathlib.Core.Bool.{Bool, true}
 use mathlib.Core.List.{List}
 use Rattle.meaning.specs.Number.{gcd, Reduced}
 use Rattle.meaning.specs.Chain.{Chain, begin}
@@ -81,14 +81,14 @@ module _ (l : Lent) (k : Sets) (right : Right (l .chain) k) where
   exactRow = row (tableAt exact l k (c .states)) (c .start)
 
   -- The chance, whether or not every row fits.
-  unfoldable pub chance-is : WellFormed plain l → (p : ℕ) × ((q : ℕ) × Chance c p q)
+  unfoldable pub chance-is : (x : Entry) → x .order ≡ true → WellFormed x l → (p : ℕ) × ((q : ℕ) × Chance c p q)
   unfolding begins
-  chance-is f =
+  chance-is x lent f =
       elim (begins c k right) [
-        | won g ↦ (1, (1, chance-won c (start-in plain l f) g))
-        | lost h ↦ (0, (1, chance-lost c (start-in plain l f) h))
+        | won g ↦ (1, (1, chance-won c (start-in x l f) g))
+        | lost h ↦ (0, (1, chance-lost c (start-in x l f) h))
         | live a ↦ let g = cell exactRow (goalColumn (c .states)) in
-            let ready = formed-prepared plain l f refl k right in
+            let ready = formed-prepared x l f lent k right in
             let h : Reduced g (D exactRow) _ _ = fraction-reduced g (D exactRow) (exact-whole c k (l .order) ready (earns l) a) in
             (top g (D exactRow), (bottom g (D exactRow), exact-chance c k (l .order) ready (earns l) a _ _ h))
       ]
@@ -130,7 +130,7 @@ module _ (l : Lent) (k : Sets) where
       computed plain l refusal (Stopped exact l) (ChanceFigure l) (λ f.
       elim (course l k (right f) exact) [
         | halts number place s ↦ stop number place s
-        | goes-on u ↦ let v = chance-is l k (right f) f in
+        | goes-on u ↦ let v = chance-is l k (right f) plain refl f in
             figure u (fraction (v .0) (v .1 .0)) (chance (v .0) (v .1 .0) (v .1 .1) refl)
       ])
 
@@ -154,7 +154,7 @@ module _ (l : Lent) (k : Sets) where
       let v = bounds-are l k (right f) f in figure (λ number place s. s) (v .0) (v .1))
 
 -- The sets are there where the input is well formed, so that each entry has an outcome, whatever it is lent.
-set-in : (x : Entry) (l : Lent) {T : Type 0} → ((k : Sets) → (WellFormed x l → Right (l .chain) k) → T) → T
+pub set-in : (x : Entry) (l : Lent) {T : Type 0} → ((k : Sets) → (WellFormed x l → Right (l .chain) k) → T) → T
 set-in x l t =
     elim (look x l) [
       | LookResult.refused number place r ↦ t (record { good = 0; live = 0 }) (λ f. absurd (f .none number place (r .applies)))

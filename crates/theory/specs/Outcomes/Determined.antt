@@ -33,7 +33,7 @@ module _ {b : Bool} {l : Lent} {k : Sets} where
   stops-one (in-step p h w f) (before-steps a′) = absurd (w 0 (omega arith) a′)
   stops-one (in-step p h w f) (in-step q h′ w′ f′) = (refl, meet p q (λ z. w′ (suc p) z f) (λ z. w (suc q) z f′))
 
-refused-unformed : {x : Entry} {l : Lent} {n p : ℕ} → Refused x l n p → WellFormed x l → ⊥
+pub refused-unformed : {x : Entry} {l : Lent} {n p : ℕ} → Refused x l n p → WellFormed x l → ⊥
 refused-unformed {n = n} {p} r w = w .none n p (r .applies)
 
 -- An entry's outcome is one where what stops it is one, and its figure is.

@@ -7,7 +7,7 @@ use Rattle.meaning.specs.Number.{Reduced}
 use Rattle.meaning.specs.Chain.{Chain, PathTo, Live}
 use Rattle.meaning.specs.Row.{cell, goalColumn, unknownColumn, exact}
 use Rattle.meaning.specs.Step.{Sets, Right, outside}
-use Rattle.meaning.specs.Refusal.{Lent, plain, paid, WellFormed}
+use Rattle.meaning.specs.Refusal.{Lent, Entry, plain, paid, WellFormed}
 use Rattle.meaning.specs.Stop.{earns, Stops, Stopped}
 use Rattle.meaning.specs.Outcome.{Answer, fraction, ChanceFigure, ChanceOutcome, RewardFigure, RewardOutcome, Bounds, between, lastRow, BoundsFigure, BoundsOutcome}
 use Rattle.theory.specs.Figures.Unique.{reduced-one, chance-one, expected-one}
@@ -25,9 +25,9 @@ module _ (l : Lent) where
   abbrev c : Chain
   c = l .chain
 
-  chance-figure-one : WellFormed plain l → (a a′ : Answer) → ChanceFigure l a → ChanceFigure l a′ → a ≡ a′
-  chance-figure-one w a a′ (ChanceFigure.chance p q h e) (ChanceFigure.chance p′ q′ h′ e′) =
-      let o = chance-one (formed-fine plain l w) h h′ in
+  pub chance-figure-one : (x : Entry) → WellFormed x l → (a a′ : Answer) → ChanceFigure l a → ChanceFigure l a′ → a ≡ a′
+  chance-figure-one x w a a′ (ChanceFigure.chance p q h e) (ChanceFigure.chance p′ q′ h′ e′) =
+      let o = chance-one (formed-fine x l w) h h′ in
       e ∙ ap₂ fraction (o .0) (o .1) ∙ sym e′
 
   reward-figure-one : WellFormed paid l → (a a′ : Answer) → RewardFigure l a → RewardFigure l a′ → a ≡ a′
@@ -68,7 +68,7 @@ module _ (l : Lent) where
       e ∙ live-one w k r v p q s t p′ q′ s′ t′ f g ∙ sym e′
 
   pub chance-determined : {a a′ : Answer} {w w′ : List ℕ} → ChanceOutcome l a w → ChanceOutcome l a′ w′ → (a ≡ a′) × (w ≡ w′)
-  chance-determined = outcome-one (stopped-one {b = exact} {l = l}) chance-figure-one
+  chance-determined = outcome-one (stopped-one {b = exact} {l = l}) (chance-figure-one plain)
 
   pub reward-determined : {a a′ : Answer} {w w′ : List ℕ} → RewardOutcome l a w → RewardOutcome l a′ w′ → (a ≡ a′) × (w ≡ w′)
   reward-determined = outcome-one (λ n p n′ p′ s s′. stopped-one {b = exact} {l = l} n p n′ p′ (s .1) (s′ .1)) reward-figure-one

@@ -111,7 +111,7 @@ module _ (l : Lent) (right : Right (l .chain) (marked (l .chain))) where
   shows-value p q =
       elim (look plain l) [
         | refused number place r ↦ none
-        | formed f ↦ let v = chance-is l k right f in
+        | formed f ↦ let v = chance-is l k right plain refl f in
             elim (matched (v .0 ∷ v .1 .0 ∷ []) (p ∷ q ∷ [])) [
               | none ↦ none
               | some e ↦ some (rw (← ap (λ s. getD s 0 0) e, ← ap (λ s. getD s 1 0) e) (v .1 .1))

@@ -1,0 +1,51 @@
+-- The companion of the entry for the chance, which writes the step list: it has one outcome; its answer and its work table are the chance
+-- entry's; and whose records it writes.
+use Prim.Native.Nat.{ℕ, zero, suc, _≤_, _<_}
+use mathlib.Core.Path.{_≡_, refl, sym, ap, subst, _∙_}
+use mathlib.Core.Bool.{Bool, true, false}
+use mathlib.Core.List.{List, [], _∷_}
+use native.Mathlib.Omega.{arith}
+use lib.ListN.{length}
+use Rattle.meaning.specs.Number.{filled}
+use Rattle.meaning.specs.Chain.{mostStates, Chain}
+use Rattle.meaning.specs.Row.{exact}
+use Rattle.meaning.specs.Step.{Sets, Right}
+use Rattle.meaning.specs.Refusal.{Lent, listing, Refused, WellFormed}
+use Rattle.meaning.specs.Stop.{Stopped}
+use Rattle.meaning.specs.Outcome.{Outcome, Answer, refusal, ChanceFigure}
+use Rattle.meaning.specs.Steps.{StepRecord, recordsTo, FinishedTo, through, before-steps, in-step, Listed, untouched, listed, StepsOutcome}
+use Rattle.theory.specs.Chains.Sets.{right-one}
+use Rattle.theory.specs.Outcomes.Formed.{few-states}
+use Rattle.theory.specs.Outcomes.Determined.{refused-unformed, outcome-one}
+use Rattle.theory.specs.Outcomes.Entries.{stopped-one, chance-figure-one}
+
+module _ (l : Lent) where
+  -- One answer has one number of positions whose step is finished.
+  finished-one : WellFormed listing l → {a : Answer} {p q : ℕ} → FinishedTo l a p → FinishedTo l a q → p ≡ q
+  finished-one w (through e) (through e′) = refl
+  finished-one w (through e) (before-steps e′ h) = absurd (omega (arith, e, e′))
+  finished-one w (through e) (in-step e′ h) = absurd (omega (arith, e, e′))
+  finished-one w (before-steps e h) (through e′) = absurd (omega (arith, e, e′))
+  finished-one w (before-steps e h) (before-steps e′ h′) = refl
+  finished-one w (before-steps e h) (in-step e′ h′) = absurd (omega (arith, h, h′, few-states listing l w))
+  finished-one w (in-step e h) (through e′) = absurd (omega (arith, e, e′))
+  finished-one w (in-step e h) (before-steps e′ h′) = absurd (omega (arith, h, h′, few-states listing l w))
+  finished-one w (in-step e h) (in-step e′ h′) = refl
+
+  -- For one answer the count is one, and the list afterwards.
+  listed-one : {a : Answer} {before after after′ : List StepRecord} {count count′ : ℕ} → Listed l a before count after
+      → Listed l a before count′ after′ → (count ≡ count′) × (after ≡ after′)
+  listed-one (untouched n p r c e) (untouched n′ p′ r′ c′ e′) = (c ∙ sym c′, e ∙ sym e′)
+  listed-one (untouched n p r c e) (listed w′ k′ right′ p′ f′ c′ e′) = absurd (refused-unformed r w′)
+  listed-one (listed w k right p f c e) (untouched n′ p′ r′ c′ e′) = absurd (refused-unformed r′ w)
+  listed-one {before} (listed w k right p f c e) (listed w′ k′ right′ p′ f′ c′ e′) =
+      let s : recordsTo l k p ≡ recordsTo l k′ p′ = rw (right-one right right′, finished-one w f f′) in
+      (c ∙ ap length s ∙ sym c′, e ∙ ap (λ r. filled r before) s ∙ sym e′)
+
+  pub steps-determined : {before after after′ : List StepRecord} {a a′ : Answer} {count count′ : ℕ} {w w′ : List ℕ}
+      → StepsOutcome l before a count w after → StepsOutcome l before a′ count′ w′ after′
+      → (a ≡ a′) × (count ≡ count′) × (w ≡ w′) × (after ≡ after′)
+  steps-determined {before} {after′ = after′} {count′ = count′} s s′ =
+      let o = outcome-one (stopped-one {b = exact} {l = l}) (chance-figure-one l listing) (s .outcome) (s′ .outcome) in
+      let t = listed-one (s .list) (subst (λ a. Listed l a before count′ after′) (sym (o .0)) (s′ .list)) in
+      (o .0, t .0, o .1, t .1)

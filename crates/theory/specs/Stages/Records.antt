@@ -1,0 +1,58 @@
+-- The records of a removal along an order: how many they can be, and whose.
+use Prim.Native.Nat.{ℕ, zero, suc, _+_, _≤_, _<_}
+use mathlib.Core.Path.{_≡_, refl, sym, ap, _∙_}
+use mathlib.Core.Logic.{_↔_, ite}
+use mathlib.Core.Bool.{Bool, true, false}
+use mathlib.Core.List.{List, [], _∷_, _++_, map, map-append, append-nil, filter, filter-append}
+use native.Mathlib.Omega.{arith}
+use lib.ListN.{length, getD, take, length-append}
+use lib.Seq.{take-suc}
+use Rattle.meaning.specs.Number.{choose}
+use Rattle.meaning.specs.Step.{Table}
+use Rattle.meaning.specs.Steps.{StepRecord, recordOf, recordsAlong}
+
+module _ (n : ℕ) (go : ℕ → Bool) (o : ℕ → ℕ) (t : ℕ → Table) where
+  abbrev records : ℕ → List StepRecord
+  records = recordsAlong n go o t
+
+  -- There is at most one for each position.
+  pub records-few : (p : ℕ) → length (records p) ≤ p
+  unfolding recordsAlong
+  records-few zero = omega arith
+  records-few (suc p) = at (go (o p)) (records-few p)
+    where
+      at : (b : Bool) → length (records p) ≤ p → length (choose b (records p ++ (recordOf n (o p) (t p) ∷ [])) (records p)) ≤ suc p
+      at true h = omega (arith, h, length-append (records p) (recordOf n (o p) (t p) ∷ []))
+      at false h = omega (arith, h)
+
+  -- There is none where no state is removed.
+  pub records-none : ((q : ℕ) → go (o q) ≡ false) → (p : ℕ) → records p ≡ []
+  unfolding recordsAlong
+  records-none h zero = refl
+  records-none h (suc p) = rw (h p) (records-none h p)
+
+-- Their states are those of the order that are removed, in the order's order.
+module _ (n : ℕ) (go : ℕ → Bool) (o : List ℕ) (t : ℕ → Table) {P : ℕ → Type 0} (d : (s : ℕ) → Dec (P s)) (law : (s : ℕ) → (go s ≡ true) ↔ P s) where
+  abbrev along : ℕ → List StepRecord
+  along = recordsAlong n go (λ q. getD o q 0) t
+
+  -- One position more.
+  one-more : (r : List StepRecord) (s : List ℕ) (i : ℕ) (u : Table) → map (λ r. r .state) r ≡ s
+      → map (λ r. r .state) (choose (go i) (r ++ (recordOf n i u ∷ [])) r) ≡ s ++ filter d (i ∷ [])
+  unfolding recordOf
+  one-more r s i u e = at (go i) refl (d i)
+    where
+      at : (b : Bool) → go i ≡ b → (x : Dec (P i))
+          → map (λ r. r .state) (choose b (r ++ (recordOf n i u ∷ [])) r) ≡ s ++ ite {C = List ℕ} x (i ∷ []) []
+      at true g (yes h) = map-append (λ r. r .state) r (recordOf n i u ∷ []) ∙ ap (λ s. s ++ (i ∷ [])) e
+      at true g (no h) = absurd (h (law i .0 g))
+      at false g (yes h) = let t = law i .1 h in absurd (let z : _≡_ {A = ℕ} 0 1 = cc in omega arith)
+      at false g (no h) = e ∙ sym (append-nil s)
+
+  pub records-states : (p : ℕ) → p ≤ length o → map (λ r. r .state) (along p) ≡ filter d (take p o)
+  unfolding recordsAlong
+  records-states zero h = refl
+  records-states (suc p) h =
+      one-more (along p) (filter d (take p o)) (getD o p 0) (t p) (records-states p (omega arith))
+      ∙ sym (filter-append d (take p o) (getD o p 0 ∷ []))
+      ∙ ap (filter d) (sym (take-suc o p 0 (omega arith)))
