@@ -14,4 +14,5 @@ pub mod DemandTwo
 pub mod DemandThree
 pub mod Small
 pub mod Steps
+pub mod StepsChance
 pub mod Listed

@@ -15,11 +15,11 @@ abbrev pub alone : Lent → Lent
 alone l = record { chain = l .chain; order = []; rewards = []; work = []; list = 0 }
 
 -- Each fault of one list is that fault of another.
-data Entails : List (ℕ → Type 0) → List (ℕ → Type 0) → Type 1 where
+pub data Entails : List (ℕ → Type 0) → List (ℕ → Type 0) → Type 1 where
   none : Entails [] []
   more : {F G : ℕ → Type 0} {Fs Gs : List (ℕ → Type 0)} → ((p : ℕ) → F p → G p) → Entails Fs Gs → Entails (F ∷ Fs) (G ∷ Gs)
 
-entails-at : {Fs Gs : List (ℕ → Type 0)} → Entails Fs Gs → (k p : ℕ) → getD Fs k never p → getD Gs k never p
+pub entails-at : {Fs Gs : List (ℕ → Type 0)} → Entails Fs Gs → (k p : ℕ) → getD Fs k never p → getD Gs k never p
 entails-at none k p h = absurd h
 entails-at (more f w) zero p h = f p h
 entails-at (more f w) (suc k) p h = entails-at w k p h

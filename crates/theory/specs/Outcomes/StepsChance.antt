@@ -1,0 +1,98 @@
+-- With a list of n records or more the companion refuses, stops and answers as the entry for the chance does.
+use Prim.Native.Nat.{ℕ, _≤_, _<_}
+use mathlib.Core.Path.{_≡_, refl}
+use mathlib.Core.Logic.{_⊎_, inl, inr}
+use mathlib.Core.List.{List, [], _∷_}
+use native.Mathlib.Omega.{arith}
+use Rattle.meaning.specs.Chain.{edgeCount}
+use Rattle.meaning.specs.Row.{exact}
+use Rattle.meaning.specs.Step.{Sets}
+use Rattle.meaning.specs.Refusal.{Lent, Entry, plain, listing, Misshaped, never, whole, faults, Refused, WellFormed}
+use Rattle.meaning.specs.Stop.{Stopped, Stops, before-steps, in-step}
+use Rattle.meaning.specs.Outcome.{Outcome, refused, stopped, answered, Answer, refusal, ChanceFigure, chance, ChanceOutcome}
+use Rattle.meaning.specs.Steps.{StepRecord, StepsOutcome}
+use Rattle.theory.specs.Outcomes.Bare.{Entails, none, more, entails-at}
+
+-- The same with a step list of so many records: none of them is lent to the entry for the chance.
+abbrev pub relisted : ℕ → Lent → Lent
+relisted list l = record { chain = l .chain; order = l .order; rewards = l .rewards; work = l .work; list = list }
+
+-- Two inputs with the same faults are refused, or well formed, alike.
+module _ {x y : Entry} {l m : Lent} (there : Entails (faults x l) (faults y m)) (back : Entails (faults y m) (faults x l)) where
+  same-refused : {number place : ℕ} → Refused x l number place → Refused y m number place
+  same-refused {number} {place} r =
+      record {
+        applies = entails-at there number place (r .applies);
+        number-least = λ k p h a. r .number-least k p h (entails-at back k p a);
+        place-least = λ p h a. r .place-least p h (entails-at back number p a);
+      }
+
+  same-formed : WellFormed x l → WellFormed y m
+  same-formed w = record { none = λ k p a. w .none k p (entails-at back k p a) }
+
+-- 1 asks both for the same tables.
+shape : {x y : Entry} {n d e o r : ℕ} → x .order ≡ y .order → x .rewards ≡ y .rewards → x .fewest ≡ y .fewest → Misshaped x n d e o r → Misshaped y n d e o r
+shape a b c (Misshaped.no-states h) = Misshaped.no-states h
+shape a b c (Misshaped.many-states h) = Misshaped.many-states h
+shape a b c (Misshaped.denominators-length h) = Misshaped.denominators-length h
+shape a b c (Misshaped.edges-ragged h) = Misshaped.edges-ragged h
+shape a b c (Misshaped.many-edges h) = Misshaped.many-edges h
+shape a b c (Misshaped.few-edges h) = Misshaped.few-edges (rw c at h)
+shape a b c (Misshaped.order-length h) = Misshaped.order-length (rw a at h)
+shape a b c (Misshaped.rewards-length h) = Misshaped.rewards-length (rw b at h)
+
+-- Two lists of faults that differ in 1 and 2 alone.
+every-own : (fs : List (ℕ → Type 0)) → Entails fs fs
+every-own [] = none
+every-own (f ∷ fs) = more (λ p a. a) (every-own fs)
+
+but-two : (F G H K : Type 0) (fs : List (ℕ → Type 0)) → (F → H) → (G → K)
+    → Entails (never ∷ whole F ∷ whole G ∷ fs) (never ∷ whole H ∷ whole K ∷ fs)
+but-two F G H K fs f g =
+    more (λ p a. a) (more {F = whole F} {G = whole H} (λ p a. (a .0, f (a .1))) (more {F = whole G} {G = whole K} (λ p a. (a .0, g (a .1))) (every-own fs)))
+
+module _ (l : Lent) (room : l .chain .states ≤ l .list) where
+  listing-plain : Entails (faults listing l) (faults plain (relisted 0 l))
+  listing-plain = but-two _ _ _ _ _ (shape refl refl refl) asked
+    where
+      asked : {w r : ℕ} → (w < r) ⊎ (l .list < l .chain .states) → (w < r) ⊎ (0 < 0)
+      asked (inl h) = inl h
+      asked (inr h) = absurd (omega (arith, h, room))
+
+  plain-listing : Entails (faults plain (relisted 0 l)) (faults listing l)
+  plain-listing = but-two _ _ _ _ _ (shape refl refl refl) asked
+    where
+      asked : {w r : ℕ} → (w < r) ⊎ (0 < 0) → (w < r) ⊎ (l .list < l .chain .states)
+      asked (inl h) = inl h
+      asked (inr h) = absurd (omega (arith, h))
+
+-- What stops the elimination, and the figure, do not ask for the list.
+stops-relisted : {l : Lent} {k : Sets} {number place : ℕ} (list : ℕ) → Stops exact l k number place → Stops exact (relisted list l) k number place
+stops-relisted list (before-steps f) = before-steps f
+stops-relisted list (in-step p h w f) = in-step p h w f
+
+stopped-relisted : {l : Lent} (list number place : ℕ) → Stopped exact l number place → Stopped exact (relisted list l) number place
+stopped-relisted list number place s = record { sets = s .sets; right = s .right; alive = s .alive; stops = stops-relisted list (s .stops) }
+
+figure-relisted : {l : Lent} {a : Answer} (list : ℕ) → ChanceFigure l a → ChanceFigure (relisted list l) a
+figure-relisted list (chance p q h e) = chance p q h e
+
+abbrev Says : Entry → Lent → Answer → List ℕ → Type 0
+Says x l = Outcome x l refusal (Stopped exact l) (ChanceFigure l)
+
+says-relisted : {x y : Entry} {l : Lent} {a : Answer} {w : List ℕ} (list : ℕ) → Entails (faults x l) (faults y (relisted list l))
+    → Entails (faults y (relisted list l)) (faults x l) → Says x l a w → Says y (relisted list l) a w
+says-relisted list there back (refused number place r e s) = refused number place (same-refused there back r) e s
+says-relisted list there back (stopped number place f t e s) =
+    stopped number place (same-formed there back f) (stopped-relisted list number place t) e s
+says-relisted {l} list there back (answered f u g s) =
+    answered (same-formed there back f) (λ number place t. u number place (stopped-relisted (l .list) number place t)) (figure-relisted list g) s
+
+module _ (l : Lent) (room : l .chain .states ≤ l .list) {a : Answer} {w : List ℕ} where
+  -- Its answer and its work table are those of the entry for the chance.
+  pub steps-as-chance : {before after : List StepRecord} {count : ℕ} → StepsOutcome l before a count w after → ChanceOutcome (relisted 0 l) a w
+  steps-as-chance s = says-relisted 0 (listing-plain l room) (plain-listing l room) (s .outcome)
+
+  -- And the entry for the chance says what the companion says.
+  pub chance-as-steps : ChanceOutcome (relisted 0 l) a w → Outcome listing l refusal (Stopped exact l) (ChanceFigure l) a w
+  chance-as-steps o = says-relisted (l .list) (plain-listing l room) (listing-plain l room) o
