@@ -1,6 +1,7 @@
 -- Sums, lists, divisors, bits and shifts; searches that end.
 pub mod Sum
 pub mod Tab
+pub mod Filter
 pub mod Gcd
 pub mod Bits
 pub mod Digits

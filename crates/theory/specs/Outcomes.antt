@@ -15,4 +15,5 @@ pub mod DemandThree
 pub mod Small
 pub mod Steps
 pub mod StepsChance
+pub mod StepsStates
 pub mod Listed

@@ -1,18 +1,14 @@
 -- The companion of the entry for the chance, which writes the step list: it has one outcome; its answer and its work table are the chance
 -- entry's; and whose records it writes.
-use Prim.Native.Nat.{ℕ, zero, suc, _≤_, _<_}
+use Prim.Native.Nat.{ℕ}
 use mathlib.Core.Path.{_≡_, refl, sym, ap, subst, _∙_}
-use mathlib.Core.Bool.{Bool, true, false}
-use mathlib.Core.List.{List, [], _∷_}
+use mathlib.Core.List.{List, []}
 use native.Mathlib.Omega.{arith}
 use lib.ListN.{length}
 use Rattle.meaning.specs.Number.{filled}
-use Rattle.meaning.specs.Chain.{mostStates, Chain}
 use Rattle.meaning.specs.Row.{exact}
-use Rattle.meaning.specs.Step.{Sets, Right}
-use Rattle.meaning.specs.Refusal.{Lent, listing, Refused, WellFormed}
-use Rattle.meaning.specs.Stop.{Stopped}
-use Rattle.meaning.specs.Outcome.{Outcome, Answer, refusal, ChanceFigure}
+use Rattle.meaning.specs.Refusal.{Lent, listing, WellFormed}
+use Rattle.meaning.specs.Outcome.{Answer}
 use Rattle.meaning.specs.Steps.{StepRecord, recordsTo, FinishedTo, through, before-steps, in-step, Listed, untouched, listed, StepsOutcome}
 use Rattle.theory.specs.Chains.Sets.{right-one}
 use Rattle.theory.specs.Outcomes.Formed.{few-states}

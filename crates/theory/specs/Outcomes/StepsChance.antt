@@ -4,7 +4,6 @@ use mathlib.Core.Path.{_≡_, refl}
 use mathlib.Core.Logic.{_⊎_, inl, inr}
 use mathlib.Core.List.{List, [], _∷_}
 use native.Mathlib.Omega.{arith}
-use Rattle.meaning.specs.Chain.{edgeCount}
 use Rattle.meaning.specs.Row.{exact}
 use Rattle.meaning.specs.Step.{Sets}
 use Rattle.meaning.specs.Refusal.{Lent, Entry, plain, listing, Misshaped, never, whole, faults, Refused, WellFormed}

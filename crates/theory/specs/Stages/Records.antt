@@ -1,5 +1,5 @@
 -- The records of a removal along an order: how many they can be, and whose.
-use Prim.Native.Nat.{ℕ, zero, suc, _+_, _≤_, _<_}
+use Prim.Native.Nat.{ℕ, zero, suc, _≤_}
 use mathlib.Core.Path.{_≡_, refl, sym, ap, _∙_}
 use mathlib.Core.Logic.{_↔_, ite}
 use mathlib.Core.Bool.{Bool, true, false}

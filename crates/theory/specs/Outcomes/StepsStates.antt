@@ -1,0 +1,131 @@
+-- Whose records the companion writes: where it answers, those of the live states but the start, each once, in the order's order; none where
+-- the start is not live.
+use Prim.Native.Nat.{ℕ, _<_}
+use mathlib.Core.Path.{_≡_, refl, ap, _∙_}
+use mathlib.Core.Logic.{_↔_, Dec·and, Dec·not}
+use mathlib.Core.Bool.{Bool, true, false}
+use mathlib.Core.List.{List, [], map, filter}
+use native.Mathlib.Omega.{arith}
+use native.Mathlib.Decide.{ℕ-discrete}
+use lib.ListN.{length, getD, take, drop}
+use lib.Seq.{take-all, take-append-seam}
+use lib.Dec.{eqb}
+use borrow.Author.Tests.{ne-eqb, eqb-true, eqb-false}
+use Rattle.meaning.specs.Number.{choose, bit, filled}
+use Rattle.meaning.specs.Chain.{Chain, Goal, ToGoal, PathTo, FromStart, begin, step, Live}
+use Rattle.meaning.specs.Row.{exact}
+use Rattle.meaning.specs.Step.{Sets, Right, goes}
+use Rattle.meaning.specs.Refusal.{Lent, Entry, listing, Refused, WellFormed}
+use Rattle.meaning.specs.Stop.{turn, tableAt}
+use Rattle.meaning.specs.Outcome.{Outcome, refused, stopped, answered, Answer, refusal}
+use Rattle.meaning.specs.Steps.{StepRecord, recordsTo, FinishedTo, through, before-steps, in-step, Listed, untouched, listed, StepsOutcome}
+use Rattle.theory.specs.Numbers.Filter.{Holds, Once, filter-from, filter-every, filter-once}
+use Rattle.theory.specs.Chains.Path.{decLive}
+use Rattle.theory.specs.Chains.Sets.{goal-state}
+use Rattle.theory.specs.Outcomes.Formed.{goals-in, from-in, order-length, order-new, order-every}
+use Rattle.theory.specs.Outcomes.Places.{refused-places}
+use Rattle.theory.specs.Outcomes.Determined.{refused-unformed}
+use Rattle.theory.specs.Stages.Records.{records-none, records-states}
+
+-- A state that is removed at its turn: it is live, and not the start.
+abbrev pub Removable : Chain → ℕ → Type 0
+Removable c s = Live c s × (s ≡ c .start → ⊥)
+
+pub removable : (c : Chain) (s : ℕ) → Dec (Removable c s)
+removable c s = Dec·and (decLive c s) (Dec·not (ℕ-discrete s (c .start)))
+
+module _ (c : Chain) (k : Sets) (right : Right c k) where
+  pub goes-law : (s : ℕ) → (goes (c .start) (k .live) s ≡ true) ↔ Removable c s
+  goes-law s = (there (eqb s (c .start)) refl (eqb (bit (k .live) s) 1) refl, λ h. rw (ne-eqb s (c .start) (h .1), right .live s .1 (h .0)))
+    where
+      there : (b : Bool) → eqb s (c .start) ≡ b → (g : Bool) → eqb (bit (k .live) s) 1 ≡ g → choose b false g ≡ true → Removable c s
+      there true e g f h = absurd (let z : _≡_ {A = ℕ} 0 1 = cc in omega arith)
+      there false e true f h = (right .live s .0 (eqb-true (bit (k .live) s) 1 f), eqb-false s (c .start) e)
+      there false e false f h = absurd (let z : _≡_ {A = ℕ} 0 1 = cc in omega arith)
+
+  -- Where a state is live the start is.
+  live-start : {i : ℕ} → FromStart c i → (Goal c i → ⊥) → ToGoal c i → Live c (c .start)
+  live-start begin u g = record { unwon = u; reached = begin; leads = g }
+  live-start (step e l f v) u g = live-start f v (PathTo.step e l g)
+
+  none-goes : (Live c (c .start) → ⊥) → (s : ℕ) → goes (c .start) (k .live) s ≡ false
+  none-goes dead s = at (goes (c .start) (k .live) s) refl
+    where
+      at : (b : Bool) → goes (c .start) (k .live) s ≡ b → b ≡ false
+      at true e = let a = goes-law s .0 e .0 in absurd (dead (live-start (a .reached) (a .unwon) (a .leads)))
+      at false e = refl
+
+module _ (l : Lent) where
+  -- A start that is not live writes nothing.
+  pub steps-none : {before after : List StepRecord} {a : Answer} {count : ℕ} {w : List ℕ} → (Live (l .chain) (l .chain .start) → ⊥)
+      → StepsOutcome l before a count w after → (count ≡ 0) × (after ≡ before)
+  steps-none {before} {after} {a} {count} dead s = at (s .list)
+    where
+      at : Listed l a before count after → (count ≡ 0) × (after ≡ before)
+      at (untouched number place r c e) = (c, e)
+      at (listed f k right p t c e) =
+          let z = records-none (l .chain .states) _ (turn l) (tableAt exact l k) (λ q. none-goes (l .chain) k right dead (turn l q)) p in
+          (c ∙ ap length z, e ∙ ap (λ r. filled r before) z)
+
+-- These states are those that are removed, each once, in the order's order.
+pub record RemovedOnce (c : Chain) (order states : List ℕ) : Type 0 where
+  pub in-order : states ≡ filter (removable c) order
+  pub only : (i : ℕ) → i < length states → Removable c (getD states i 0)
+  pub every : (s : ℕ) → Removable c s → Holds states s
+  pub once : Once states
+
+abbrev pub statesOf : List StepRecord → List ℕ
+statesOf records = map (λ r. r .state) records
+
+module _ (x : Entry) (l : Lent) (formed : WellFormed x l) (lent : x .order ≡ true) where
+  abbrev c : Chain
+  c = l .chain
+
+  filter-removed : RemovedOnce c (l .order) (filter (removable c) (l .order))
+  filter-removed =
+      record {
+        in-order = refl;
+        only = λ i h. filter-from (removable c) (l .order) i h .1;
+        every = λ s h.
+            let w = order-every x l formed lent s (goal-state c (goals-in x l formed) (from-in x l formed) s (h .0 .leads)) in
+            filter-every (removable c) (l .order) s h
+            (record { position = w .0; inside = omega (arith, w .1, order-length x l formed lent); here = w .2 });
+        once = filter-once (removable c) (l .order)
+            (λ i j a b e. order-new x l formed lent j (omega (arith, b, order-length x l formed lent)) i a e);
+      }
+
+  -- The records of a whole run.
+  pub records-removed : (k : Sets) → Right c k → RemovedOnce c (l .order) (statesOf (recordsTo l k (c .states)))
+  records-removed k right =
+      let e : statesOf (recordsTo l k (c .states)) ≡ filter (removable c) (l .order) =
+      records-states (c .states) _ (l .order) (tableAt exact l k) (removable c) (goes-law c k right) (c .states)
+      (omega (arith, order-length x l formed lent))
+      ∙ ap (filter (removable c)) (take-all (c .states) (l .order) (omega (arith, order-length x l formed lent))) in
+      rw e filter-removed
+
+-- An answer is no refusal by 1 to 10, and every step is finished.
+unrefused : {x : Entry} {l : Lent} {a : Answer} {w : List ℕ} {Stop : ℕ → ℕ → Type 0} {Figure : Answer → Type 0} {number place : ℕ}
+    → a .number ≡ 0 → Outcome x l refusal Stop Figure a w → Refused x l number place → ⊥
+unrefused z (refused number place r e s) q =
+    omega (arith, z, ap (λ a. a .number) e, refused-places number place r .0)
+unrefused z (stopped number place f t e s) q = refused-unformed q f
+unrefused z (answered f u g s) q = refused-unformed q f
+
+finished-through : {l : Lent} {a : Answer} {p : ℕ} → a .number ≡ 0 → FinishedTo l a p → p ≡ l .chain .states
+finished-through z (through e) = refl
+finished-through z (before-steps e h) = absurd (omega (arith, z, e))
+finished-through z (in-step e h) = absurd (omega (arith, z, e))
+
+module _ (l : Lent) where
+  -- Where the companion answers, the records that it wrote are those of the states that are removed, each once, in the order's order.
+  pub steps-states : {before after : List StepRecord} {a : Answer} {count : ℕ} {w : List ℕ} → a .number ≡ 0
+      → StepsOutcome l before a count w after → RemovedOnce (l .chain) (l .order) (statesOf (take count after))
+  steps-states {before} {after} {a} {count} z s = at (s .list)
+    where
+      at : Listed l a before count after → RemovedOnce (l .chain) (l .order) (statesOf (take count after))
+      at (untouched number place r c e) = absurd (unrefused z (s .outcome) r)
+      at (listed f k right p t c e) =
+          let r = recordsTo l k (l .chain .states) in
+          let written : take count after ≡ r =
+          rw (c, e, finished-through z t) (take-append-seam r (drop (length r) before)) in
+          rw written (records-removed listing l f refl k right)
