@@ -14,6 +14,7 @@ pub mod DemandTwo
 pub mod DemandThree
 pub mod Small
 pub mod Steps
+pub mod StepsComputed
 pub mod StepsChance
 pub mod StepsStates
 pub mod Listed

@@ -122,15 +122,16 @@ module _ (l : Lent) (k : Sets) (right : Right (l .chain) k) where
             )
       ]
 
--- The three entries; the sets need be right only where the input is well formed.
+-- The three entries, the first for its companion too; the sets need be right only where the input is well formed.
 module _ (l : Lent) (k : Sets) where
-  unfoldable pub chance-computed : (WellFormed plain l → Right (l .chain) k) → Computed plain l refusal (Stopped exact l) (ChanceFigure l)
+  unfoldable pub chance-computed : (x : Entry) → x .order ≡ true → (WellFormed x l → Right (l .chain) k)
+      → Computed x l refusal (Stopped exact l) (ChanceFigure l)
   unfolding computed course chance-is
-  chance-computed right =
-      computed plain l refusal (Stopped exact l) (ChanceFigure l) (λ f.
+  chance-computed x lent right =
+      computed x l refusal (Stopped exact l) (ChanceFigure l) (λ f.
       elim (course l k (right f) exact) [
         | halts number place s ↦ stop number place s
-        | goes-on u ↦ let v = chance-is l k (right f) plain refl f in
+        | goes-on u ↦ let v = chance-is l k (right f) x lent f in
             figure u (fraction (v .0) (v .1 .0)) (chance (v .0) (v .1 .0) (v .1 .1) refl)
       ])
 
@@ -162,7 +163,7 @@ set-in x l t =
     ]
 
 pub chance-outcome : (l : Lent) → Computed plain l refusal (Stopped exact l) (ChanceFigure l)
-chance-outcome l = set-in plain l (chance-computed l)
+chance-outcome l = set-in plain l (λ k. chance-computed l k plain refl)
 
 pub reward-outcome : (l : Lent) → Computed paid l refusal (RewardStop l) (RewardFigure l)
 reward-outcome l = set-in paid l (reward-computed l)

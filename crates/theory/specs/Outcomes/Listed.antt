@@ -96,7 +96,7 @@ module _ (l : Lent) (right : Right (l .chain) (marked (l .chain))) where
 
   unfoldable shows-chance : (a : Answer) (w : List ℕ) → Option (ChanceOutcome l a w)
   unfolding agreed chance-computed
-  shows-chance a w = agreed _ _ _ _ _ answerNumbers answerOf (λ a. refl) (chance-computed l k (λ _. right)) a w
+  shows-chance a w = agreed _ _ _ _ _ answerNumbers answerOf (λ a. refl) (chance-computed l k plain refl (λ _. right)) a w
 
   unfoldable shows-reward : (a : Answer) (w : List ℕ) → Option (RewardOutcome l a w)
   unfolding agreed reward-computed

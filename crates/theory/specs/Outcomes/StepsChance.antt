@@ -10,6 +10,8 @@ use Rattle.meaning.specs.Refusal.{Lent, Entry, plain, listing, Misshaped, never
 use Rattle.meaning.specs.Stop.{Stopped, Stops, before-steps, in-step}
 use Rattle.meaning.specs.Outcome.{Outcome, refused, stopped, answered, Answer, refusal, ChanceFigure, chance, ChanceOutcome}
 use Rattle.meaning.specs.Steps.{StepRecord, StepsOutcome}
+use Rattle.theory.specs.Outcomes.Computed.{set-in}
+use Rattle.theory.specs.Outcomes.StepsComputed.{Written, written}
 use Rattle.theory.specs.Outcomes.Bare.{Entails, none, more, entails-at}
 
 -- The same with a step list of so many records: none of them is lent to the entry for the chance.
@@ -92,6 +94,7 @@ module _ (l : Lent) (room : l .chain .states ≤ l .list) {a : Answer} {w : List
   pub steps-as-chance : {before after : List StepRecord} {count : ℕ} → StepsOutcome l before a count w after → ChanceOutcome (relisted 0 l) a w
   steps-as-chance s = says-relisted 0 (listing-plain l room) (plain-listing l room) (s .outcome)
 
-  -- And the entry for the chance says what the companion says.
-  pub chance-as-steps : ChanceOutcome (relisted 0 l) a w → Outcome listing l refusal (Stopped exact l) (ChanceFigure l) a w
-  chance-as-steps o = says-relisted (l .list) (plain-listing l room) (listing-plain l room) o
+  -- And what the entry for the chance says the companion says, with its records.
+  pub chance-as-steps : ChanceOutcome (relisted 0 l) a w → Written l a w
+  chance-as-steps o =
+      set-in listing l (λ k right. written k right (says-relisted (l .list) (plain-listing l room) (listing-plain l room) o))
