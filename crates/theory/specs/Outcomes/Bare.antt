@@ -1,11 +1,13 @@
 -- What refuses a chain alone refuses it among the tables of any entry, and clears the numbers 3 to 9 there.
-use Prim.Native.Nat.{ℕ, zero, suc, _+_, _-_, _≤_, _<_}
+use Prim.Native.Nat.{ℕ, zero, suc, _+_, _-_, _/_, _≤_, _<_}
 use mathlib.Core.Path.{_≡_, refl, sym, subst}
 use mathlib.Core.Logic.{_⊎_, ⊎-elim}
 use mathlib.Core.List.{List, [], _∷_}
 use lib.ListN.{getD}
 use native.Mathlib.Omega.{arith}
 use native.Mathlib.Nat.{le-refl}
+use Rattle.meaning.specs.Number.{only}
+use Rattle.meaning.specs.Chain.{edgeSize}
 use Rattle.meaning.specs.Refusal.{Lent, Entry, bare, whole, never, Misshaped, faults, Applies, Refused, WellFormed}
 use Rattle.theory.specs.Numbers.Sum.{below}
 use Rattle.theory.specs.Outcomes.Formed.{roomy}
@@ -24,19 +26,22 @@ entails-at none k p h = absurd h
 entails-at (more f w) zero p h = f p h
 entails-at (more f w) (suc k) p h = entails-at w k p h
 
-module _ (x : Entry) (l : Lent) where
-  shape : {n d e o w : ℕ} → Misshaped bare n d e 0 0 → Misshaped x n d e o w
-  shape (Misshaped.no-states h) = Misshaped.no-states h
-  shape (Misshaped.many-states h) = Misshaped.many-states h
-  shape (Misshaped.denominators-length h) = Misshaped.denominators-length h
-  shape (Misshaped.edges-ragged h) = Misshaped.edges-ragged h
-  shape (Misshaped.many-edges h) = Misshaped.many-edges h
-  shape (Misshaped.few-edges h) = absurd (omega arith)
-  shape (Misshaped.order-length h) = absurd (h refl)
-  shape (Misshaped.rewards-length h) = absurd (h refl)
+-- 1 for one entry is 1 for another that asks no less.
+pub reshaped : {x y : Entry} {n d e o w o′ w′ : ℕ} → (e / edgeSize < x .fewest → e / edgeSize < y .fewest)
+    → ((o ≡ only (x .order) n → ⊥) → o′ ≡ only (y .order) n → ⊥) → ((w ≡ only (x .rewards) n → ⊥) → w′ ≡ only (y .rewards) n → ⊥)
+    → Misshaped x n d e o w → Misshaped y n d e o′ w′
+reshaped f g k (Misshaped.no-states h) = Misshaped.no-states h
+reshaped f g k (Misshaped.many-states h) = Misshaped.many-states h
+reshaped f g k (Misshaped.denominators-length h) = Misshaped.denominators-length h
+reshaped f g k (Misshaped.edges-ragged h) = Misshaped.edges-ragged h
+reshaped f g k (Misshaped.many-edges h) = Misshaped.many-edges h
+reshaped f g k (Misshaped.few-edges h) = Misshaped.few-edges (f h)
+reshaped f g k (Misshaped.order-length h) = Misshaped.order-length (g h)
+reshaped f g k (Misshaped.rewards-length h) = Misshaped.rewards-length (k h)
 
+module _ (x : Entry) (l : Lent) where
   misshaped : {n d e o w : ℕ} (p : ℕ) → whole (Misshaped bare n d e 0 0) p → whole (Misshaped x n d e o w) p
-  misshaped p a = (a .0, shape (a .1))
+  misshaped p a = (a .0, reshaped (λ h. absurd (omega arith)) (λ h. absurd (h refl)) (λ h. absurd (h refl)) (a .1))
 
   -- What applies to the chain alone applies among all that is lent.
   among : Entails (faults bare (alone l)) (faults x l)

@@ -6,13 +6,13 @@ use mathlib.Core.List.{List, [], _∷_}
 use native.Mathlib.Omega.{arith}
 use Rattle.meaning.specs.Row.{exact}
 use Rattle.meaning.specs.Step.{Sets}
-use Rattle.meaning.specs.Refusal.{Lent, Entry, plain, listing, Misshaped, never, whole, faults, Refused, WellFormed}
+use Rattle.meaning.specs.Refusal.{Lent, Entry, plain, listing, never, whole, faults, Refused, WellFormed}
 use Rattle.meaning.specs.Stop.{Stopped, Stops, before-steps, in-step}
 use Rattle.meaning.specs.Outcome.{Outcome, refused, stopped, answered, Answer, refusal, ChanceFigure, chance, ChanceOutcome}
 use Rattle.meaning.specs.Steps.{StepRecord, StepsOutcome}
 use Rattle.theory.specs.Outcomes.Computed.{set-in}
 use Rattle.theory.specs.Outcomes.StepsComputed.{Written, written}
-use Rattle.theory.specs.Outcomes.Bare.{Entails, none, more, entails-at}
+use Rattle.theory.specs.Outcomes.Bare.{reshaped, Entails, none, more, entails-at}
 
 -- The same with a step list of so many records: none of them is lent to the entry for the chance.
 abbrev pub relisted : ℕ → Lent → Lent
@@ -31,17 +31,6 @@ module _ {x y : Entry} {l m : Lent} (there : Entails (faults x l) (faults y m)) 
   same-formed : WellFormed x l → WellFormed y m
   same-formed w = record { none = λ k p a. w .none k p (entails-at back k p a) }
 
--- 1 asks both for the same tables.
-shape : {x y : Entry} {n d e o r : ℕ} → x .order ≡ y .order → x .rewards ≡ y .rewards → x .fewest ≡ y .fewest → Misshaped x n d e o r → Misshaped y n d e o r
-shape a b c (Misshaped.no-states h) = Misshaped.no-states h
-shape a b c (Misshaped.many-states h) = Misshaped.many-states h
-shape a b c (Misshaped.denominators-length h) = Misshaped.denominators-length h
-shape a b c (Misshaped.edges-ragged h) = Misshaped.edges-ragged h
-shape a b c (Misshaped.many-edges h) = Misshaped.many-edges h
-shape a b c (Misshaped.few-edges h) = Misshaped.few-edges (rw c at h)
-shape a b c (Misshaped.order-length h) = Misshaped.order-length (rw a at h)
-shape a b c (Misshaped.rewards-length h) = Misshaped.rewards-length (rw b at h)
-
 -- Two lists of faults that differ in 1 and 2 alone.
 every-own : (fs : List (ℕ → Type 0)) → Entails fs fs
 every-own [] = none
@@ -54,14 +43,14 @@ but-two F G H K fs f g =
 
 module _ (l : Lent) (room : l .chain .states ≤ l .list) where
   listing-plain : Entails (faults listing l) (faults plain (relisted 0 l))
-  listing-plain = but-two _ _ _ _ _ (shape refl refl refl) asked
+  listing-plain = but-two _ _ _ _ _ (reshaped (λ h. h) (λ h. h) (λ h. h)) asked
     where
       asked : {w r : ℕ} → (w < r) ⊎ (l .list < l .chain .states) → (w < r) ⊎ (0 < 0)
       asked (inl h) = inl h
       asked (inr h) = absurd (omega (arith, h, room))
 
   plain-listing : Entails (faults plain (relisted 0 l)) (faults listing l)
-  plain-listing = but-two _ _ _ _ _ (shape refl refl refl) asked
+  plain-listing = but-two _ _ _ _ _ (reshaped (λ h. h) (λ h. h) (λ h. h)) asked
     where
       asked : {w r : ℕ} → (w < r) ⊎ (0 < 0) → (w < r) ⊎ (l .list < l .chain .states)
       asked (inl h) = inl h
