@@ -1,8 +1,8 @@
 -- The chains worked by hand whose figures are proved: one list, with one claim.
 use Prim.Native.Nat.{ℕ, zero, suc, _+_, _-_, _^_}
 use mathlib.Core.List.{List, [], _∷_, _++_}
-use lib.ListN.{replicate}
-use Rattle.meaning.specs.Number.{tabFrom}
+use lib.ListN.{length, replicate}
+use Rattle.meaning.specs.Number.{tabFrom, filled}
 use Rattle.meaning.specs.Chain.{M, edge}
 use Rattle.meaning.specs.Figure.{Chance}
 use Rattle.meaning.specs.Refusal.{Lent, workSize}
@@ -20,13 +20,15 @@ use Rattle.meaning.specs.Outcome.{
   between,
   BoundsOutcome,
 }
+use Rattle.meaning.specs.Steps.{StepRecord, StepsOutcome}
 
--- What an entry is lent, what it answers, and its work table then; a chance that no entry need answer; or a file, with the number and the
--- place that refuse it.
+-- What an entry is lent, what it answers, and its work table then; for the companion also the records that it writes; a chance that no entry
+-- need answer; or a file, with the number and the place that refuse it.
 pub data Case : Type 0 where
   chance : Lent → Answer → List ℕ → Case
   reward : Lent → Answer → List ℕ → Case
   bounds : Lent → Bounds → List ℕ → Case
+  steps : Lent → Answer → List ℕ → List StepRecord → Case
   value : Lent → ℕ → ℕ → Case
   file : Input → ℕ → ℕ → Case
 
@@ -34,6 +36,7 @@ abbrev pub Claim : Case → Type 0
 Claim (chance l a w) = ChanceOutcome l a w
 Claim (reward l a w) = RewardOutcome l a w
 Claim (bounds l a w) = BoundsOutcome l a w
+Claim (steps l a w records) = (before : List StepRecord) → StepsOutcome l before a (length records) w (filled records before)
 Claim (value l p q) = Chance (l .chain) p q
 Claim (file f number place) = FileRefused f number place
 
@@ -48,7 +51,16 @@ lend states goals denominators edges rewards =
       list = 0;
     }
 
--- The address chain: 5 is ok, 6 is the error. Then with 5, with 6, and with both as goals.
+-- The same with a step list that has two records more than it need have.
+abbrev pub lendList : Lent → Lent
+lendList l =
+    record { chain = l .chain; order = l .order; rewards = l .rewards; work = l .work; list = l .chain .states + 2 }
+
+-- A record of the step list: its state, rows, columns and divisor.
+abbrev pub step : ℕ → ℕ → ℕ → ℕ → StepRecord
+step state rows columns divisor = record { state = state; rows = rows; columns = columns; divisor = divisor }
+
+-- The address chain: 5 is ok, 6 is the error. Then with 5, with 6, and with both as goals, without rewards and with them.
 abbrev pub address : ℕ → List ℕ → Lent
 address goals rewards =
     lend 7 goals
@@ -62,6 +74,9 @@ okay = address (2 ^ 5) []
 
 abbrev pub failed : Lent
 failed = address (2 ^ 6) []
+
+abbrev pub either : Lent
+either = address (2 ^ 5 + 2 ^ 6) []
 
 abbrev pub done : Lent
 done = address (2 ^ 5 + 2 ^ 6) (1 ∷ 0 ∷ 0 ∷ 0 ∷ 0 ∷ 0 ∷ 0 ∷ [])
@@ -103,6 +118,21 @@ abbrev pub loops : ℕ → ℕ → List ℕ
 loops i zero = []
 loops i (suc n) = edge i i 1 ++ loops (suc i) n
 
+-- The dice: 0 to 6 toss a coin, 7 to 12 are the faces, and the first of them is the goal.
+abbrev pub dice : Lent
+dice =
+    lend 13 (2 ^ 7)
+    (replicate 7 2 ++ replicate 6 1)
+    (edge 0 1 1 ++ edge 0 2 1 ++ edge 1 3 1 ++ edge 1 4 1 ++ edge 2 5 1 ++ edge 2 6 1 ++ edge 3 1 1
+    ++ edge 3 7 1 ++ edge 4 8 1 ++ edge 4 9 1 ++ edge 5 10 1 ++ edge 5 11 1 ++ edge 6 2 1 ++ edge 6 12 1 ++ loops 7 6)
+    []
+
+-- 0 to 1 and 2; 1 to 0, to the goal 3 and to the trap 4; 2 to the goal, and to the trap with M - 1.
+abbrev pub grown : Lent
+grown =
+    lend 5 (2 ^ 3) (2 ∷ 3 ∷ M ∷ 1 ∷ 1 ∷ [])
+    (edge 0 1 1 ++ edge 0 2 1 ++ edge 1 0 1 ++ edge 1 3 1 ++ edge 1 4 1 ++ edge 2 3 1 ++ edge 2 4 (M - 1) ++ loops 3 2) []
+
 -- 64 states that loop, all of them goals; and one state that loops, and no goal.
 abbrev pub full : Lent
 full = lend 64 (2 ^ 64 - 1) (replicate 64 1) (loops 0 64) []
@@ -131,5 +161,11 @@ cases =
     ∷ chance (slim 2147483648) (refusal 5 0) (slim 2147483648 .work)
     ∷ chance goalless (refusal 4 0) (goalless .work)
     ∷ chance full (fraction 1 1) (cleared full)
+    ∷ steps (lendList okay) (fraction 4375 4376) (cleared okay) (step 1 1 2 1 ∷ step 2 1 2 1 ∷ step 3 1 2 1 ∷ step 4 1 2 1 ∷ [])
+    ∷ steps (lendList either) (fraction 1 1) (cleared either) (step 1 1 2 1 ∷ step 2 1 2 1 ∷ step 3 1 2 1 ∷ step 4 1 2 8 ∷ [])
+    ∷ steps (lendList dice) (fraction 1 6) (cleared dice) (step 1 2 2 1 ∷ step 3 1 2 2 ∷ [])
+    ∷ steps (lendList grown) (refusal 12 2) (cleared grown) (step 1 1 3 1 ∷ [])
+    ∷ steps (lendList rare) (refusal 12 1) (cleared rare) []
+    ∷ steps okay (refusal 2 0) (okay .work) []
     ∷ file zeros 23 0
     ∷ []

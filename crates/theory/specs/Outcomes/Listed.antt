@@ -8,36 +8,49 @@ use mathlib.Core.List.{List, [], _∷_, List·Memᴰ, List·Memᴰ·not-nil, Lis
 use native.Mathlib.Omega.{arith}
 use native.Mathlib.Decide.{ℕ-discrete}
 use lib.ListN.{getD}
-use Rattle.meaning.specs.Number.{choose, sumTo, tabFrom, gcdIn, gcd}
+use Rattle.meaning.specs.Number.{choose, sumTo, largest, tabFrom, gcdIn, gcd}
 use Rattle.meaning.specs.Chain.{Chain, carried, flow}
 use Rattle.meaning.specs.Row.{gcdOf, divisor, over, shiftFrom, shiftOf, roundedBy, bounded, settled}
 use Rattle.meaning.specs.Step.{Sets, Right, given, noRow, first, combined, renewed, removed, after}
-use Rattle.meaning.specs.Outcome.{Outcome, Answer, ChanceOutcome, RewardOutcome, Bounds, BoundsOutcome}
+use Rattle.meaning.specs.Outcome.{Answer, ChanceOutcome, RewardOutcome, Bounds, BoundsOutcome}
 use Rattle.meaning.specs.Figure.{Chance}
-use Rattle.meaning.specs.Refusal.{Lent, Entry, plain}
+use Rattle.meaning.specs.Refusal.{Lent, plain}
 use Rattle.meaning.specs.Block.{Input}
 use Rattle.meaning.specs.File.{FileRefused}
-use Rattle.meaning.specs.Cases.{Case, chance, reward, bounds, value, file, Claim, cases}
+use Rattle.meaning.specs.Cases.{Case, chance, reward, bounds, steps, value, file, Claim, cases}
+use Rattle.meaning.specs.Steps.{StepRecord, takenOut, recordOf, recordsAlong}
+use Rattle.theory.specs.Outcomes.StepsComputed.{steps-computed}
 use Rattle.theory.specs.Outcomes.Look.{refused, formed, look}
 use Rattle.theory.specs.Outcomes.Halt.{alike}
 use Rattle.theory.specs.Chains.Marks.{marks, enough, marks-right}
-use Rattle.theory.specs.Outcomes.Computed.{Computed, chance-is, chance-computed, reward-computed, bounds-computed}
+use Rattle.theory.specs.Outcomes.Computed.{chance-is, chance-computed, reward-computed, bounds-computed}
 use Rattle.theory.specs.Files.Head.{headed}
 
--- Two lists of numbers, where they are found to be one.
-unfoldable matched : (s t : List ℕ) → Option (s ≡ t)
-unfolding ℕ-discrete
-matched [] [] = some refl
-matched [] (y ∷ t) = none
-matched (x ∷ s) [] = none
-matched (x ∷ s) (y ∷ t) =
-    elim (ℕ-discrete x y) [
-      | no h ↦ none
-      | yes p ↦ elim (matched s t) [
+-- Two lists, where they are found to be one by a test of their entries; two numbers; and two lists of numbers.
+unfoldable paired : {A : Type 0} → ((x y : A) → Option (x ≡ y)) → (s t : List A) → Option (s ≡ t)
+paired one [] [] = some refl
+paired one [] (y ∷ t) = none
+paired one (x ∷ s) [] = none
+paired one (x ∷ s) (y ∷ t) =
+    elim (one x y) [
+      | none ↦ none
+      | some p ↦ elim (paired one s t) [
         | none ↦ none
         | some q ↦ some (λ i. p i ∷ q i)
       ]
     ]
+
+unfoldable equal : (x y : ℕ) → Option (x ≡ y)
+unfolding ℕ-discrete
+equal x y =
+    elim (ℕ-discrete x y) [
+      | no h ↦ none
+      | yes p ↦ some p
+    ]
+
+unfoldable matched : (s t : List ℕ) → Option (s ≡ t)
+unfolding paired equal
+matched = paired equal
 
 -- The chain's sets, where as many rounds as there are states were enough to mark them.
 abbrev marked : Chain → Sets
@@ -73,19 +86,31 @@ boundsOf s =
       upperDenominator = getD s 5 0;
     }
 
--- An outcome with the answer and the work table that a case has.
-module _ {A : Type 0} (x : Entry) (l : Lent) (refusal : ℕ → ℕ → A) (Stop : ℕ → ℕ → Type 0) (Figure : A → Type 0) where
+-- Two records, by their numbers.
+abbrev recordNumbers : StepRecord → List ℕ
+recordNumbers r = r .state ∷ r .rows ∷ r .columns ∷ r .divisor ∷ []
+
+unfoldable alikeRecords : (r s : StepRecord) → Option (r ≡ s)
+unfolding matched
+alikeRecords r s =
+    elim (matched (recordNumbers r) (recordNumbers s)) [
+      | none ↦ none
+      | some e ↦ some (ap (λ s. record { state = getD s 0 0; rows = getD s 1 0; columns = getD s 2 0; divisor = getD s 3 0 }) e)
+    ]
+
+-- What holds of an answer and a work table holds of those that a case has, where they are found to be these.
+module _ {A : Type 0} (P : A → List ℕ → Type 0) where
   unfoldable agreed : (numbers : A → List ℕ) (back : List ℕ → A) → ((a : A) → back (numbers a) ≡ a)
-      → Computed x l refusal Stop Figure → (a : A) (w : List ℕ) → Option (Outcome x l refusal Stop Figure a w)
+      → (a : A) (w : List ℕ) → P a w → (a′ : A) (w′ : List ℕ) → Option (P a′ w′)
   unfolding matched
-  agreed numbers back same t a w =
-      elim (matched (numbers (t .answer)) (numbers a)) [
+  agreed numbers back same a w p a′ w′ =
+      elim (matched (numbers a) (numbers a′)) [
         | none ↦ none
-        | some e ↦ elim (matched (t .work) w) [
+        | some e ↦ elim (matched w w′) [
           | none ↦ none
           | some f ↦ some
-              (let same-answer : t .answer ≡ a = sym (same (t .answer)) ∙ ap back e ∙ same a in
-              rw (← same-answer, ← f) (t .outcome))
+              (let same-answer : a ≡ a′ = sym (same a) ∙ ap back e ∙ same a′ in
+              rw (← same-answer, ← f) p)
         ]
       ]
 
@@ -96,15 +121,31 @@ module _ (l : Lent) (right : Right (l .chain) (marked (l .chain))) where
 
   unfoldable shows-chance : (a : Answer) (w : List ℕ) → Option (ChanceOutcome l a w)
   unfolding agreed chance-computed
-  shows-chance a w = agreed _ _ _ _ _ answerNumbers answerOf (λ a. refl) (chance-computed l k plain refl (λ _. right)) a w
+  shows-chance a w =
+      let t = chance-computed l k plain refl (λ _. right) in
+      agreed (ChanceOutcome l) answerNumbers answerOf (λ a. refl) (t .answer) (t .work) (t .outcome) a w
 
   unfoldable shows-reward : (a : Answer) (w : List ℕ) → Option (RewardOutcome l a w)
   unfolding agreed reward-computed
-  shows-reward a w = agreed _ _ _ _ _ answerNumbers answerOf (λ a. refl) (reward-computed l k (λ _. right)) a w
+  shows-reward a w =
+      let t = reward-computed l k (λ _. right) in
+      agreed (RewardOutcome l) answerNumbers answerOf (λ a. refl) (t .answer) (t .work) (t .outcome) a w
 
   unfoldable shows-bounds : (a : Bounds) (w : List ℕ) → Option (BoundsOutcome l a w)
   unfolding agreed bounds-computed
-  shows-bounds a w = agreed _ _ _ _ _ boundsNumbers boundsOf (λ a. refl) (bounds-computed l k (λ _. right)) a w
+  shows-bounds a w =
+      let t = bounds-computed l k (λ _. right) in
+      agreed (BoundsOutcome l) boundsNumbers boundsOf (λ a. refl) (t .answer) (t .work) (t .outcome) a w
+
+  unfoldable shows-steps : (a : Answer) (w : List ℕ) (r : List StepRecord) → Option (Claim (steps l a w r))
+  unfolding agreed steps-computed paired alikeRecords
+  shows-steps a w r =
+      let t = steps-computed l k (λ _. right) in
+      elim (paired alikeRecords (t .list .records) r) [
+        | none ↦ none
+        | some e ↦ agreed (λ a w. Claim (steps l a w r)) answerNumbers answerOf (λ a. refl) (t .answer) (t .work)
+            (λ before. rw (← e) (t .list .outcome before)) a w
+      ]
 
   unfoldable shows-value : (p q : ℕ) → Option (Chance (l .chain) p q)
   unfolding look chance-is matched
@@ -139,10 +180,11 @@ shows-file f number place =
     ]
 
 unfoldable shows : (x : Case) → Option (Claim x)
-unfolding onceKnown shows-chance shows-reward shows-bounds shows-value shows-file
+unfolding onceKnown shows-chance shows-reward shows-bounds shows-steps shows-value shows-file
 shows (chance l a w) = onceKnown (l .chain) (λ right. shows-chance l right a w)
 shows (reward l a w) = onceKnown (l .chain) (λ right. shows-reward l right a w)
 shows (bounds l a w) = onceKnown (l .chain) (λ right. shows-bounds l right a w)
+shows (steps l a w r) = onceKnown (l .chain) (λ right. shows-steps l right a w r)
 shows (value l p q) = onceKnown (l .chain) (λ right. shows-value l right p q)
 shows (file f number place) = shows-file f number place
 
@@ -169,7 +211,7 @@ every [] = true
 every (x ∷ s) = let rest = every s in choose (shown x) rest false
 
 pub cases-pass : every cases ≡ true
-unfolding every shown sumTo tabFrom gcdIn gcd carried flow gcdOf divisor over shiftFrom shiftOf roundedBy bounded settled given noRow first combined renewed removed after marks
+unfolding every shown sumTo largest tabFrom gcdIn gcd carried flow gcdOf divisor over shiftFrom shiftOf roundedBy bounded settled given noRow first combined renewed removed after marks takenOut recordOf recordsAlong
 cases-pass = refl
 
 both : (a b : Bool) → choose a b false ≡ true → (a ≡ true) × (b ≡ true)

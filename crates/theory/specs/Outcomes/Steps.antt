@@ -1,17 +1,19 @@
--- The companion of the entry for the chance, which writes the step list: it has one outcome; its answer and its work table are the chance
--- entry's; and whose records it writes.
-use Prim.Native.Nat.{ℕ}
+-- The companion of the entry for the chance, which writes the step list, has one outcome: answer, count, work table and list; and its list
+-- keeps its length.
+use Prim.Native.Nat.{ℕ, _≤_}
 use mathlib.Core.Path.{_≡_, refl, sym, ap, subst, _∙_}
 use mathlib.Core.List.{List, []}
 use native.Mathlib.Omega.{arith}
-use lib.ListN.{length}
+use lib.ListN.{length, drop, length-append, length-drop}
 use Rattle.meaning.specs.Number.{filled}
 use Rattle.meaning.specs.Row.{exact}
 use Rattle.meaning.specs.Refusal.{Lent, listing, WellFormed}
+use Rattle.meaning.specs.Stop.{turn, tableAt}
 use Rattle.meaning.specs.Outcome.{Answer}
 use Rattle.meaning.specs.Steps.{StepRecord, recordsTo, FinishedTo, through, before-steps, in-step, Listed, untouched, listed, StepsOutcome}
 use Rattle.theory.specs.Chains.Sets.{right-one}
-use Rattle.theory.specs.Outcomes.Formed.{few-states}
+use Rattle.theory.specs.Stages.Records.{records-few}
+use Rattle.theory.specs.Outcomes.Formed.{few-states, list-room}
 use Rattle.theory.specs.Outcomes.Determined.{refused-unformed, outcome-one}
 use Rattle.theory.specs.Outcomes.Entries.{stopped-one, chance-figure-one}
 
@@ -45,3 +47,24 @@ module _ (l : Lent) where
       let o = outcome-one (stopped-one {b = exact} {l = l}) (chance-figure-one l listing) (s .outcome) (s′ .outcome) in
       let t = listed-one (s .list) (subst (λ a. Listed l a before count′ after′) (sym (o .0)) (s′ .list)) in
       (o .0, t .0, o .1, t .1)
+
+  -- There are at most n records, so that the list keeps its length.
+  finished-inside : {a : Answer} {p : ℕ} → FinishedTo l a p → p ≤ l .chain .states
+  finished-inside (through e) = omega arith
+  finished-inside (before-steps e h) = omega arith
+  finished-inside (in-step e h) = omega (arith, h)
+
+  pub steps-room : {before after : List StepRecord} {a : Answer} {count : ℕ} {w : List ℕ} → length before ≡ l .list
+      → StepsOutcome l before a count w after → (count ≤ l .chain .states) × (length after ≡ length before)
+  steps-room {before} {after} {a} {count} lent s = at (s .list)
+    where
+      at : Listed l a before count after → (count ≤ l .chain .states) × (length after ≡ length before)
+      at (untouched number place r c e) = (omega (arith, c), ap length e)
+      at (listed f k right p t c e) =
+          let r = recordsTo l k p in
+          let small : length r ≤ p = records-few (l .chain .states) _ (turn l) (tableAt exact l k) p in
+          let few : length r ≤ l .chain .states = omega (arith, finished-inside t) in
+          let room = list-room listing l f in (
+            omega (arith, c, few),
+            ap length e ∙ omega (arith, few, lent, room, length-append r (drop (length r) before), length-drop (length r) before),
+          )
