@@ -38,7 +38,9 @@ every-own (f ∷ fs) = more (λ p a. a) (every-own fs)
 but-two : (F G H K : Type 0) (fs : List (ℕ → Type 0)) → (F → H) → (G → K)
     → Entails (never ∷ whole F ∷ whole G ∷ fs) (never ∷ whole H ∷ whole K ∷ fs)
 but-two F G H K fs f g =
-    more (λ p a. a) (more {F = whole F} {G = whole H} (λ p a. (a .0, f (a .1))) (more {F = whole G} {G = whole K} (λ p a. (a .0, g (a .1))) (every-own fs)))
+    more (λ p a. a)
+    (more {F = whole F} {G = whole H} (λ p a. (a .0, f (a .1)))
+    (more {F = whole G} {G = whole K} (λ p a. (a .0, g (a .1))) (every-own fs)))
 
 module _ (l : Lent) (room : l .chain .states ≤ l .list) where
   listing-plain : Entails (faults listing l) (faults plain (relisted 0 l))

@@ -1,7 +1,7 @@
 -- Whose records the companion writes: where it answers, those of the live states but the start, each once, in the order's order; none where
 -- the start is not live.
 use Prim.Native.Nat.{ℕ, _<_}
-use mathlib.Core.Path.{_≡_, refl, ap, _∙_}
+use mathlib.Core.Path.{_≡_, refl, ap, ap₂, _∙_}
 use mathlib.Core.Logic.{_↔_, Dec·and, Dec·not}
 use mathlib.Core.Bool.{Bool, true, false}
 use mathlib.Core.List.{List, [], map, filter}
@@ -11,21 +11,21 @@ use lib.ListN.{length, getD, take, drop}
 use lib.Seq.{take-all, take-append-seam}
 use lib.Dec.{eqb}
 use borrow.Author.Tests.{ne-eqb, eqb-true, eqb-false}
-use Rattle.meaning.specs.Number.{choose, bit, filled}
+use Rattle.meaning.specs.Number.{sumTo, only, choose, bit, filled}
 use Rattle.meaning.specs.Chain.{Chain, Goal, ToGoal, PathTo, FromStart, begin, step, Live}
 use Rattle.meaning.specs.Row.{exact}
 use Rattle.meaning.specs.Step.{Sets, Right, goes}
 use Rattle.meaning.specs.Refusal.{Lent, Entry, listing, Refused, WellFormed}
 use Rattle.meaning.specs.Stop.{turn, tableAt}
 use Rattle.meaning.specs.Outcome.{Outcome, refused, stopped, answered, Answer, refusal}
-use Rattle.meaning.specs.Steps.{StepRecord, recordsTo, FinishedTo, through, before-steps, in-step, Listed, untouched, listed, StepsOutcome}
+use Rattle.meaning.specs.Steps.{StepRecord, recordOf, recordsTo, FinishedTo, through, before-steps, in-step, Listed, untouched, listed, StepsOutcome}
 use Rattle.theory.specs.Numbers.Filter.{Holds, Once, filter-from, filter-every, filter-once}
 use Rattle.theory.specs.Chains.Path.{decLive}
-use Rattle.theory.specs.Chains.Sets.{goal-state}
+use Rattle.theory.specs.Chains.Sets.{right-one, goal-state}
 use Rattle.theory.specs.Outcomes.Formed.{goals-in, from-in, order-length, order-new, order-every}
 use Rattle.theory.specs.Outcomes.Places.{refused-places}
 use Rattle.theory.specs.Outcomes.Determined.{refused-unformed}
-use Rattle.theory.specs.Stages.Records.{records-none, records-states}
+use Rattle.theory.specs.Stages.Records.{records-none, records-sum, records-states}
 
 -- A state that is removed at its turn: it is live, and not the start.
 abbrev pub Removable : Chain → ℕ → Type 0
@@ -116,16 +116,46 @@ finished-through z (through e) = refl
 finished-through z (before-steps e h) = absurd (omega (arith, z, e))
 finished-through z (in-step e h) = absurd (omega (arith, z, e))
 
-module _ (l : Lent) where
-  -- Where the companion answers, the records that it wrote are those of the states that are removed, each once, in the order's order.
-  pub steps-states : {before after : List StepRecord} {a : Answer} {count : ℕ} {w : List ℕ} → a .number ≡ 0
-      → StepsOutcome l before a count w after → RemovedOnce (l .chain) (l .order) (statesOf (take count after))
-  steps-states {before} {after} {a} {count} z s = at (s .list)
+-- The sum of what f says of the record of each state that is removed, along the order.
+abbrev pub sumAlong : Lent → Sets → (StepRecord → ℕ) → ℕ
+sumAlong l k f =
+    let n = l .chain .states in
+    sumTo (λ p. only (goes (l .chain .start) (k .live) (turn l p)) (f (recordOf n (turn l p) (tableAt exact l k p)))) n
+
+-- Where the companion answers, the records of the whole run stand at the front of the list.
+pub record WholeRun (l : Lent) (count : ℕ) (after : List StepRecord) : Type 0 where
+  pub formed : WellFormed listing l
+  pub sets : Sets
+  pub right : Right (l .chain) sets
+  pub front : take count after ≡ recordsTo l sets (l .chain .states)
+  pub counted : count ≡ length (recordsTo l sets (l .chain .states))
+
+module _ (l : Lent) {before after : List StepRecord} {a : Answer} {count : ℕ} {w : List ℕ} (answers : a .number ≡ 0)
+    (s : StepsOutcome l before a count w after) where
+  pub steps-through : WholeRun l count after
+  steps-through = at (s .list)
     where
-      at : Listed l a before count after → RemovedOnce (l .chain) (l .order) (statesOf (take count after))
-      at (untouched number place r c e) = absurd (unrefused z (s .outcome) r)
+      at : Listed l a before count after → WholeRun l count after
+      at (untouched number place r c e) = absurd (unrefused answers (s .outcome) r)
       at (listed f k right p t c e) =
           let r = recordsTo l k (l .chain .states) in
-          let written : take count after ≡ r =
-          rw (c, e, finished-through z t) (take-append-seam r (drop (length r) before)) in
-          rw written (records-removed listing l f refl k right)
+          record {
+            formed = f;
+            sets = k;
+            right = right;
+            front = rw (c, e, finished-through answers t) (take-append-seam r (drop (length r) before));
+            counted = rw (finished-through answers t) at c;
+          }
+
+  -- They are those of the states that are removed, each once, in the order's order.
+  pub steps-states : RemovedOnce (l .chain) (l .order) (statesOf (take count after))
+  steps-states = let r = steps-through in rw (r .front) (records-removed listing l (r .formed) refl (r .sets) (r .right))
+
+  -- What they sum to, of any number that a record has, is the sum along the order of the states that are removed.
+  pub steps-sum : (f : StepRecord → ℕ) (d : StepRecord) (k : Sets) → Right (l .chain) k
+      → sumTo (λ i. f (getD (take count after) i d)) count ≡ sumAlong l k f
+  steps-sum f d k right =
+      let r = steps-through in
+      ap₂ (λ records m. sumTo (λ i. f (getD records i d)) m) (r .front) (r .counted)
+      ∙ records-sum (l .chain .states) (goes (l .chain .start) (r .sets .live)) (turn l) (tableAt exact l (r .sets)) f d (l .chain .states)
+      ∙ ap (λ k. sumAlong l k f) (right-one (r .right) right)
