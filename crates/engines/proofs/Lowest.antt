@@ -54,7 +54,7 @@ over-parts d r m =
 over-one : (r : Row) → over 1 r ≡ r
 over-one r = ext-getD 0 (over 1 r) r (over-length 1 r) (λ j h. over-at 1 r j ∙ div-one (cell r j))
 
-divisor-one : (r : Row) → gcdOf r ≤ 1 → divisor r ≡ 1
+pub divisor-one : (r : Row) → gcdOf r ≤ 1 → divisor r ≡ 1
 unfolding divisor
 divisor-one r h =
     ⊎-elim
@@ -65,8 +65,9 @@ divisor-one r h =
 pub lowest-same : (r : Row) (g : ℕ) → g ≡ gcdOf r → g ≤ 1 → r ≡ lowest r
 lowest-same r g e h = sym (rw (divisor-one r (omega arith)) (over-one r))
 
-pub lowest-over : (r q : Row) (g : ℕ) → g ≡ gcdOf r → 1 < g → q ≡ over g r → q ≡ lowest r
+pub divisor-large : (r : Row) (g : ℕ) → g ≡ gcdOf r → 1 < g → g ≡ divisor r
 unfolding divisor
-lowest-over r q g e h k =
-    let d : gcdOf r ≡ 0 → ⊥ = λ z. omega arith in
-    k ∙ rw (e, ne-eqb (gcdOf r) 0 d)
+divisor-large r g e h = let d : gcdOf r ≡ 0 → ⊥ = λ z. omega arith in rw (ne-eqb (gcdOf r) 0 d) e
+
+pub lowest-over : (r q : Row) (g : ℕ) → g ≡ gcdOf r → 1 < g → q ≡ over g r → q ≡ lowest r
+lowest-over r q g e h k = k ∙ ap (λ (d : ℕ). over d r) (divisor-large r g e h)

@@ -13,10 +13,12 @@ use borrow.Author.Tests.{le-ltb, lt-ltb, eq-eqb, ne-eqb}
 use Rattle.meaning.specs.Number.{sumTo, choose}
 use Rattle.meaning.specs.Chain.{M}
 use Rattle.meaning.specs.Row.{Row, cell, total, reward, divisor, over, lowest, upTo, shiftOf, topped, roundedBy, rounded, bounded, settled, width, unknownColumn, rewardColumn}
+use Rattle.meaning.specs.Steps.{takenOut}
 use Rattle.meaning.specs.Step.{noRow, combined, renewed}
 use Rattle.theory.specs.Numbers.Sum.{sum-ext, sum-le, sum-zero, sum-next, sum-up, sum-mix, sum-term}
 use Rattle.theory.specs.Numbers.Tab.{tab-at, tab-length}
 use Rattle.theory.specs.Numbers.Shift.{pow-whole, shift-fits}
+use Rattle.engines.specs.declared.row.Settled.{Settled}
 use Rattle.engines.specs.Row.{Small, Summable, Fit, Tested, Became}
 use Rattle.engines.proofs.Loop.{zeros, getD-zeros}
 use Rattle.engines.proofs.Lowest.{over-at, over-sum, over-parts}
@@ -160,6 +162,20 @@ module _ (b : Bool) (n s d : ℕ) (p r : Row) where
   unfolding renewed
   renewed-some o e h = rw (e, ne-eqb (cell r s) 0 h)
 
+-- The divisor that is taken out of it.
+module _ (s d : ℕ) (p r : Row) where
+  pub taken-own : (o : Bool) → o ≡ true → takenOut s d p o r ≡ 1
+  unfolding takenOut
+  taken-own o e = rw e
+
+  pub taken-none : (o : Bool) → o ≡ false → cell r s ≡ 0 → takenOut s d p o r ≡ 1
+  unfolding takenOut
+  taken-none o e h = rw (e, eq-eqb (cell r s) 0 h)
+
+  pub taken-some : (o : Bool) → o ≡ false → (cell r s ≡ 0 → ⊥) → takenOut s d p o r ≡ divisor (combined s d p r)
+  unfolding takenOut
+  taken-some o e h = rw (e, ne-eqb (cell r s) 0 h)
+
 -- Answers that are known.
 pub apart : false ≡ true → ⊥
 apart e = let z : _≡_ {A = ℕ} 0 1 = cc in omega arith
@@ -167,9 +183,10 @@ apart e = let z : _≡_ {A = ℕ} 0 1 = cc in omega arith
 pub tested-fit : {b : Bool} {n : ℕ} {r : Row} → Fit b n r → Tested b n r true
 tested-fit f = record { fit = λ _. f; large = λ e. absurd (apart (sym e)) }
 
--- A row that is known, and whether it fits.
-pub became : {b : Bool} {n : ℕ} {r v : Row} {answer : Bool} → v ≡ r → Tested b n v answer → Became b n r v answer
-became {b} {n} {answer = answer} e t = record { same = e; tested = subst (λ z. Tested b n z answer) e t }
+-- A row that is known, whether it fits, and the divisor that was taken out of it.
+pub became : {b : Bool} {n : ℕ} {r : Row} {taken : ℕ} {v : Row} {answer : Settled} → v ≡ r → Tested b n v (answer .fits) → answer .divisor ≡ taken
+    → Became b n r taken v answer
+became {b} {n} {answer = answer} e t d = record { same = e; tested = subst (λ z. Tested b n z (answer .fits)) e t; told = d }
 
 pub tested-total : {n : ℕ} {r : Row} → M < total n r → Tested false n r false
 tested-total h = record { fit = λ e. absurd (apart e); large = λ _. (refl, inl h) }

@@ -12,6 +12,7 @@ use lib.Seq.{length-take-le, take-at, drop-at, ext-getD, getD-take, getD-drop, d
 use borrow.Rule.Slice.PartMut.{putMid, drop-put, same-len-mid}
 use Rattle.meaning.specs.Row.{Row, width}
 use Rattle.meaning.specs.Refusal.{workSize}
+use Rattle.engines.specs.declared.row.Settled.{Settled}
 use Rattle.engines.specs.Row.{Became}
 use Rattle.engines.specs.Table.{rowAt, Kept, Put, Placed}
 
@@ -122,12 +123,13 @@ put-with n w room i b r l =
     }
 
 -- A row that was lent as `lent` says, has become r, and is back.
-pub row-placed : (n : ℕ) (w : List ℕ) (room : workSize n ≤ length w) (i : ℕ) (h : i < n) (a : ℕ) (p : a ≡ i * width n) {b : Bool} {q r : Row} {answer : Bool}
-    → length q ≡ length (take (a + n + 4 - a) (drop a w)) → Became b n r q answer → Placed b n w i r (putMid a (a + n + 4 - a) w q) answer
+pub row-placed : (n : ℕ) (w : List ℕ) (room : workSize n ≤ length w) (i : ℕ) (h : i < n) (a : ℕ) (p : a ≡ i * width n) {b : Bool} {q r : Row} {taken : ℕ} {answer : Settled}
+    → length q ≡ length (take (a + n + 4 - a) (drop a w)) → Became b n r taken q answer → Placed b n w i r taken (putMid a (a + n + 4 - a) w q) answer
 row-placed n w room i h a p {q = q} l z =
     record {
       put =
           rw (back n i a p w q, ← z .same)
           (put-with n w room i h q (l ∙ ap length (lent n i a p w) ∙ length-row n w room i h));
       tested = z .tested;
+      told = z .told;
     }

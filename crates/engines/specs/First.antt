@@ -8,7 +8,7 @@ use lib.ListN.{length, getD, set}
 use Rattle.meaning.specs.Number.{only, choose, bit}
 use Rattle.meaning.specs.Chain.{mostStates, M, mostReward, Chain, denominator, edgeCount, from, to, weight, carried, rowSum}
 use Rattle.meaning.specs.Figure.{earned}
-use Rattle.meaning.specs.Row.{Row, cell, width, total, goalColumn, trapColumn, rewardColumn, settled, rounding}
+use Rattle.meaning.specs.Row.{Row, cell, width, total, goalColumn, trapColumn, rewardColumn, divisor, settled, rounding}
 use Rattle.meaning.specs.Step.{Sets, Right}
 use Rattle.meaning.specs.Refusal.{workSize}
 use Rattle.theory.specs.Chains.Fine.{Fine}
@@ -54,6 +54,10 @@ pub record Gatherable (n : ℕ) (edges w : List ℕ) : Type 0 where
 -- A row that is gathered, with what it earns, and settled; the row of a state that is not live stays.
 unfoldable pub finished : Bool → ℕ → Bool → ℕ → Row → Row
 finished b n alive earns r = choose alive (settled b n (set r (rewardColumn n) earns)) r
+
+-- The divisor that is taken out of it: 1 of the row of a state that is not live.
+unfoldable pub finishedDivisor : ℕ → Bool → ℕ → Row → ℕ
+finishedDivisor n alive earns r = choose alive (divisor (set r (rewardColumn n) earns)) 1
 
 -- What is known of a gathered row: the row of a live state can be summed, that of another fits, and the bounds engine earns nothing.
 pub record Unfinished (b : Bool) (n : ℕ) (alive : Bool) (earns : ℕ) (r : Row) : Type 0 where

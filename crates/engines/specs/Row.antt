@@ -6,6 +6,7 @@ use lib.ListN.{length}
 use Rattle.meaning.specs.Chain.{M}
 use Rattle.meaning.specs.Row.{Row, cell, width, total, reward, exact, rounding}
 use Rattle.meaning.specs.Stop.{Large}
+use Rattle.engines.specs.declared.row.Settled.{Settled}
 
 -- Each of the first m numbers of the row is at most M.
 abbrev pub Small : ℕ → Row → Type 0
@@ -27,7 +28,8 @@ pub record Tested (b : Bool) (n : ℕ) (r : Row) (answer : Bool) : Type 0 where
   pub fit : answer ≡ true → Fit b n r
   pub large : answer ≡ false → (b ≡ exact) × Large n r
 
--- A row has become r, which is v, and the answer says whether it fits.
-pub record Became (b : Bool) (n : ℕ) (r v : Row) (answer : Bool) : Type 0 where
+-- A row has become r, which is v, and the answer says whether it fits, and which divisor was taken out.
+pub record Became (b : Bool) (n : ℕ) (r : Row) (taken : ℕ) (v : Row) (answer : Settled) : Type 0 where
   pub same : v ≡ r
-  pub tested : Tested b n r answer
+  pub tested : Tested b n r (answer .fits)
+  pub told : answer .divisor ≡ taken

@@ -11,6 +11,7 @@ use Rattle.meaning.specs.Refusal.{workSize}
 use Rattle.meaning.specs.Step.{Table}
 use Rattle.meaning.specs.Stop.{Large}
 use Rattle.engines.specs.Row.{Fit, Tested}
+use Rattle.engines.specs.declared.row.Settled.{Settled}
 
 -- Row i of the table in w.
 unfoldable pub rowAt : ℕ → List ℕ → ℕ → Row
@@ -36,10 +37,11 @@ pub record Put (n : ℕ) (w : List ℕ) (i : ℕ) (r : Row) (v : List ℕ) : Typ
   pub here : rowAt n v i ≡ r
   pub other : (j : ℕ) → j < n → (j ≡ i → ⊥) → rowAt n v j ≡ rowAt n w j
 
--- Row i of w has become r, in v, and the answer says whether it fits.
-pub record Placed (b : Bool) (n : ℕ) (w : List ℕ) (i : ℕ) (r : Row) (v : List ℕ) (answer : Bool) : Type 0 where
+-- Row i of w has become r, in v, and the answer says whether it fits, and which divisor was taken out.
+pub record Placed (b : Bool) (n : ℕ) (w : List ℕ) (i : ℕ) (r : Row) (taken : ℕ) (v : List ℕ) (answer : Settled) : Type 0 where
   pub put : Put n w i r v
-  pub tested : Tested b n r answer
+  pub tested : Tested b n r (answer .fits)
+  pub told : answer .divisor ≡ taken
 
 -- In v each row k of w has become g k, and fits; or some g k does not.
 pub record Renewed (b : Bool) (g : ℕ → Row) (n : ℕ) (w v : List ℕ) (answer : Bool) : Type 0 where

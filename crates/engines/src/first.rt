@@ -12,9 +12,10 @@ ghost use Rattle.meaning.specs.Step.{first};
 ghost use Rattle.engines.specs.Row.{Became};
 ghost use Rattle.engines.specs.Table.{rowAt, Put, Placed, Renewed};
 ghost use Rattle.survey.specs.Sets.{chainOf, setsOf};
-ghost use Rattle.engines.specs.First.{columnOf, share, Added, Held, Addable, Gatherable, finished, Unfinished, finishedAt, Finishable, Makeable};
+ghost use Rattle.engines.specs.First.{columnOf, share, Added, Held, Addable, Gatherable, finished, finishedDivisor, Unfinished, finishedAt, Finishable, Makeable};
 ghost use Rattle.engines.specs.Turn.{Made};
 use crate::row::REWARD;
+use crate::row::Settled;
 use crate::row::TRAP;
 use crate::row::settle;
 use crate::run::Elimination;
@@ -80,32 +81,46 @@ fn gather(work: &mut [u64], n: usize, sets: Sets, edges: &[u64])
     }
 }
 
-// Puts what a live state earns into its row, and settles that. Answers whether it fits.
-fn finish(row: &mut [u64], n: usize, alive: bool, earns: u64, rounding: bool) -> bool
+// Puts what a live state earns into its row, and settles that.
+fn finish(row: &mut [u64], n: usize, alive: bool, earns: u64, rounding: bool) -> Settled
     requires { ⌜ (length (now row) ≡ width n) × (n ≤ mostStates) × Unfinished rounding n alive earns (now row) ⌝ }
-    ensures { λ r. ⌜ Became rounding n (finished rounding n alive earns (now (row .entry))) (now (row .exit)) r ⌝ }
+    ensures { λ r.
+        let z = now (row .entry) in
+        ⌜ Became rounding n (finished rounding n alive earns z) (finishedDivisor n alive earns z) (now (row .exit)) r ⌝ }
 {
     if alive {
         row[n + REWARD] = earns;
         return settle(row, n, rounding);
     }
-    true
+    Settled {
+        fits: true,
+        divisor: 1,
+    }
 }
 
 // Finishes row i of the table. The rest of the work table is as it was.
-fn finish_row(work: &mut [u64], i: usize, n: usize, live: u64, earns: u64, rounding: bool) -> bool
+fn finish_row(
+    work: &mut [u64],
+    i: usize,
+    n: usize,
+    live: u64,
+    earns: u64,
+    rounding: bool,
+) -> Settled
     requires { let w = now work in
         ⌜ (workSize n ≤ length w) × (n ≤ mostStates) × (i < n) × Unfinished rounding n (eqb (bit live i) 1) earns (rowAt n w i) ⌝ }
     ensures { λ r.
         let w = now (work .entry) in
-        ⌜ Placed rounding n w i (finished rounding n (eqb (bit live i) 1) earns (rowAt n w i)) (now (work .exit)) r ⌝ }
+        let z = rowAt n w i in
+        let alive = eqb (bit live i) 1 in
+        ⌜ Placed rounding n w i (finished rounding n alive earns z) (finishedDivisor n alive earns z) (now (work .exit)) r ⌝ }
 {
     let a = row_start(n, i);
     let e = a + n + Chain::BESIDE;
     finish(&mut work[a..e], n, holds(live, i), earns, rounding)
 }
 
-// Finishes each row, up to the first that does not fit. Answers whether all fit.
+// Finishes each row, up to the first that does not fit. Answers whether all fit; no record is of a first row, so the divisors end here.
 fn finish_all(
     work: &mut [u64],
     n: usize,
@@ -122,7 +137,8 @@ fn finish_all(
     let mut i = 0;
     while i < n {
         let earns = at(rewards, i) * denominators[i];
-        if !finish_row(work, i, n, live, earns, rounding) {
+        let r = finish_row(work, i, n, live, earns, rounding);
+        if !r.fits {
             return false;
         }
         i += 1;

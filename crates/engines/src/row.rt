@@ -5,7 +5,7 @@ ghost use Prim.Native.Nat.{_^_, _<_, _≤_};
 ghost use lib.ListN.{length};
 ghost use Rattle.meaning.specs.Chain.{M};
 ghost use Rattle.meaning.specs.Number.{sumTo};
-ghost use Rattle.meaning.specs.Row.{cell, total, reward, gcdOf, over, lowest, upTo, shiftOf, rounded, bounded, settled};
+ghost use Rattle.meaning.specs.Row.{cell, total, reward, gcdOf, divisor, over, lowest, upTo, shiftOf, rounded, bounded, settled};
 ghost use Rattle.engines.specs.Row.{Summable, Tested, Became};
 use chain::Chain;
 use chain::fraction::gcd;
@@ -16,6 +16,12 @@ pub(crate) const TRAP: usize = 1;
 pub(crate) const UNKNOWN: usize = 2;
 
 pub(crate) const REWARD: usize = 3;
+
+// What became of a new row: whether it fits, and the divisor that was taken out of it. Of a table of rows it is the largest of these.
+pub(crate) struct Settled {
+    pub fits: bool,
+    pub divisor: u64,
+}
 
 // The greatest common divisor of the numbers of a row, 0 where all are 0. Once it is 1 the other numbers are not read.
 fn common(row: &[u64]) -> u64
@@ -45,15 +51,16 @@ fn divide(row: &mut [u64], d: u64)
     }
 }
 
-// Brings a row to lowest terms. A row of zeros stays, and so does a row whose divisor is 1.
-pub(crate) fn reduce(row: &mut [u64])
-    ensures { λ _. ⌜ now (row .exit) ≡ lowest (now (row .entry)) ⌝ }
+// Brings a row to lowest terms, and answers the divisor that it took out. A row of zeros stays, and so does a row whose divisor is 1.
+pub(crate) fn reduce(row: &mut [u64]) -> u64
+    ensures { λ r. ⌜ (now (row .exit) ≡ lowest (now (row .entry))) × (r ≡ divisor (now (row .entry))) ⌝ }
 {
     let g = common(row);
     if g <= 1 {
-        return;
+        return 1;
     }
     divide(row, g);
+    g
 }
 
 // The sum of the first m numbers of a row.
@@ -139,15 +146,19 @@ fn fits(row: &[u64], n: usize) -> bool
     true
 }
 
-// Brings a new row to what is kept of it, and says whether it fits. A rounded row always does.
-pub(crate) fn settle(row: &mut [u64], n: usize, rounding: bool) -> bool
+// Brings a new row to what is kept of it. A rounded row always fits.
+pub(crate) fn settle(row: &mut [u64], n: usize, rounding: bool) -> Settled
     requires { ⌜ Summable n (now row) × (rounding ≡ true → reward n (now row) ≡ 0) ⌝ }
-    ensures { λ r. ⌜ Became rounding n (settled rounding n (now (row .entry))) (now (row .exit)) r ⌝ }
+    ensures { λ r. ⌜ Became rounding n (settled rounding n (now (row .entry))) (divisor (now (row .entry))) (now (row .exit)) r ⌝ }
 {
-    reduce(row);
+    let divisor = reduce(row);
     if rounding {
         bound(row, n);
-        return true;
+        return Settled {
+            fits: true,
+            divisor,
+        };
     }
-    fits(row, n)
+    let fits = fits(row, n);
+    Settled { fits, divisor }
 }

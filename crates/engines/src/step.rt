@@ -1,17 +1,20 @@
 // A step: one state is removed from the table, one row at a time.
 ghost use mathlib.Core.Path.{_≡_};
-ghost use Prim.Native.Nat.{ℕ, _+_, _*_, _<_, _≤_};
+ghost use mathlib.Core.Bool.{true};
+ghost use Prim.Native.Nat.{ℕ, _+_, _*_, _<_, _≤_, max};
 ghost use lib.ListN.{length, getD};
 ghost use lib.Dec.{eqb};
 ghost use Rattle.meaning.specs.Chain.{mostStates, M};
-ghost use Rattle.meaning.specs.Number.{choose};
-ghost use Rattle.meaning.specs.Row.{width, settled};
+ghost use Rattle.meaning.specs.Number.{choose, largest};
+ghost use Rattle.meaning.specs.Row.{width, divisor, settled};
 ghost use Rattle.meaning.specs.Refusal.{workSize};
 ghost use Rattle.meaning.specs.Step.{combined, renewed, outside, removed};
+ghost use Rattle.meaning.specs.Steps.{takenOut, largestTaken};
 ghost use Rattle.engines.specs.Row.{Small, Fit, Became};
 ghost use Rattle.engines.specs.Table.{rowAt, tableOf, Placed, Renewed, Fitting};
 ghost use Rattle.engines.specs.Turn.{Made};
 use crate::row::REWARD;
+use crate::row::Settled;
 use crate::row::settle;
 use crate::row::sum;
 use crate::work::clear;
@@ -40,7 +43,7 @@ pub(crate) fn combine(row: &mut [u64], pivot: &[u64; Chain::WIDTH], s: usize, d:
     }
 }
 
-// The row of another state, which has a weight to s, once s is removed. Answers whether it fits.
+// The row of another state, which has a weight to s, once s is removed.
 fn change(
     row: &mut [u64],
     n: usize,
@@ -48,9 +51,11 @@ fn change(
     d: u64,
     pivot: &[u64; Chain::WIDTH],
     rounding: bool,
-) -> bool
+) -> Settled
     requires { ⌜ (length (now row) ≡ width n) × (n ≤ mostStates) × (s < n) × (d ≤ M) × Fit rounding n (now row) × Fit rounding n (now pivot) ⌝ }
-    ensures { λ r. ⌜ Became rounding n (settled rounding n (combined s d (now (pivot .entry)) (now (row .entry)))) (now (row .exit)) r ⌝ }
+    ensures { λ r.
+        let z = combined s d (now (pivot .entry)) (now (row .entry)) in
+        ⌜ Became rounding n (settled rounding n z) (divisor z) (now (row .exit)) r ⌝ }
 {
     combine(row, pivot, s, d);
     settle(row, n, rounding)
@@ -65,16 +70,25 @@ fn renew(
     d: u64,
     pivot: &[u64; Chain::WIDTH],
     rounding: bool,
-) -> bool
+) -> Settled
     requires { ⌜ (length (now row) ≡ width n) × (n ≤ mostStates) × (s < n) × (d ≤ M) × Fit rounding n (now row) × Fit rounding n (now pivot) ⌝ }
-    ensures { λ r. ⌜ Became rounding n (renewed rounding n s d (now (pivot .entry)) own (now (row .entry))) (now (row .exit)) r ⌝ }
+    ensures { λ r.
+        let p = now (pivot .entry) in
+        let z = now (row .entry) in
+        ⌜ Became rounding n (renewed rounding n s d p own z) (takenOut s d p own z) (now (row .exit)) r ⌝ }
 {
     if own {
         clear(row);
-        return true;
+        return Settled {
+            fits: true,
+            divisor: 1,
+        };
     }
     if row[s] == 0 {
-        return true;
+        return Settled {
+            fits: true,
+            divisor: 1,
+        };
     }
     change(row, n, s, d, pivot, rounding)
 }
@@ -88,12 +102,14 @@ fn renew_row(
     d: u64,
     pivot: &[u64; Chain::WIDTH],
     rounding: bool,
-) -> bool
+) -> Settled
     requires { let w = now work in
         ⌜ (workSize n ≤ length w) × (n ≤ mostStates) × (i < n) × (s < n) × (d ≤ M) × Fit rounding n (rowAt n w i) × Fit rounding n (now pivot) ⌝ }
     ensures { λ r.
         let w = now (work .entry) in
-        ⌜ Placed rounding n w i (renewed rounding n s d (now (pivot .entry)) (eqb i s) (rowAt n w i)) (now (work .exit)) r ⌝ }
+        let p = now (pivot .entry) in
+        let z = rowAt n w i in
+        ⌜ Placed rounding n w i (renewed rounding n s d p (eqb i s) z) (takenOut s d p (eqb i s) z) (now (work .exit)) r ⌝ }
 {
     let a = row_start(n, i);
     let e = a + n + Chain::BESIDE;
@@ -122,7 +138,14 @@ pub(crate) fn outside(row: &[u64], n: usize, s: usize, rounding: bool) -> u64
     sum(row, n + REWARD) - row[s]
 }
 
-// Renews each row, up to the first that does not fit. Answers whether all fit.
+// The larger of two numbers.
+fn larger(a: u64, b: u64) -> u64
+    ensures { λ r. ⌜ r ≡ max a b ⌝ }
+{
+    if a < b { b } else { a }
+}
+
+// Renews each row, up to the first that does not fit.
 fn renew_all(
     work: &mut [u64],
     n: usize,
@@ -130,28 +153,37 @@ fn renew_all(
     d: u64,
     pivot: &[u64; Chain::WIDTH],
     rounding: bool,
-) -> bool
+) -> Settled
     requires { ⌜ Fitting rounding n (now work) × (s < n) × (d ≤ M) × Fit rounding n (now pivot) ⌝ }
     ensures { λ r.
         let w = now (work .entry) in
-        ⌜ Renewed rounding (λ k. renewed rounding n s d (now (pivot .entry)) (eqb k s) (rowAt n w k)) n w (now (work .exit)) r ⌝ }
+        let p = now (pivot .entry) in
+        ⌜ Renewed rounding (λ k. renewed rounding n s d p (eqb k s) (rowAt n w k)) n w (now (work .exit)) (r .fits)
+        × (r .fits ≡ true → r .divisor ≡ largest (λ k. takenOut s d p (eqb k s) (rowAt n w k)) n) ⌝ }
 {
+    let mut divisor = 1;
     let mut i = 0;
     while i < n {
-        if !renew_row(work, i, n, s, d, pivot, rounding) {
-            return false;
+        let r = renew_row(work, i, n, s, d, pivot, rounding);
+        if !r.fits {
+            return r;
         }
+        divisor = larger(divisor, r.divisor);
         i += 1;
     }
-    true
+    Settled {
+        fits: true,
+        divisor,
+    }
 }
 
-// Removes the state s from the table. Answers whether each row fits.
-pub(crate) fn remove(work: &mut [u64], n: usize, s: usize, rounding: bool) -> bool
+// Removes the state s from the table.
+pub(crate) fn remove(work: &mut [u64], n: usize, s: usize, rounding: bool) -> Settled
     requires { ⌜ Fitting rounding n (now work) × (s < n) ⌝ }
     ensures { λ r.
         let w = now (work .entry) in
-        ⌜ Made rounding n (removed rounding n s (tableOf n w)) w (now (work .exit)) r ⌝ }
+        let t = tableOf n w in
+        ⌜ Made rounding n (removed rounding n s t) w (now (work .exit)) (r .fits) × (r .fits ≡ true → r .divisor ≡ largestTaken n s t) ⌝ }
 {
     let a = row_start(n, s);
     let e = a + n + Chain::BESIDE;

@@ -42,7 +42,8 @@ fn turn(work: &mut [u64], e: Elimination, s: usize) -> bool
 {
     if goes(s, e) {
         let c = e.chain;
-        return remove(work, c.states, s, e.rounding);
+        let r = remove(work, c.states, s, e.rounding);
+        return r.fits;
     }
     true
 }

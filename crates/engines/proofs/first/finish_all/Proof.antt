@@ -39,20 +39,20 @@ finish-row-requires c κs =
 
 returns : tie.Need-returns Inv-loop μ-loop
 returns c =
-    let z = c .before .before .before .before .before .before .before .before .loop .inv in
-    let b = c .before .before .before .before .before .before .before .loop-test .taken in
-    let r = c .before .before .before .before .before .before .at .ensures in
+    let z = c .before .before .before .before .before .before .before .before .before .loop .inv in
+    let b = c .before .before .before .before .before .before .before .before .loop-test .taken in
+    let r = c .before .before .before .before .before .before .before .at .ensures in
     let o = z .old _ (omega arith) b in
-    let e = c .before .before .before .finish-row .ensures in
+    let e = c .before .before .before .before .finish-row .ensures in
     renewing-stop z b (rw (r, o) at e) (not-true _ (c .if1 .taken))
 
 loop-again : tie.Need-loop-again Inv-loop μ-loop
 loop-again c =
-    let z = c .before .before .before .before .before .before .before .before .loop .inv in
-    let b = c .before .before .before .before .before .before .before .loop-test .taken in
-    let r = c .before .before .before .before .before .before .at .ensures in
+    let z = c .before .before .before .before .before .before .before .before .before .loop .inv in
+    let b = c .before .before .before .before .before .before .before .before .loop-test .taken in
+    let r = c .before .before .before .before .before .before .before .at .ensures in
     let o = z .old _ (omega arith) b in
-    let e = c .before .before .before .finish-row .ensures in
+    let e = c .before .before .before .before .finish-row .ensures in
     renewing-more z b (rw (r, o) at e) (not-false _ (c .if1 .left))
 
 returns-2 : tie.Need-returns-2 Inv-loop μ-loop

@@ -1,14 +1,19 @@
 use native.Mathlib.Omega.{arith}
 use borrow.Author.Needs.{needs}
-use Rattle.engines.proofs.Lowest.{lowest-same, lowest-over}
+use mathlib.Core.Path.{sym}
+use Rattle.engines.proofs.Lowest.{divisor-one, divisor-large, lowest-same, lowest-over}
 use Rattle.engines.proofs.row.reduce.Statement.{statement}
 use Rattle.engines.proofs.row.reduce.Tie as tie
 
 returns : tie.Need-returns
-returns c = lowest-same _ _ (c .before .common .ensures) (omega arith)
+returns c =
+    let e = c .before .common .ensures in
+    (lowest-same _ _ e (omega arith), sym (divisor-one _ (omega arith)))
 
 returns-2 : tie.Need-returns-2
-returns-2 c = lowest-over _ _ _ (c .before .before .before .before .before .common .ensures) (omega arith) (c .before .before .divide .ensures)
+returns-2 c =
+    let e = c .before .before .before .before .before .common .ensures in
+    (lowest-over _ _ _ e (omega arith) (c .before .before .divide .ensures), divisor-large _ _ e (omega arith))
 
 pub reduce-spec : {M : Type 1} → statement M
 reduce-spec =

@@ -2,7 +2,7 @@ use native.Mathlib.Omega.{arith}
 use borrow.Author.Needs.{needs}
 use Rattle.engines.specs.Table.{rowAt}
 use Rattle.engines.proofs.Tables.{lent, length-row}
-use Rattle.engines.proofs.Removal.{fit-same, removed-made}
+use Rattle.engines.proofs.Removal.{fit-same, removal}
 use Rattle.engines.proofs.step.remove.Statement.{statement}
 use Rattle.engines.proofs.step.remove.Tie as tie
 
@@ -51,7 +51,7 @@ returns c =
     let a = t .args in
     let w = a .work .now in
     let e = lent (a .n) (a .s) _ (b .row-start .ensures .0) w in
-    removed-made (a .rounding) (a .n) (a .s) w (t .pre .1) _ (rw e at (o .outside .ensures .0)) _ (λ j. rw e at (p .load .ensures j)) (r .renew-all .ensures)
+    removal (a .rounding) (a .n) (a .s) w (t .pre .1) _ (rw e at (o .outside .ensures .0)) _ (λ j. rw e at (p .load .ensures j)) (r .renew-all .ensures)
 
 pub remove-spec : {M : Type 1} → statement M
 remove-spec =

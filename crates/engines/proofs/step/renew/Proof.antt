@@ -1,6 +1,6 @@
 use mathlib.Core.Path.{sym, _∙_}
 use borrow.Author.Needs.{needs}
-use Rattle.engines.proofs.Rows.{renewed-own, renewed-none, renewed-some, tested-fit, became, noRow-fit, zeros-noRow}
+use Rattle.engines.proofs.Rows.{renewed-own, renewed-none, renewed-some, taken-own, taken-none, taken-some, tested-fit, became, noRow-fit, zeros-noRow}
 use Rattle.engines.proofs.step.renew.Statement.{statement}
 use Rattle.engines.proofs.step.renew.Tie as tie
 
@@ -12,6 +12,7 @@ returns c =
     became
     (e ∙ sym (renewed-own (a .rounding) (a .n) (a .s) (a .d) (a .pivot .now) (a .row .now) (a .own) (c .before .before .before .before .if1 .taken)))
     (rw e (tested-fit (noRow-fit (a .rounding) (a .n))))
+    (sym (taken-own (a .s) (a .d) (a .pivot .now) (a .row .now) (a .own) (c .before .before .before .before .if1 .taken)))
 
 returns-2 : tie.Need-returns-2
 returns-2 c =
@@ -20,12 +21,15 @@ returns-2 c =
     became
     (sym (renewed-none (a .rounding) (a .n) (a .s) (a .d) (a .pivot .now) (a .row .now) (a .own) (c .before .before .if1 .left) (c .if2 .taken)))
     (tested-fit (s .pre .4))
+    (sym (taken-none (a .s) (a .d) (a .pivot .now) (a .row .now) (a .own) (c .before .before .if1 .left) (c .if2 .taken)))
 
 returns-3 : tie.Need-returns-3
 returns-3 c =
     let s = c .before .before .before .before .before .before in
     let a = s .before .before .args in
-    rw (renewed-some (a .rounding) (a .n) (a .s) (a .d) (a .pivot .now) (a .row .now) (a .own) (s .if1 .left) (c .before .before .before .before .if2 .left))
+    let y = s .if1 .left in
+    let z = c .before .before .before .before .if2 .left in
+    rw (renewed-some (a .rounding) (a .n) (a .s) (a .d) (a .pivot .now) (a .row .now) (a .own) y z, taken-some (a .s) (a .d) (a .pivot .now) (a .row .now) (a .own) y z)
     (c .before .before .change .ensures)
 
 pub renew-spec : {M : Type 1} → statement M

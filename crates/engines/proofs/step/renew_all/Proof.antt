@@ -1,49 +1,70 @@
-use Prim.Native.Nat.{_-_}
+use Prim.Native.Nat.{ℕ, _-_}
+use mathlib.Core.Path.{_≡_, refl, sym, _∙_}
+use mathlib.Core.List.{List}
 use native.Mathlib.Omega.{arith}
+use lib.Dec.{eqb}
 use borrow.Author.Needs.{needs}
 use borrow.Author.Tests.{not-true, not-false}
-use lib.Dec.{eqb}
+use Rattle.meaning.specs.Number.{largest}
+use Rattle.meaning.specs.Row.{Row}
 use Rattle.meaning.specs.Step.{renewed}
+use Rattle.meaning.specs.Steps.{takenOut}
 use Rattle.engines.specs.Table.{rowAt}
-use Rattle.engines.proofs.Removal.{Renewing, renewing-none, renewing-more, renewing-all, renewing-stop}
+use Rattle.engines.proofs.Rows.{apart}
+use Rattle.engines.proofs.Removal.{Renewing, renewing-none, renewing-more, renewing-all, renewing-stop, largest-more}
 use Rattle.engines.proofs.step.renew_all.Statement.{statement}
 use Rattle.engines.proofs.step.renew_all.Tie as tie
 
+-- The divisor that is taken out of row k of the table in w.
+abbrev taken : ℕ → ℕ → ℕ → Row → List ℕ → ℕ → ℕ
+taken n s d p w k = takenOut s d p (eqb k s) (rowAt n w k)
+
 abbrev Inv-loop : tie.InvT-loop
-Inv-loop work₀ n s d pivot rounding i₀ work i = Renewing rounding (λ k. renewed rounding n s d pivot (eqb k s) (rowAt n work₀ k)) n work₀ i work
+Inv-loop work₀ n s d pivot rounding divisor₀ i₀ work divisor i =
+    Renewing rounding (λ k. renewed rounding n s d pivot (eqb k s) (rowAt n work₀ k)) n work₀ i work
+    × (divisor ≡ largest (taken n s d pivot work₀) i)
 
 abbrev μ-loop : tie.MeasureT-loop
-μ-loop work₀ n s d pivot rounding i₀ work i = n - i
+μ-loop work₀ n s d pivot rounding divisor₀ i₀ work divisor i = n - i
 
 loop-holds : tie.Need-loop-holds Inv-loop μ-loop
-loop-holds c = renewing-none
+unfolding largest
+loop-holds c = (renewing-none, refl)
 
 renew-row-requires : tie.Need-renew-row-requires Inv-loop μ-loop
 renew-row-requires c κs =
     let p = c .before .before in
     let h = p .before .before .pre in
-    let z = p .loop .inv in
+    let z = p .loop .inv .0 in
     let b = c .before .loop-test .taken in
     (omega (arith, h .0 .room, z .kept .len), h .0 .few, b, h .1, h .2, rw (z .old _ (omega arith) b) (h .0 .fit _ b), h .3)
 
 returns : tie.Need-returns Inv-loop μ-loop
 returns c =
-    let z = c .before .before .before .before .before .before .loop .inv in
-    let b = c .before .before .before .before .before .loop-test .taken in
-    let o = z .old _ (omega arith) b in
-    let e = c .before .before .before .renew-row .ensures in
-    renewing-stop z b (rw o at e) (not-true _ (c .if1 .taken))
+    let at = c .before .before .before .before in
+    let test = at .before .before in
+    let z = test .before .loop .inv .0 in
+    let b = test .loop-test .taken in
+    let f = not-true (at .renew-row .result .fits) (c .if1 .taken) in
+    let e = rw (z .old _ (omega arith) b) at (at .renew-row .ensures) in
+    (rw f (renewing-stop z b e f), λ t. absurd (apart (sym f ∙ t)))
 
 loop-again : tie.Need-loop-again Inv-loop μ-loop
 loop-again c =
-    let z = c .before .before .before .before .before .before .loop .inv in
-    let b = c .before .before .before .before .before .loop-test .taken in
-    let o = z .old _ (omega arith) b in
-    let e = c .before .before .before .renew-row .ensures in
-    renewing-more z b (rw o at e) (not-false _ (c .if1 .left))
+    let at = c .before .before .before .before .before in
+    let test = at .before .before in
+    let z = test .before .loop .inv in
+    let b = test .loop-test .taken in
+    let a = test .before .before .before .args in
+    let e = rw (z .0 .old _ (omega arith) b) at (at .renew-row .ensures) in
+    (renewing-more (z .0) b e (not-false _ (c .before .if1 .left)), largest-more (taken (a .n) (a .s) (a .d) (a .pivot .now) (a .work .now)) (z .1) (e .told) (c .larger .ensures))
 
 returns-2 : tie.Need-returns-2 Inv-loop μ-loop
-returns-2 c = renewing-all (c .before .loop .inv) (omega arith)
+returns-2 c =
+    let z = c .before .loop .inv in
+    let n = c .before .before .before .args .n in
+    let e : c .before .loop .i ≡ n = omega (arith, z .0 .soFar, c .loop-test .left) in
+    (renewing-all (z .0) (c .loop-test .left), λ _. rw e at (z .1))
 
 pub renew-all-spec : {M : Type 1} → statement M
 renew-all-spec =
@@ -55,6 +76,7 @@ renew-all-spec =
     renew-row-requires
     (λ c. search needs)
     returns
+    (λ c κs. search needs)
     (λ c. search needs)
     (λ c. search needs)
     loop-again

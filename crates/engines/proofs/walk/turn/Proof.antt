@@ -12,7 +12,7 @@ returns c =
     let g = c .before .before .before .before .before .before in
     let a = g .before .before .args in
     made-goes (tableOf (a .e .chain .states) (a .work .now)) (going (a .e) (a .s)) (sym (g .goes .ensures) ∙ c .before .before .before .before .before .if1 .taken)
-    (c .before .before .remove .ensures)
+    (c .before .before .remove .ensures .0)
 
 returns-2 : tie.Need-returns-2
 returns-2 c =
