@@ -4,6 +4,7 @@ pub mod Rows
 pub mod Shifts
 pub mod Tables
 pub mod Removal
+pub mod Noting
 pub mod Turns
 pub mod Cells
 pub mod FirstRows

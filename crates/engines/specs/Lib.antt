@@ -1,6 +1,7 @@
 pub mod Row
 pub mod Table
 pub mod Turn
+pub mod Log
 pub mod Order
 pub mod Answer
 pub mod Looking

@@ -2,6 +2,7 @@
 pub mod answer;
 pub mod entry;
 mod first;
+mod log;
 mod looking;
 mod row;
 mod run;

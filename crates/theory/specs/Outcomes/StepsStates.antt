@@ -48,7 +48,7 @@ module _ (c : Chain) (k : Sets) (right : Right c k) where
   live-start begin u g = record { unwon = u; reached = begin; leads = g }
   live-start (step e l f v) u g = live-start f v (PathTo.step e l g)
 
-  none-goes : (Live c (c .start) → ⊥) → (s : ℕ) → goes (c .start) (k .live) s ≡ false
+  pub none-goes : (Live c (c .start) → ⊥) → (s : ℕ) → goes (c .start) (k .live) s ≡ false
   none-goes dead s = at (goes (c .start) (k .live) s) refl
     where
       at : (b : Bool) → goes (c .start) (k .live) s ≡ b → b ≡ false

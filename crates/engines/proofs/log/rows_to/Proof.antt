@@ -1,0 +1,64 @@
+use Prim.Native.Nat.{ℕ, _-_, _≤_}
+use mathlib.Core.Path.{_≡_}
+use mathlib.Core.List.{List}
+use native.Mathlib.Omega.{arith}
+use lib.Dec.{eqb}
+use borrow.Author.Needs.{needs}
+use Rattle.meaning.specs.Number.{choose, present}
+use Rattle.meaning.specs.Row.{cell}
+use Rattle.meaning.specs.Step.{row}
+use Rattle.engines.specs.Table.{tableOf}
+use Rattle.engines.proofs.Tables.{row-cell}
+use Rattle.engines.proofs.Removal.{row-is}
+use Rattle.engines.proofs.Noting.{Counting, counting-none, counting-more}
+use Rattle.engines.proofs.log.rows_to.Statement.{statement}
+use Rattle.engines.proofs.log.rows_to.Tie as tie
+
+-- Whether row i counts.
+abbrev leads : ℕ → ℕ → List ℕ → ℕ → ℕ
+leads n s w i = choose (eqb i s) 0 (present (cell (row (tableOf n w) i) s))
+
+abbrev Inv-loop : tie.InvT-loop
+Inv-loop work n s rows₀ i₀ rows i = Counting (leads n s work) i rows × (i ≤ n)
+
+abbrev μ-loop : tie.MeasureT-loop
+μ-loop work n s rows₀ i₀ rows i = n - i
+
+loop-holds : tie.Need-loop-holds Inv-loop μ-loop
+loop-holds c = (counting-none _, omega arith)
+
+loop-again : tie.Need-loop-again Inv-loop μ-loop
+loop-again c =
+    let at = c .before .before in
+    let test = at .before in
+    let z = test .before .loop .inv in
+    let a = test .before .before .before .args in
+    let b = test .loop-test .taken in
+    let i = test .before .loop .i in
+    let w = a .work .now in
+    let e = row-cell (a .n) w i (a .s) (omega (arith, test .before .before .before .pre .2)) in
+    (counting-more (z .0) (rw (row-is (a .n) w i b, e, ← at .row-start .ensures .0) (c .counted .ensures)), omega arith)
+
+returns : tie.Need-returns Inv-loop μ-loop
+returns c =
+    let z = c .before .loop .inv in
+    let e : c .before .loop .i ≡ c .before .before .before .args .n = omega (arith, z .1, c .loop-test .left) in
+    rw e at (z .0 .sum)
+
+pub rows-to-spec : {M : Type 1} → statement M
+rows-to-spec =
+    tie.close
+    (tie.spec
+    Inv-loop
+    μ-loop
+    loop-holds
+    (λ c κs. search needs)
+    (λ c. search needs)
+    (λ c. search needs)
+    (λ c. search needs)
+    (λ c κs. search needs)
+    (λ c. search needs)
+    (λ c. search needs)
+    (λ c. search needs)
+    loop-again
+    returns)
