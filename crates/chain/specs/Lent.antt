@@ -13,7 +13,3 @@ lent c denominators edges order rewards work =
       work = work;
       list = 0;
     }
-
--- The same with a step list of so many records.
-abbrev pub withList : ℕ → Lent → Lent
-withList list l = record { chain = l .chain; order = l .order; rewards = l .rewards; work = l .work; list = list }

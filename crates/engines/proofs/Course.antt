@@ -1,21 +1,27 @@
 -- The course of an elimination: from the first rows by way of the order to the start's row.
-use Prim.Native.Nat.{ℕ, _<_}
+use Prim.Native.Nat.{ℕ, _≤_, _<_}
 use mathlib.Core.Path.{_≡_, refl, sym, ap, subst, _∙_}
 use mathlib.Core.Bool.{Bool}
-use mathlib.Core.List.{List, _++_}
+use mathlib.Core.List.{List, [], _++_}
 use lib.ListN.{drop, replicate}
+use borrow.Author.Tests.{lt-ltb, le-ltb}
 use Rattle.meaning.specs.Number.{bit}
 use Rattle.meaning.specs.Chain.{mostStates, FromStart, Live}
 use Rattle.meaning.specs.Step.{Table, row, Sets, Right, goes, first, after}
+use Rattle.meaning.specs.Row.{Row}
+use Rattle.meaning.specs.Steps.{recordsAlong}
 use Rattle.meaning.specs.Refusal.{Lent, workSize}
-use Rattle.meaning.specs.Stop.{earns, tableAt, Unfit, Passed, Stops, Stopped}
+use Rattle.meaning.specs.Stop.{earns, turn, tableAt, Unfit, Passed, Stops, Stopped}
 use Rattle.meaning.specs.Outcome.{cleared}
+use Rattle.theory.specs.Stages.Records.{records-none}
+use Rattle.theory.specs.Outcomes.StepsStates.{none-goes}
+use Rattle.engines.specs.Log.{Logged}
 use Rattle.engines.specs.Table.{rowAt, tableOf, Kept}
 use Rattle.engines.specs.Turn.{Reached}
-use Rattle.engines.specs.Order.{UnstoppedWalk, Finished, walked}
-use Rattle.engines.specs.Run.{endOf, won, lost, live, runs}
+use Rattle.engines.specs.Order.{UnstoppedWalk, Finished, walked, walkedTo, recordsWalked}
+use Rattle.engines.specs.Run.{endOf, won, lost, live, runs, finishedIn, recordsRun}
 use Rattle.engines.specs.declared.run.Course.{Course}
-use Rattle.engines.specs.declared.run.Course.the-variants.{Ends}
+use Rattle.engines.specs.declared.run.Course.the-variants.{Ends, Stops as Stopping}
 use Rattle.engines.specs.declared.walk.Walk.{Walk}
 use Rattle.engines.specs.declared.walk.Walk.the-variants.{Done, NoFit}
 use Rattle.engines.proofs.Removal.{row-is}
@@ -32,6 +38,9 @@ walk-kept b n go o v u (NoFit p) z = z .kept
 pub walk-done : (b : Bool) (n : ℕ) (go : ℕ → Bool) (o v u : List ℕ) (r : Walk) → walked b n go o v u r → r ≡ Done
     → Finished b n (after b n go o (tableOf n v)) v u
 walk-done b n go o v u r z e = subst (walked b n go o v u) e z
+
+pub walk-inside : (b : Bool) (n : ℕ) (go : ℕ → Bool) (o v u : List ℕ) (r : Walk) → walked b n go o v u r → {p : ℕ} → r ≡ NoFit p → p < n
+walk-inside b n go o v u r z e = subst (walked b n go o v u) e z .inside
 
 module _ (b : Bool) (l : Lent) (k : Sets) (right : Right (l .chain) k) where
   -- How the start stands: it is a goal, has no path to one, or is live.
@@ -53,6 +62,16 @@ module _ (b : Bool) (l : Lent) (k : Sets) (right : Right (l .chain) k) where
   abbrev go : ℕ → Bool
   go = goes (l .chain .start) (k .live)
 
+  -- No state is removed where the start is not live, and none before the first step.
+  pub unlogged : (Live (l .chain) (l .chain .start) → ⊥) → {log : List ℕ} → Logged log [] → (p : ℕ) → Logged log (recordsRun b l k p)
+  unlogged dead {log} h p =
+      subst (Logged log)
+      (sym (records-none n go (turn l) (tableAt b l k) (λ q. none-goes (l .chain) k right dead (turn l q)) p)) h
+
+  pub logged-first : n ≤ mostStates → {log : List ℕ} → Logged log [] → Logged log (recordsRun b l k (finishedIn n (Stopping 12 mostStates)))
+  unfolding recordsAlong
+  logged-first few h = rw (le-ltb mostStates n few) h
+
   -- The elimination is begun: the start is live.
   module _ (alive : Live (l .chain) (l .chain .start)) where
     stops : {number place : ℕ} → Stops b l k number place → Stopped b l number place
@@ -61,6 +80,19 @@ module _ (b : Bool) (l : Lent) (k : Sets) (right : Right (l .chain) k) where
     pub stops-first : Unfit b n firstTable → Stopped b l 12 mostStates
     unfolding after
     stops-first u = stops (Stops.before-steps u)
+
+    -- What is logged of the walk through the order, which begins with the first table, in v.
+    module _ (v : List ℕ) (same : tableOf n v ≡ firstTable) (r : Walk) {log : List ℕ}
+        (h : Logged log (recordsWalked b n go (l .order) v (walkedTo n r))) where
+      logged-to : Logged log (recordsRun b l k (walkedTo n r))
+      logged-to = rw same at h
+
+      pub logged-unfit : (p : ℕ) → r ≡ NoFit p → p < n → Logged log (recordsRun b l k (finishedIn n (Stopping 12 p)))
+      logged-unfit p e i = rw (lt-ltb p n i) (subst (λ r. Logged log (recordsRun b l k (walkedTo n r))) e logged-to)
+
+      pub logged-through : r ≡ Done → (z : Row) {c : Course} → c ≡ endOf n (l .chain .start) z → Logged log (recordsRun b l k (finishedIn n c))
+      logged-through e z q =
+          subst (λ c. Logged log (recordsRun b l k (finishedIn n c))) (sym q) (subst (λ r. Logged log (recordsRun b l k (walkedTo n r))) e logged-to)
 
     -- The walk through the order, which begins with the first table, in v.
     module _ (v u : List ℕ) (same : tableOf n v ≡ firstTable) (r : Walk) (z : walked b n go (l .order) v u r) where

@@ -11,5 +11,6 @@ pub mod FirstRows
 pub mod Course
 pub mod Looked
 pub mod Outcomes
+pub mod Traces
 pub mod Told
 pub mod Unique

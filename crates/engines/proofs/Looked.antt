@@ -7,7 +7,7 @@ use mathlib.Core.Path.{_≡_, subst}
 use mathlib.Core.Bool.{Bool, true, false}
 use Rattle.meaning.specs.Row.{rounding}
 use Rattle.meaning.specs.Step.{Sets, Right}
-use Rattle.meaning.specs.Refusal.{Lent, Entry, workSize, Refused, WellFormed}
+use Rattle.meaning.specs.Refusal.{Lent, withList, Entry, workSize, Refused, WellFormed}
 use mathlib.Core.List.{List}
 use mathlib.Core.Logic.{_⊎_, inl, inr}
 use Rattle.meaning.specs.Outcome.{cleared}
@@ -24,7 +24,9 @@ use Rattle.engines.specs.Looking.{soFar, looked}
 use Rattle.engines.specs.declared.looking.Looked.{Looked}
 use Rattle.engines.specs.declared.looking.Looked.the-variants.{Clear, Refused as Refusing}
 use Rattle.theory.specs.Outcomes.Formed.{start-in, order-length, order-in}
-use Rattle.engines.specs.Run.{Begun, runs, entered}
+use Rattle.engines.specs.Run.{Begun, Read, won, lost, live, runs, finishedIn, recordsRun, entered}
+use Rattle.engines.specs.Log.{Logged}
+use Rattle.theory.specs.Outcomes.StepsChance.{stopped-relisted}
 use Rattle.engines.specs.declared.run.Course.{Course}
 use Rattle.engines.specs.declared.run.Course.the-variants.{Ends, Stops}
 use Rattle.engines.proofs.FirstRows.{first-given}
@@ -83,7 +85,18 @@ begun x l formed b k ordered room free right =
       start = start-in x l formed;
     }
 
+-- An elimination does not ask for the step list.
+pub begun-unlisted : {b : Bool} {l : Lent} {k : Sets} (list : ℕ) → Begun b (withList list l) k → Begun b l k
+begun-unlisted list h = record { asked = h .asked; orders = h .orders; inside = h .inside; start = h .start }
+
+read-listed : {b : Bool} {l : Lent} {g u e d : ℕ} (list : ℕ) → Read b l g u e d → Read b (withList list l) g u e d
+read-listed list (won h q) = won h q
+read-listed list (lost h q) = lost h q
+read-listed list (live k right alive z) = live k right alive (record { passed = z .passed; read = z .read })
+
 -- What a run comes to, once the looking has cleared the input.
-pub ran : {x : Entry} (b : Bool) {l : Lent} {w : List ℕ} → WellFormed x l → w ≡ cleared l → (r : Course) → runs b l r → entered x b l w r
-ran b formed s (Ends g u e d) z = (formed, s, z)
-ran b formed s (Stops number place) z = inr (formed, s, z)
+pub ran : {x : Entry} (b : Bool) (l : Lent) {w log : List ℕ} (list : ℕ) → WellFormed x (withList list l) → w ≡ cleared l → {k : Sets} → Right (l .chain) k
+    → (r : Course) → runs b l r × Logged log (recordsRun b l k (finishedIn (l .chain .states) r)) → entered x b (withList list l) w log r
+ran b l list formed s right (Ends g u e d) z = (formed, s, read-listed list (z .0), record { sets = _; right = right; logged = z .1 })
+ran b l list formed s right (Stops number place) z =
+    inr (formed, s, stopped-relisted list number place (z .0), record { sets = _; right = right; logged = z .1 })

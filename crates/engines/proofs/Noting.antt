@@ -1,8 +1,8 @@
 -- A record that is noted in the log: what the log holds then.
 use Prim.Native.Nat.{ℕ, zero, suc, _+_, _*_, _≤_, _<_}
-use mathlib.Core.Path.{_≡_, refl, sym, ap, subst, _∙_}
-use mathlib.Core.Logic.{inl, inr, _⊎_, ⊎-elim, dite}
-use mathlib.Core.Bool.{Bool, true, false}
+use mathlib.Core.Path.{_≡_, refl, sym, ap, _∙_}
+use mathlib.Core.Logic.{inl, inr, ⊎-elim, dite}
+use mathlib.Core.Bool.{true}
 use mathlib.Core.List.{List, [], _∷_, _++_}
 use native.Mathlib.Nat.{eq-or-lt-of-le}
 use native.Mathlib.Numerals.{add-one}
@@ -10,10 +10,11 @@ use native.Mathlib.Decide.{decLt}
 use native.Mathlib.Omega.{arith}
 use lib.ListN.{length, getD, set, length-set, length-append, replicate, length-replicate, List·getD-append, List·getD-eq-default}
 use lib.Seq.{getD-set-same, getD-set-other}
-use Rattle.meaning.specs.Number.{sumTo, choose}
+use Rattle.meaning.specs.Number.{sumTo}
 use Rattle.meaning.specs.Chain.{mostStates}
 use Rattle.meaning.specs.Steps.{StepRecord, rowsTo, columnsOf, largestTaken, recordOf}
 use Rattle.engines.specs.Table.{rowAt, tableOf}
+use Rattle.engines.proofs.Loop.{getD-zeros}
 use Rattle.engines.proofs.Removal.{row-is}
 use Rattle.engines.specs.Log.{recordSize, logSize, numbersOf, Holds, Logged, Roomy, LoggedMore}
 
@@ -54,7 +55,7 @@ put-first {t} {xs} {x} v h = record { size = length-set t 0 v ∙ h .size; same 
     at zero = getD-set-same t 0 v 0 (omega (arith, h .size))
     at (suc j) = getD-set-other t 0 (suc j) v 0 (λ q. omega arith) ∙ h .same (suc j)
 
-numbers-length : (rs : List StepRecord) → length (numbersOf rs) ≡ recordSize * length rs
+pub numbers-length : (rs : List StepRecord) → length (numbersOf rs) ≡ recordSize * length rs
 unfolding numbersOf
 numbers-length [] = refl
 numbers-length (r ∷ rs) = omega (arith, numbers-length rs)
@@ -115,6 +116,20 @@ record-is n s w h e f g = rw (e, f, g, row-is n w s h)
 
 -- A log that is asked for has a record more.
 pub logged-more : {before after : List ℕ} {r : StepRecord} → (length before ≡ 0 → ⊥)
-    → ((rs : List StepRecord) → Holds before rs → Holds after (rs ++ (r ∷ []))) → LoggedMore before after r true
+    → ((rs : List StepRecord) → Holds before rs → Holds after (rs ++ (r ∷ []))) → LoggedMore true r before after true
 logged-more some f rs (inl e) = absurd (some e)
 logged-more some f rs (inr h) = inr (f rs h)
+
+-- Fewer records than states leave room for one more.
+pub logged-roomy : {log : List ℕ} {rs : List StepRecord} → length rs < mostStates → Logged log rs → Roomy log
+logged-roomy few (inl e) = inl e
+logged-roomy few (inr h) = inr (h .size, omega (arith, h .cells 0))
+
+-- A log of zeros holds no record.
+pub logged-zeros : Logged (replicate logSize 0) []
+unfolding numbersOf
+logged-zeros = inr (record { size = length-replicate {A = ℕ} logSize 0; cells = λ j. getD-zeros logSize j ∙ nothing j })
+  where
+    nothing : (j : ℕ) → _≡_ {A = ℕ} 0 (getD (0 ∷ []) j 0)
+    nothing zero = refl
+    nothing (suc j) = refl

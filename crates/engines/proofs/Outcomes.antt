@@ -1,7 +1,7 @@
 -- From what the figures are read off to the outcome of each entry.
 use Prim.Native.Nat.{ℕ, _+_, _≤_}
 use mathlib.Core.Path.{_≡_, refl, sym, ap, ap₂, subst, _∙_}
-use mathlib.Core.Bool.{Bool}
+use mathlib.Core.Bool.{Bool, true}
 use mathlib.Core.List.{List}
 use mathlib.Core.Logic.{⊎-elim}
 use native.Mathlib.Omega.{arith}
@@ -11,9 +11,9 @@ use Rattle.meaning.specs.Figure.{Chance, Missed, Expected}
 use Rattle.meaning.specs.Row.{cell, goalColumn, unknownColumn, exact, rounding, rewardColumn}
 use Rattle.meaning.specs.Row.{reward as rewardIn}
 use Rattle.meaning.specs.Step.{row, Sets, outside}
-use Rattle.meaning.specs.Refusal.{Lent, plain, paid, Refused, WellFormed}
+use Rattle.meaning.specs.Refusal.{Lent, Entry, plain, paid, Refused, WellFormed}
 use Rattle.meaning.specs.Stop.{earns, tableAt, Stopped}
-use Rattle.meaning.specs.Outcome.{cleared, refused, stopped, answered, refusal, ChanceFigure, ChanceOutcome, RewardFigure, noBounds, between, BoundsFigure, BoundsOutcome}
+use Rattle.meaning.specs.Outcome.{cleared, Outcome, refused, stopped, answered, refusal, ChanceFigure, RewardFigure, noBounds, between, BoundsFigure, BoundsOutcome}
 use Rattle.theory.specs.Numbers.Sum.{sum-two}
 use Rattle.theory.specs.Numbers.Gcd.{reduced-share}
 use Rattle.theory.specs.Outcomes.Formed.{start-in, unpaid}
@@ -30,7 +30,7 @@ use Rattle.engines.specs.declared.answer.Bounds.the-variants as bounds
 use Rattle.engines.specs.Answer.{toldChance, toldBounds}
 use Rattle.chain.proofs.Terms.{terms}
 use Rattle.look.proofs.Refuse.{refused-some}
-use Rattle.engines.specs.Run.{entered, Ended, Read, won, lost, live, runs}
+use Rattle.engines.specs.Run.{chanceOf, entered, Ended, Read, won, lost, live, runs}
 use Rattle.engines.specs.Told.{Rewarded}
 use Rattle.engines.specs.declared.run.Course.{Course}
 use Rattle.engines.specs.declared.run.Course.the-variants.{Ends, Stops}
@@ -71,18 +71,18 @@ module _ {b : Bool} {l : Lent} {k : Sets} {g u e d : ℕ} (z : Ended b l k g u e
   read-outside : d ≡ outside n (l .chain .start) (row (tableAt b l k n) (l .chain .start))
   read-outside = let q = z .read in cc
 
-chance-read : (l : Lent) → WellFormed plain l → {g u e d : ℕ} → Read exact l g u e d
+chance-read : (x : Entry) → x .order ≡ true → (l : Lent) → WellFormed x l → {g u e d : ℕ} → Read exact l g u e d
     → Chance (l .chain) (reduced (over g d) .numerator) (reduced (over g d) .denominator)
-chance-read l formed {g} {u} {e} {d} (won h q) =
+chance-read x o l formed {g} {u} {e} {d} (won h q) =
     let eg : g ≡ 1 = cc in
     let ed : d ≡ 1 = cc in
-    rw (eg, ed) (lowest-chance (l .chain) 1 1 _ _ (chance-won (l .chain) (start-in plain l formed) h) (terms (over 1 1) (omega arith)))
-chance-read l formed {g} {u} {e} {d} (lost h q) =
+    rw (eg, ed) (lowest-chance (l .chain) 1 1 _ _ (chance-won (l .chain) (start-in x l formed) h) (terms (over 1 1) (omega arith)))
+chance-read x o l formed {g} {u} {e} {d} (lost h q) =
     let eg : g ≡ 0 = cc in
     let ed : d ≡ 1 = cc in
-    rw (eg, ed) (lowest-chance (l .chain) 0 1 _ _ (chance-lost (l .chain) (start-in plain l formed) h) (terms (over 0 1) (omega arith)))
-chance-read l formed {g} {u} {e} {d} (live k right alive z) =
-    let ready = formed-prepared plain l formed refl k right in
+    rw (eg, ed) (lowest-chance (l .chain) 0 1 _ _ (chance-lost (l .chain) (start-in x l formed) h) (terms (over 0 1) (omega arith)))
+chance-read x o l formed {g} {u} {e} {d} (live k right alive z) =
+    let ready = formed-prepared x l formed o k right in
     let whole = exact-whole (l .chain) k (l .order) ready (earns l) alive in
     rw (read-goal z, read-outside z)
     (exact-chance (l .chain) k (l .order) ready (earns l) alive _ _ (terms (over _ _) whole))
@@ -139,32 +139,35 @@ read-sum l formed (live k right alive z) =
 pub reduced-of : {f g : Fraction} {a b : ℕ} → (f .numerator ≡ a) × (f .denominator ≡ b) → g ≡ reduced f → g ≡ reduced (over a b)
 reduced-of {a = a} {b = b} e q = q ∙ ap reduced (ap₂ over (e .0) (e .1))
 
+-- The chance that is read off.
+pub chance-ends : {r : Course} {g u e d : ℕ} → r ≡ Ends g u e d → {f : Fraction} → f ≡ reduced (over g d) → chance.Is f ≡ chanceOf r
+chance-ends q e = ap (λ (f : Fraction). chance.Is f) e ∙ sym (ap chanceOf q)
+
+pub chance-stops : {r : Course} {number place : ℕ} → r ≡ Stops number place → chance.Refused number place ≡ chanceOf r
+chance-stops q = sym (ap chanceOf q)
+
 -- The outcomes, by what the entry's looking and elimination come to.
-module _ (l : Lent) (w : List ℕ) {r : Course} where
-  pub bounds-sum : {g u e d : ℕ} → r ≡ Ends g u e d → entered plain rounding l w r → g + u ≤ M
-  bounds-sum q z = let y = subst (entered plain rounding l w) q z in read-sum l (y .0) (y .2)
+pub outcome-chance : (x : Entry) → x .order ≡ true → (l : Lent) (w log : List ℕ) (r : Course) → entered x exact l w log r
+    → Outcome x l refusal (Stopped exact l) (ChanceFigure l) (toldChance (chanceOf r)) w
+outcome-chance x o l w log (Ends g u e d) y =
+    answered (y .0) (read-unstopped l (y .2)) (ChanceFigure.chance _ _ (chance-read x o l (y .0) (y .2)) refl) (y .1)
+outcome-chance x o l w log (Stops number place) y =
+    ⊎-elim (λ y. refused _ _ (y .0) refl (y .1)) (λ y. stopped _ _ (y .0) (y .2) refl (y .1)) y
 
-  pub answers-chance : {g u e d : ℕ} → r ≡ Ends g u e d → entered plain exact l w r → {f : Fraction} → f ≡ reduced (over g d)
-      → ChanceOutcome l (toldChance (chance.Is f)) w
-  answers-chance q z t =
-      let y = subst (entered plain exact l w) q z in
-      subst (λ f. ChanceOutcome l (toldChance (chance.Is f)) w) (sym t)
-      (answered (y .0) (read-unstopped l (y .2)) (ChanceFigure.chance _ _ (chance-read l (y .0) (y .2)) refl) (y .1))
+module _ (l : Lent) (w log : List ℕ) {r : Course} where
+  pub bounds-sum : {g u e d : ℕ} → r ≡ Ends g u e d → entered plain rounding l w log r → g + u ≤ M
+  bounds-sum q z = let y = subst (entered plain rounding l w log) q z in read-sum l (y .0) (y .2)
 
-  pub stops-chance : {number place : ℕ} → r ≡ Stops number place → entered plain exact l w r → ChanceOutcome l (refusal number place) w
-  stops-chance q z =
-      ⊎-elim (λ y. refused _ _ (y .0) refl (y .1)) (λ y. stopped _ _ (y .0) (y .2) refl (y .1)) (subst (entered plain exact l w) q z)
-
-  pub answers-bounds : {g u e d : ℕ} → r ≡ Ends g u e d → entered plain rounding l w r → {f h : Fraction} → f ≡ reduced (over g d) → h ≡ reduced (over (g + u) d)
-      → BoundsOutcome l (toldBounds (bounds.Between f h)) w
+  pub answers-bounds : {g u e d : ℕ} → r ≡ Ends g u e d → entered plain rounding l w log r → {f h : Fraction} → f ≡ reduced (over g d)
+      → h ≡ reduced (over (g + u) d) → BoundsOutcome l (toldBounds (bounds.Between f h)) w
   answers-bounds q z t v =
-      let y = subst (entered plain rounding l w) q z in
+      let y = subst (entered plain rounding l w log) q z in
       rw (t, v) (answered (y .0) (λ number place s. s) (bounds-read l (y .0) (y .2)) (y .1))
 
   -- Its elimination does not stop, so that this is a refusal by 1 to 10.
-  pub refuses-bounds : {number place : ℕ} → r ≡ Stops number place → entered plain rounding l w r → BoundsOutcome l (noBounds number place) w
+  pub refuses-bounds : {number place : ℕ} → r ≡ Stops number place → entered plain rounding l w log r → BoundsOutcome l (noBounds number place) w
   refuses-bounds q z =
-      ⊎-elim (λ y. refused _ _ (y .0) refl (y .1)) (λ y. absurd (rounding-unstopped (y .2))) (subst (entered plain rounding l w) q z)
+      ⊎-elim (λ y. refused _ _ (y .0) refl (y .1)) (λ y. absurd (rounding-unstopped (y .2))) (subst (entered plain rounding l w log) q z)
 
 -- A refusal by the numbers 1 to 11 leaves the work table.
 pub refuses-reward : {l : Lent} {number place : ℕ} → Refused paid l number place → Rewarded l (reward.Refused number place) (l .work)

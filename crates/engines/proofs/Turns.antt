@@ -12,14 +12,18 @@ use Rattle.meaning.specs.Chain.{mostStates}
 use Rattle.meaning.specs.Number.{choose}
 use Rattle.meaning.specs.Refusal.{workSize}
 use Rattle.meaning.specs.Step.{Table, row, removed, after}
+use Rattle.meaning.specs.Steps.{recordOf, recordsAlong}
 use Rattle.meaning.specs.Stop.{Unfit}
+use Rattle.theory.specs.Stages.Records.{records-few}
 use Rattle.engines.specs.Row.{Fit}
 use Rattle.engines.specs.Table.{tableOf, Fitting}
 use Rattle.engines.specs.Turn.{Reached, Made}
-use Rattle.engines.specs.Order.{UnstoppedWalk, Finished, Overflown}
+use Rattle.engines.specs.Log.{Logged, Roomy, LoggedMore}
+use Rattle.engines.specs.Order.{UnstoppedWalk, Finished, Overflown, recordsWalked}
 use Rattle.engines.proofs.Rows.{apart}
 use Rattle.engines.proofs.Tables.{kept-same, kept-more}
 use Rattle.engines.proofs.Removal.{row-is}
+use Rattle.engines.proofs.Noting.{logged-roomy}
 
 -- The turn of a state that goes, and of one that is passed over.
 pub made-goes : {b : Bool} {n : ℕ} {t : Table} {w v : List ℕ} {r : Bool} (u : Table) (g : Bool) → g ≡ true
@@ -100,6 +104,19 @@ module _ {b : Bool} {n : ℕ} {go : ℕ → Bool} {o : List ℕ} {w : List ℕ} 
             clear = z .clear;
             unfit = turn-at .unfit e;
           }
+
+    -- What is logged before the turn at position p, and after it.
+    module _ {log after : List ℕ} {r : Bool} (h : LoggedMore (go (getD o p 0)) (recordOf n (getD o p 0) (tableOf n v)) log after r)
+        (logged : Logged log (recordsWalked b n go o w p)) where
+      pub logged-on : r ≡ true → Logged after (recordsWalked b n go o w (p + 1))
+      unfolding recordsAlong
+      logged-on e = rw (add-one, ← z .reached .same) (rw e at (h _ logged))
+
+      pub logged-stop : r ≡ false → Logged after (recordsWalked b n go o w p)
+      logged-stop e = rw e at (h _ logged)
+
+    pub logged-room : {log : List ℕ} → p < n → n ≤ mostStates → Logged log (recordsWalked b n go o w p) → Roomy log
+    logged-room h few = logged-roomy (omega (arith, records-few n go (λ q. getD o q 0) (tables b n go o w) p))
 
     pub eliminating-all : n ≤ p → Finished b n (tables b n go o w) w v
     eliminating-all h =

@@ -8,3 +8,4 @@ pub mod Looking
 pub mod Told
 pub mod First
 pub mod Run
+pub mod Trace

@@ -7,10 +7,7 @@ use mathlib.Core.List.{List, [], _∷_, _++_}
 use lib.ListN.{length, getD}
 use Rattle.meaning.specs.Number.{choose}
 use Rattle.meaning.specs.Chain.{mostStates}
-use Rattle.meaning.specs.Step.{Sets, Table, goes}
-use Rattle.meaning.specs.Steps.{StepRecord, recordOf, recordsAlong}
-use Rattle.meaning.specs.Stop.{turn, tableAt}
-use Rattle.meaning.specs.Refusal.{Lent}
+use Rattle.meaning.specs.Steps.{StepRecord}
 
 -- How many numbers a record has, and a log.
 abbrev pub recordSize : ℕ
@@ -37,7 +34,11 @@ Logged log rs = (length log ≡ 0) ⊎ Holds log rs
 abbrev pub Roomy : List ℕ → Type 0
 Roomy log = (length log ≡ 0) ⊎ ((length log ≡ logSize) × (getD log 0 0 < mostStates))
 
--- What was logged has become one record more, r, where the answer says that the step is finished.
-abbrev pub LoggedMore : List ℕ → List ℕ → StepRecord → Bool → Type 0
-LoggedMore before after r finished =
-    (rs : List StepRecord) → Logged before rs → Logged after (choose finished (rs ++ (r ∷ [])) rs)
+-- The records with r behind them where a state goes.
+abbrev pub stepped : Bool → StepRecord → List StepRecord → List StepRecord
+stepped go r rs = choose go (rs ++ (r ∷ [])) rs
+
+-- What was logged before a turn, and after it: r is the record of the state, which is noted where it goes and its step is finished.
+abbrev pub LoggedMore : Bool → StepRecord → List ℕ → List ℕ → Bool → Type 0
+LoggedMore go r before after finished =
+    (rs : List StepRecord) → Logged before rs → Logged after (choose finished (stepped go r rs) rs)

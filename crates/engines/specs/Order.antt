@@ -2,7 +2,9 @@
 use mathlib.Core.Bool.{Bool}
 use mathlib.Core.List.{List}
 use Prim.Native.Nat.{ℕ, suc, _≤_, _<_}
+use lib.ListN.{getD}
 use Rattle.meaning.specs.Step.{Table, goes, after}
+use Rattle.meaning.specs.Steps.{StepRecord, recordsAlong}
 use Rattle.meaning.specs.Stop.{Unfit}
 use Rattle.engines.specs.Table.{tableOf, Kept}
 use Rattle.engines.specs.Turn.{Reached}
@@ -33,3 +35,12 @@ pub record Overflown (b : Bool) (n : ℕ) (t : ℕ → Table) (w v : List ℕ) (
 abbrev pub walked : Bool → ℕ → (ℕ → Bool) → List ℕ → List ℕ → List ℕ → Walk → Type 0
 walked b n go o w v Done = Finished b n (after b n go o (tableOf n w)) w v
 walked b n go o w v (NoFit p) = Overflown b n (after b n go o (tableOf n w)) w v p
+
+-- How many positions of the order have a finished step.
+abbrev pub walkedTo : ℕ → Walk → ℕ
+walkedTo n Done = n
+walkedTo n (NoFit p) = p
+
+-- The records of the first p positions of the walk that begins with the table in w.
+abbrev pub recordsWalked : Bool → ℕ → (ℕ → Bool) → List ℕ → List ℕ → ℕ → List StepRecord
+recordsWalked b n go o w p = recordsAlong n go (λ q. getD o q 0) (after b n go o (tableOf n w)) p

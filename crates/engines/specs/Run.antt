@@ -2,16 +2,23 @@
 use mathlib.Core.Path.{_≡_}
 use mathlib.Core.Logic.{_⊎_}
 use mathlib.Core.Bool.{Bool}
-use mathlib.Core.List.{List}
+use mathlib.Core.List.{List, []}
 use Prim.Native.Nat.{ℕ, _<_}
 use lib.ListN.{length}
+use lib.Dec.{ltb}
+use Rattle.meaning.specs.Number.{choose}
 use Rattle.meaning.specs.Chain.{Goal, ToGoal, Live}
 use Rattle.meaning.specs.Row.{Row, cell, goalColumn, unknownColumn, reward}
-use Rattle.meaning.specs.Step.{row, Sets, Right, outside}
+use Rattle.meaning.specs.Step.{row, Sets, Right, outside, goes}
+use Rattle.meaning.specs.Steps.{StepRecord, recordsAlong}
 use Rattle.meaning.specs.Refusal.{Lent, Entry, Refused, WellFormed}
 use Rattle.meaning.specs.Stop.{turn, tableAt, Passed, Stopped}
 use Rattle.meaning.specs.Outcome.{cleared}
 use Rattle.engines.specs.First.{Makeable}
+use Rattle.engines.specs.Log.{Logged}
+use Rattle.chain.specs.Reduce.{reduced}
+use Rattle.engines.specs.declared.answer.Chance.{Chance}
+use Rattle.engines.specs.declared.answer.Chance.the-variants as chance
 use Rattle.engines.specs.declared.run.Course.{Course}
 use Rattle.engines.specs.declared.run.Course.the-variants.{Ends, Stops}
 
@@ -43,8 +50,31 @@ abbrev pub runs : Bool → Lent → Course → Type 0
 runs b l (Ends goal unknown rewards outside) = Read b l goal unknown rewards outside
 runs b l (Stops number place) = Stopped b l number place
 
--- What an entry's looking and elimination come to, w being the work table afterwards: a refusal by the numbers 1 to 11 leaves it.
-abbrev pub entered : Entry → Bool → Lent → List ℕ → Course → Type 0
-entered x b l w (Ends goal unknown rewards outside) = WellFormed x l × (w ≡ cleared l) × Read b l goal unknown rewards outside
-entered x b l w (Stops number place) =
-    (Refused x l number place × (w ≡ l .work)) ⊎ (WellFormed x l × (w ≡ cleared l) × Stopped b l number place)
+-- How many positions of the order have a finished step: none where 12 comes before the first step, at 64.
+abbrev pub finishedIn : ℕ → Course → ℕ
+finishedIn n (Ends goal unknown rewards outside) = n
+finishedIn n (Stops number place) = choose (ltb place n) place 0
+
+-- The records of the first p positions.
+abbrev pub recordsRun : Bool → Lent → Sets → ℕ → List StepRecord
+recordsRun b l k p = recordsAlong (l .chain .states) (goes (l .chain .start) (k .live)) (turn l) (tableAt b l k) p
+
+-- The log of an elimination that came to r, with the chain's own sets.
+pub record LoggedRun (b : Bool) (l : Lent) (log : List ℕ) (r : Course) : Type 0 where
+  pub sets : Sets
+  pub right : Right (l .chain) sets
+  pub logged : Logged log (recordsRun b l sets (finishedIn (l .chain .states) r))
+
+-- What an entry's looking and elimination come to, w being the work table afterwards and log the log: a refusal by the numbers 1 to 11
+-- leaves them.
+abbrev pub entered : Entry → Bool → Lent → List ℕ → List ℕ → Course → Type 0
+entered x b l w log (Ends goal unknown rewards outside) =
+    WellFormed x l × (w ≡ cleared l) × Read b l goal unknown rewards outside × LoggedRun b l log (Ends goal unknown rewards outside)
+entered x b l w log (Stops number place) =
+    (Refused x l number place × (w ≡ l .work) × Logged log [])
+    ⊎ (WellFormed x l × (w ≡ cleared l) × Stopped b l number place × LoggedRun b l log (Stops number place))
+
+-- The chance that is read off.
+abbrev pub chanceOf : Course → Chance
+chanceOf (Ends goal unknown rewards outside) = chance.Is (reduced (record { numerator = goal; denominator = outside }))
+chanceOf (Stops number place) = chance.Refused number place

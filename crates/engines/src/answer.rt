@@ -16,3 +16,16 @@ pub enum Bounds {
     Between { lower: Fraction, upper: Fraction },
     Refused { number: u32, place: usize },
 }
+
+// What the exact engine did: its answer, and the step list by value: how many records there are, then four numbers for each record (state,
+// rows, columns, divisor), and 0 past the last.
+pub struct Trace {
+    pub chance: Chance,
+    pub numbers: [u64; Trace::NUMBERS],
+}
+
+impl Trace {
+    pub const RECORD: usize = 4;
+
+    pub const NUMBERS: usize = 257;
+}

@@ -1,14 +1,22 @@
 // The entries: each does its own looking, and answers or refuses.
+ghost use mathlib.Core.Path.{_≡_};
+ghost use mathlib.Core.Bool.{Bool, false};
 ghost use mathlib.Core.List.{[]};
-ghost use Rattle.meaning.specs.Refusal.{plain};
+ghost use Prim.Native.Nat.{ℕ};
 ghost use Rattle.meaning.specs.Outcome.{ChanceOutcome, BoundsOutcome};
+ghost use Rattle.meaning.specs.Refusal.{withList};
 ghost use Rattle.chain.specs.Lent.{lent};
+ghost use Rattle.look.specs.Says.{counted};
 ghost use Rattle.engines.specs.Answer.{toldChance, toldBounds};
-ghost use Rattle.engines.specs.Run.{entered};
+ghost use Rattle.engines.specs.Log.{Logged};
+ghost use Rattle.engines.specs.Looking.{ordered};
+ghost use Rattle.engines.specs.Run.{entered, chanceOf};
+ghost use Rattle.engines.specs.Trace.{Traced};
 ghost use Rattle.engines.specs.Told.{Rewarded};
 use crate::answer::Bounds;
 use crate::answer::Chance;
 use crate::answer::Reward;
+use crate::answer::Trace;
 use crate::looking::Looked;
 use crate::looking::look;
 use crate::looking::look_paid;
@@ -19,7 +27,8 @@ use crate::work::clear_work;
 use chain::Chain;
 use chain::fraction::Fraction;
 
-// What the chance and the bounds are read off: these entries are lent no rewards.
+// What the chance and the bounds are read off: these entries are lent no rewards. Of a step list only the length counts here; the caller gives n
+// where none is lent.
 fn unpaid(
     c: Chain,
     denominators: &[u64],
@@ -27,12 +36,16 @@ fn unpaid(
     order: &[u64],
     work: &mut [u64],
     rounding: bool,
+    list: usize,
+    log: &mut [u64],
 ) -> Course
+    requires { ⌜ Logged (now log) [] ⌝ }
     ensures { λ r.
         let l = lent c (now (denominators .entry)) (now (edges .entry)) (now (order .entry)) [] (now (work .entry)) in
-        ⌜ entered plain rounding l (now (work .exit)) r ⌝ }
+        ⌜ ((t : Bool) (k : ℕ) → counted t k (c .states) list
+        → entered (ordered false t) rounding (withList k l) (now (work .exit)) (now (log .exit)) r) ⌝ }
 {
-    match look(c, denominators, edges, order, work) {
+    match look(c, denominators, edges, order, work, list) {
         Looked::Refused { number, place } => Course::Stops { number, place },
         Looked::Clear(sets) => {
             let e = Elimination {
@@ -41,8 +54,23 @@ fn unpaid(
                 rounding,
             };
             let none = [0u64; 0];
-            run(e, denominators, edges, order, &none, work)
+            run(e, denominators, edges, order, &none, work, log)
         }
+    }
+}
+
+// The chance that is read off.
+fn chance_of(course: Course) -> Chance
+    ensures { λ r. ⌜ r ≡ chanceOf course ⌝ }
+{
+    match course {
+        Course::Ends {
+            goal,
+            unknown: _,
+            reward: _,
+            outside,
+        } => Chance::Is(Fraction::new(goal, outside).reduce()),
+        Course::Stops { number, place } => Chance::Refused { number, place },
     }
 }
 
@@ -58,14 +86,46 @@ pub fn chance(
         let l = lent c (now (denominators .entry)) (now (edges .entry)) (now (order .entry)) [] (now (work .entry)) in
         ⌜ ChanceOutcome l (toldChance r) (now (work .exit)) ⌝ }
 {
-    match unpaid(c, denominators, edges, order, work, false) {
-        Course::Ends {
-            goal,
-            unknown: _,
-            reward: _,
-            outside,
-        } => Chance::Is(Fraction::new(goal, outside).reduce()),
-        Course::Stops { number, place } => Chance::Refused { number, place },
+    let mut none = [0u64; 0];
+    chance_of(unpaid(
+        c,
+        denominators,
+        edges,
+        order,
+        work,
+        false,
+        c.states,
+        &mut none,
+    ))
+}
+
+// The same with a step list by value, for a caller who has room for so many records.
+pub fn trace(
+    c: Chain,
+    denominators: &[u64],
+    edges: &[u64],
+    order: &[u64],
+    work: &mut [u64],
+    list: usize,
+) -> Trace
+    ensures { λ r.
+        let l = lent c (now (denominators .entry)) (now (edges .entry)) (now (order .entry)) [] (now (work .entry)) in
+        ⌜ Traced (withList list l) r (now (work .exit)) ⌝ }
+{
+    let mut numbers = [0u64; Trace::NUMBERS];
+    let course = unpaid(
+        c,
+        denominators,
+        edges,
+        order,
+        work,
+        false,
+        list,
+        &mut numbers,
+    );
+    Trace {
+        chance: chance_of(course),
+        numbers,
     }
 }
 
@@ -95,7 +155,8 @@ pub fn reward(
         sets,
         rounding: false,
     };
-    match run(e, denominators, edges, order, rewards, work) {
+    let mut none = [0u64; 0];
+    match run(e, denominators, edges, order, rewards, work, &mut none) {
         Course::Ends {
             goal: _,
             unknown: _,
@@ -118,7 +179,17 @@ pub fn bounds(
         let l = lent c (now (denominators .entry)) (now (edges .entry)) (now (order .entry)) [] (now (work .entry)) in
         ⌜ BoundsOutcome l (toldBounds r) (now (work .exit)) ⌝ }
 {
-    match unpaid(c, denominators, edges, order, work, true) {
+    let mut none = [0u64; 0];
+    match unpaid(
+        c,
+        denominators,
+        edges,
+        order,
+        work,
+        true,
+        c.states,
+        &mut none,
+    ) {
         Course::Ends {
             goal,
             unknown,

@@ -102,7 +102,7 @@ pub(crate) fn remove_noted(
     ensures { λ r.
         let w = now (work .entry) in
         let t = tableOf n w in
-        ⌜ Made rounding n (removed rounding n s t) w (now (work .exit)) r × LoggedMore (now (log .entry)) (now (log .exit)) (recordOf n s t) r ⌝ }
+        ⌜ Made rounding n (removed rounding n s t) w (now (work .exit)) r × LoggedMore true (recordOf n s t) (now (log .entry)) (now (log .exit)) r ⌝ }
 {
     if log.len() == 0 {
         let r = remove(work, n, s, rounding);

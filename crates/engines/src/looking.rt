@@ -1,13 +1,13 @@
 // The looking of the entries: 1 and 2, then what the survey refuses, 3 to 9, then 10 and, where rewards are lent, 11.
 ghost use mathlib.Core.Logic.{_⊎_};
-ghost use mathlib.Core.Bool.{Bool};
+ghost use mathlib.Core.Bool.{Bool, false};
 ghost use mathlib.Core.List.{List, []};
 ghost use Prim.Native.Nat.{ℕ, _≤_, _<_};
 ghost use lib.ListN.{length};
 ghost use Rattle.meaning.specs.Chain.{mostStates};
-ghost use Rattle.meaning.specs.Refusal.{plain, paid, listing, workSize};
+ghost use Rattle.meaning.specs.Refusal.{paid, workSize, withList};
 ghost use Rattle.chain.specs.Decide.{decides};
-ghost use Rattle.chain.specs.Lent.{lent, withList};
+ghost use Rattle.chain.specs.Lent.{lent};
 ghost use Rattle.look.specs.Says.{counted};
 ghost use Rattle.engines.specs.Looking.{ordered, soFar, looked};
 use chain::Chain;
@@ -84,23 +84,8 @@ fn tables(
     }
 }
 
-// The looking of an entry for the chance or the bounds: 1 to 10.
+// The looking of an entry for the chance or the bounds, which may be lent a step list: 1 to 10.
 pub(crate) fn look(
-    c: Chain,
-    denominators: &[u64],
-    edges: &[u64],
-    order: &[u64],
-    work: &[u64],
-) -> Looked
-    ensures { λ r.
-        let l = lent c (now (denominators .entry)) (now (edges .entry)) (now (order .entry)) [] (now (work .entry)) in
-        ⌜ looked plain l r ⌝ }
-{
-    tables(c, denominators, edges, order, c.states, work, c.states)
-}
-
-// The looking of the chance entry's companion, which is lent a list of so many records: 1 to 10.
-pub(crate) fn look_listed(
     c: Chain,
     denominators: &[u64],
     edges: &[u64],
@@ -110,7 +95,7 @@ pub(crate) fn look_listed(
 ) -> Looked
     ensures { λ r.
         let l = lent c (now (denominators .entry)) (now (edges .entry)) (now (order .entry)) [] (now (work .entry)) in
-        ⌜ looked listing (withList list l) r ⌝ }
+        ⌜ ((t : Bool) (k : ℕ) → counted t k (c .states) list → looked (ordered false t) (withList k l) r) ⌝ }
 {
     tables(c, denominators, edges, order, c.states, work, list)
 }

@@ -1,5 +1,6 @@
 // The elimination, from the first rows to the start's row.
 ghost use mathlib.Core.Path.{_≡_};
+ghost use mathlib.Core.List.{[]};
 ghost use Prim.Native.Nat.{_<_};
 ghost use lib.ListN.{length};
 ghost use Rattle.meaning.specs.Row.{width};
@@ -8,7 +9,8 @@ ghost use Rattle.chain.specs.Lent.{lent};
 ghost use Rattle.engines.specs.Row.{Fit};
 ghost use Rattle.engines.specs.Table.{rowAt, Kept, Fitting};
 ghost use Rattle.survey.specs.Sets.{setsOf};
-ghost use Rattle.engines.specs.Run.{endOf, Begun, runs};
+ghost use Rattle.engines.specs.Log.{Logged};
+ghost use Rattle.engines.specs.Run.{endOf, Begun, runs, finishedIn, recordsRun};
 use crate::first::first_rows;
 use crate::row::REWARD;
 use crate::row::UNKNOWN;
@@ -77,7 +79,8 @@ fn no_row(goal: u64) -> Course
     }
 }
 
-// The elimination in the work table, whose rows it leaves as they come. It is begun only where the start is live.
+// The elimination in the work table, whose rows it leaves as they come. It is begun only where the start is live. The log, where one is asked
+// for, has the finished steps.
 fn follow(
     e: Elimination,
     denominators: &[u64],
@@ -85,12 +88,14 @@ fn follow(
     order: &[u64],
     rewards: &[u64],
     work: &mut [u64],
+    log: &mut [u64],
 ) -> Course
     requires { let l = lent (e .chain) (now denominators) (now edges) (now order) (now rewards) (now work) in
-        ⌜ Begun (e .rounding) l (setsOf (e .sets)) ⌝ }
+        ⌜ Begun (e .rounding) l (setsOf (e .sets)) × Logged (now log) [] ⌝ }
     ensures { λ r.
         let l = lent (e .chain) (now (denominators .entry)) (now (edges .entry)) (now (order .entry)) (now (rewards .entry)) (now (work .entry)) in
-        ⌜ Kept (e .chain .states) (now (work .entry)) (now (work .exit)) × runs (e .rounding) l r ⌝ }
+        ⌜ Kept (e .chain .states) (now (work .entry)) (now (work .exit)) × runs (e .rounding) l r
+        × Logged (now (log .exit)) (recordsRun (e .rounding) l (setsOf (e .sets)) (finishedIn (e .chain .states) r)) ⌝ }
 {
     let c = e.chain;
     let sets = e.sets;
@@ -106,7 +111,7 @@ fn follow(
             place: Chain::STATES,
         };
     }
-    match eliminate(work, e, order) {
+    match eliminate(work, e, order, log) {
         Walk::NoFit(p) => {
             return Course::Stops {
                 number: 12,
@@ -126,14 +131,16 @@ pub(crate) fn run(
     order: &[u64],
     rewards: &[u64],
     work: &mut [u64],
+    log: &mut [u64],
 ) -> Course
     requires { let l = lent (e .chain) (now denominators) (now edges) (now order) (now rewards) (now work) in
-        ⌜ Begun (e .rounding) l (setsOf (e .sets)) ⌝ }
+        ⌜ Begun (e .rounding) l (setsOf (e .sets)) × Logged (now log) [] ⌝ }
     ensures { λ r.
         let l = lent (e .chain) (now (denominators .entry)) (now (edges .entry)) (now (order .entry)) (now (rewards .entry)) (now (work .entry)) in
-        ⌜ (now (work .exit) ≡ cleared l) × runs (e .rounding) l r ⌝ }
+        ⌜ (now (work .exit) ≡ cleared l) × runs (e .rounding) l r
+        × Logged (now (log .exit)) (recordsRun (e .rounding) l (setsOf (e .sets)) (finishedIn (e .chain .states) r)) ⌝ }
 {
-    let r = follow(e, denominators, edges, order, rewards, work);
+    let r = follow(e, denominators, edges, order, rewards, work, log);
     let c = e.chain;
     clear_work(work, c.states);
     r

@@ -30,6 +30,10 @@ pub record Lent : Type 0 where
   pub work : List ℕ
   pub list : ℕ
 
+-- The same with a step list of so many records.
+abbrev pub withList : ℕ → Lent → Lent
+withList list l = record { chain = l .chain; order = l .order; rewards = l .rewards; work = l .work; list = list }
+
 -- How many numbers of the work table an elimination needs.
 abbrev pub workSize : ℕ → ℕ
 workSize n = n * width n

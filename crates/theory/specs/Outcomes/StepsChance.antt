@@ -1,21 +1,18 @@
 -- With a list of n records or more the companion refuses, stops and answers as the entry for the chance does.
 use Prim.Native.Nat.{ℕ, _≤_, _<_}
 use mathlib.Core.Logic.{_⊎_, inl, inr}
+use mathlib.Core.Bool.{Bool}
 use mathlib.Core.List.{List, [], _∷_}
 use native.Mathlib.Omega.{arith}
 use Rattle.meaning.specs.Row.{exact}
 use Rattle.meaning.specs.Step.{Sets}
-use Rattle.meaning.specs.Refusal.{Lent, Entry, plain, listing, never, whole, faults, Refused, WellFormed}
+use Rattle.meaning.specs.Refusal.{Lent, withList, Entry, plain, listing, never, whole, faults, Refused, WellFormed}
 use Rattle.meaning.specs.Stop.{Stopped, Stops, before-steps, in-step}
 use Rattle.meaning.specs.Outcome.{Outcome, refused, stopped, answered, Answer, refusal, ChanceFigure, chance, ChanceOutcome}
 use Rattle.meaning.specs.Steps.{StepRecord, StepsOutcome}
 use Rattle.theory.specs.Outcomes.Computed.{set-in}
 use Rattle.theory.specs.Outcomes.StepsComputed.{Written, written}
 use Rattle.theory.specs.Outcomes.Bare.{reshaped, Entails, none, more, entails-at}
-
--- The same with a step list of so many records: none of them is lent to the entry for the chance.
-abbrev pub relisted : ℕ → Lent → Lent
-relisted list l = record { chain = l .chain; order = l .order; rewards = l .rewards; work = l .work; list = list }
 
 -- Two inputs with the same faults are refused, or well formed, alike.
 module _ {x y : Entry} {l m : Lent} (there : Entails (faults x l) (faults y m)) (back : Entails (faults y m) (faults x l)) where
@@ -43,14 +40,14 @@ but-two F G H K fs f g =
     (more {F = whole G} {G = whole K} (λ p a. (a .0, g (a .1))) (every-own fs)))
 
 module _ (l : Lent) (room : l .chain .states ≤ l .list) where
-  listing-plain : Entails (faults listing l) (faults plain (relisted 0 l))
+  listing-plain : Entails (faults listing l) (faults plain (withList 0 l))
   listing-plain = but-two _ _ _ _ _ (reshaped (λ h. h) (λ h. h) (λ h. h)) asked
     where
       asked : {w r : ℕ} → (w < r) ⊎ (l .list < l .chain .states) → (w < r) ⊎ (0 < 0)
       asked (inl h) = inl h
       asked (inr h) = absurd (omega (arith, h, room))
 
-  plain-listing : Entails (faults plain (relisted 0 l)) (faults listing l)
+  plain-listing : Entails (faults plain (withList 0 l)) (faults listing l)
   plain-listing = but-two _ _ _ _ _ (reshaped (λ h. h) (λ h. h) (λ h. h)) asked
     where
       asked : {w r : ℕ} → (w < r) ⊎ (0 < 0) → (w < r) ⊎ (l .list < l .chain .states)
@@ -58,21 +55,21 @@ module _ (l : Lent) (room : l .chain .states ≤ l .list) where
       asked (inr h) = absurd (omega (arith, h))
 
 -- What stops the elimination, and the figure, do not ask for the list.
-stops-relisted : {l : Lent} {k : Sets} {number place : ℕ} (list : ℕ) → Stops exact l k number place → Stops exact (relisted list l) k number place
+stops-relisted : {b : Bool} {l : Lent} {k : Sets} {number place : ℕ} (list : ℕ) → Stops b l k number place → Stops b (withList list l) k number place
 stops-relisted list (before-steps f) = before-steps f
 stops-relisted list (in-step p h w f) = in-step p h w f
 
-stopped-relisted : {l : Lent} (list number place : ℕ) → Stopped exact l number place → Stopped exact (relisted list l) number place
+pub stopped-relisted : {b : Bool} {l : Lent} (list number place : ℕ) → Stopped b l number place → Stopped b (withList list l) number place
 stopped-relisted list number place s = record { sets = s .sets; right = s .right; alive = s .alive; stops = stops-relisted list (s .stops) }
 
-figure-relisted : {l : Lent} {a : Answer} (list : ℕ) → ChanceFigure l a → ChanceFigure (relisted list l) a
+figure-relisted : {l : Lent} {a : Answer} (list : ℕ) → ChanceFigure l a → ChanceFigure (withList list l) a
 figure-relisted list (chance p q h e) = chance p q h e
 
 abbrev Says : Entry → Lent → Answer → List ℕ → Type 0
 Says x l = Outcome x l refusal (Stopped exact l) (ChanceFigure l)
 
-says-relisted : {x y : Entry} {l : Lent} {a : Answer} {w : List ℕ} (list : ℕ) → Entails (faults x l) (faults y (relisted list l))
-    → Entails (faults y (relisted list l)) (faults x l) → Says x l a w → Says y (relisted list l) a w
+says-relisted : {x y : Entry} {l : Lent} {a : Answer} {w : List ℕ} (list : ℕ) → Entails (faults x l) (faults y (withList list l))
+    → Entails (faults y (withList list l)) (faults x l) → Says x l a w → Says y (withList list l) a w
 says-relisted list there back (refused number place r e s) = refused number place (same-refused there back r) e s
 says-relisted list there back (stopped number place f t e s) =
     stopped number place (same-formed there back f) (stopped-relisted list number place t) e s
@@ -81,10 +78,10 @@ says-relisted {l} list there back (answered f u g s) =
 
 module _ (l : Lent) (room : l .chain .states ≤ l .list) {a : Answer} {w : List ℕ} where
   -- Its answer and its work table are those of the entry for the chance.
-  pub steps-as-chance : {before after : List StepRecord} {count : ℕ} → StepsOutcome l before a count w after → ChanceOutcome (relisted 0 l) a w
+  pub steps-as-chance : {before after : List StepRecord} {count : ℕ} → StepsOutcome l before a count w after → ChanceOutcome (withList 0 l) a w
   steps-as-chance s = says-relisted 0 (listing-plain l room) (plain-listing l room) (s .outcome)
 
   -- And what the entry for the chance says the companion says, with its records.
-  pub chance-as-steps : ChanceOutcome (relisted 0 l) a w → Written l a w
+  pub chance-as-steps : ChanceOutcome (withList 0 l) a w → Written l a w
   chance-as-steps o =
       set-in listing l (λ k right. written k right (says-relisted (l .list) (plain-listing l room) (listing-plain l room) o))

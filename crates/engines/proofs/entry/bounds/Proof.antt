@@ -1,3 +1,6 @@
+use mathlib.Core.Path.{refl}
+use mathlib.Core.Logic.{inl}
+use mathlib.Core.Bool.{false}
 use mathlib.Core.List.{[]}
 use native.Mathlib.Omega.{arith}
 use borrow.Author.Needs.{needs}
@@ -9,33 +12,37 @@ use Rattle.engines.proofs.entry.bounds.Tie as tie
 
 abbrev l : tie.After-unpaid → Lent
 l c =
-    let a = c .before .before .before .before .before .before .args in
+    let a = c .before .before .before .before .before .before .before .args in
     lent (a .c) (a .denominators .now) (a .edges .now) (a .order .now) [] (a .work .now)
+
+unpaid-requires : tie.Need-unpaid-requires
+unpaid-requires c κs = inl refl
 
 add-new : tie.Need-add-new
 add-new c =
     let goal = c .before .before .before in
-    let at = goal .before .before .before .before in
-    omega (arith, bounds-sum (l at) _ (goal .goal .given .1) (at .unpaid .ensures))
+    let at = goal .before .before .before .before .before in
+    omega (arith, bounds-sum (l at) _ _ (goal .goal .given .1) (at .unpaid .ensures false 0 (refl, refl)))
 
 returns : tie.Need-returns
 returns c =
     let goal = c .before .before .before .before .before in
-    let at = goal .before .before .before .before in
-    answers-bounds (l at) _ (goal .goal .given .1) (at .unpaid .ensures)
+    let at = goal .before .before .before .before .before in
+    answers-bounds (l at) _ _ (goal .goal .given .1) (at .unpaid .ensures false 0 (refl, refl))
     (reduced-of (c .before .before .before .new .ensures) (c .before .before .reduce .ensures)) (reduced-of (c .before .new2 .ensures) (c .reduce2 .ensures))
 
 returns-2 : tie.Need-returns-2
 returns-2 c =
     let number = c .before in
-    let at = number .before .before .before .before in
-    refuses-bounds (l at) _ (number .number .given .1) (at .unpaid .ensures)
+    let at = number .before .before .before .before .before in
+    refuses-bounds (l at) _ _ (number .number .given .1) (at .unpaid .ensures false 0 (refl, refl))
 
 pub bounds-spec : {M : Type 1} → statement M
 bounds-spec =
     tie.close
     (tie.spec
-    (λ c κs. search needs)
+    (λ c. search needs)
+    unpaid-requires
     (λ c. search needs)
     (λ c κs. search needs)
     (λ c κs. search needs)

@@ -1,5 +1,6 @@
 use Prim.Native.Nat.{ℕ}
 use mathlib.Core.Path.{_≡_, refl}
+use mathlib.Core.Logic.{inl}
 use native.Mathlib.Omega.{arith}
 use borrow.Author.Needs.{needs}
 use Rattle.meaning.specs.Row.{exact, rounding}
@@ -42,8 +43,10 @@ returns-2 c =
 
 run-requires : tie.Need-run-requires
 run-requires c κs =
-    let sets = c .before .before .before in
-    begun paid (l (sets .before .before)) (formed sets) exact _ refl (room paid (l (sets .before .before)) (formed sets)) (λ e. absurd (apart e)) (clear {l = l (sets .before .before)} (sets .before .before .look-paid .ensures) (sets .sets .given .1) .1 .right)
+    let sets = c .before .before .before .before in
+    let m = l (sets .before .before) in
+    let f = clear {l = m} (sets .before .before .look-paid .ensures) (sets .sets .given .1) in
+    (begun paid m (formed sets) exact _ refl (room paid m (formed sets)) (λ e. absurd (apart e)) (f .1 .right), inl refl)
   where
     apart : exact ≡ rounding → ⊥
     apart e = let z : _≡_ {A = ℕ} 0 1 = cc in omega arith
@@ -54,8 +57,8 @@ sure c = fails _ (clear {l = l (c .before .before .before .before)} (c .before .
 returns-3 : tie.Need-returns-3
 returns-3 c =
     let reward = c .before .before .before in
-    let run = reward .before .before .before .before in
-    let o = run .before .before in
+    let run = reward .before .before .before .before .before in
+    let o = run .before .before .before in
     let sets = o .before .before in
     answers-reward (l (sets .before .before)) (formed sets) (run .run .ensures .0) (sure o) (reward .reward .given .1) (run .run .ensures .1)
     (reduced-of (c .before .new .ensures) (c .reduce .ensures))
@@ -63,8 +66,8 @@ returns-3 c =
 returns-4 : tie.Need-returns-4
 returns-4 c =
     let number = c .before in
-    let run = number .before .before .before .before in
-    let o = run .before .before in
+    let run = number .before .before .before .before .before in
+    let o = run .before .before .before in
     let sets = o .before .before in
     stops-reward (l (sets .before .before)) (formed sets) (run .run .ensures .0) (sure o) (number .number2 .given .1) (run .run .ensures .1)
 
@@ -80,6 +83,7 @@ reward-spec =
     clear-work-requires
     (λ c. search needs)
     returns-2
+    (λ c. search needs)
     run-requires
     (λ c. search needs)
     (λ c κs. search needs)

@@ -1,37 +1,44 @@
 use mathlib.Core.Path.{refl}
 use mathlib.Core.Logic.{inl}
+use mathlib.Core.Bool.{true, false}
 use mathlib.Core.List.{[]}
 use borrow.Author.Needs.{needs}
-use Rattle.meaning.specs.Refusal.{Lent, plain}
+use Rattle.meaning.specs.Refusal.{Lent, withList}
 use Rattle.theory.specs.Outcomes.Formed.{room}
 use Rattle.chain.specs.Lent.{lent}
-use Rattle.engines.proofs.Looked.{refused-by, clear, begun, ran}
+use Rattle.engines.specs.Looking.{ordered}
+use Rattle.engines.proofs.Looked.{refused-by, clear, begun, begun-unlisted, ran}
 use Rattle.engines.proofs.entry.unpaid.Statement.{statement}
 use Rattle.engines.proofs.entry.unpaid.Tie as tie
 
 abbrev l : tie.After-look → Lent
 l c =
-    let a = c .before .before .before .before .before .before .args in
+    let a = c .before .before .before .before .before .before .before .args in
     lent (a .c) (a .denominators .now) (a .edges .now) (a .order .now) [] (a .work .now)
 
 run-requires : tie.Need-run-requires
 run-requires c κs =
-    let sets = c .before .before .before in
+    let sets = c .before .before .before .before in
     let at = sets .before .before in
-    let f = clear {l = l at} (at .look .ensures) (sets .sets .given .1) in
-    begun plain (l at) (f .0) _ _ refl (room plain (l at) (f .0)) (λ _. refl) (f .1 .right)
+    let m = at .before .before .before .before .before .before .before .args .list in
+    let x = ordered false true in
+    let w = withList m (l at) in
+    let f = clear {l = w} (at .look .ensures true m refl) (sets .sets .given .1) in
+    (begun-unlisted m (begun x w (f .0) _ _ refl (room x w (f .0)) (λ _. refl) (f .1 .right)), at .before .before .before .before .before .before .before .pre)
 
 returns : tie.Need-returns
-returns c =
-    let at = c .before .before .before in inl (refused-by {l = l at} (at .look .ensures) (c .before .number .given .1), refl)
+returns c t k e =
+    let at = c .before .before .before in
+    inl (refused-by {l = withList k (l at)} (at .look .ensures t k e) (c .before .number .given .1), refl, at .before .before .before .before .before .before .before .pre)
 
 returns-2 : tie.Need-returns-2
-returns-2 c =
-    let run = c .before .before in
-    let sets = run .before .before .before .before in
+returns-2 c t k e =
+    let run = c .before .before .before .before in
+    let sets = run .before .before .before .before .before in
     let at = sets .before .before in
-    let f = clear {l = l at} (at .look .ensures) (sets .sets .given .1) in
-    ran _ (f .0) (run .run .ensures .0) (run .run .result) (run .run .ensures .1)
+    let f = clear {l = withList k (l at)} (at .look .ensures t k e) (sets .sets .given .1) in
+    let z = run .run .ensures in
+    ran _ (l at) k (f .0) (z .0) (f .1 .right) (run .run .result) (z .1, z .2)
 
 pub unpaid-spec : {M : Type 1} → statement M
 unpaid-spec =
@@ -44,5 +51,6 @@ unpaid-spec =
     run-requires
     (λ c. search needs)
     returns
+    (λ c. search needs)
     (λ c. search needs)
     returns-2)

@@ -31,8 +31,7 @@ returns-3 c =
     let some = rows .before .before in
     let a = some .before .before .before .args in
     let fits = not-false (r .remove2 .result .fits) (note .before .before .if2 .left) in
-    let e = record-is (a .n) (a .s) (a .work .now) (some .before .before .before .pre .1) (rows .rows-to .ensures) (columns .columns-of .ensures) (r .remove2 .ensures .1 fits) in
-    (
+    let e = record-is (a .n) (a .s) (a .work .now) (some .before .before .before .pre .1) (rows .rows-to .ensures) (columns .columns-of .ensures) (r .remove2 .ensures .1 fits) in (
       rw fits at (r .remove2 .ensures .0),
       rw e (logged-more (some .if1 .left) (note .note .ensures)),
     )

@@ -5,8 +5,8 @@ use mathlib.Core.List.{List}
 use lib.Dec.{lit<}
 use lib.ListN.{length, replicate, length-replicate}
 use borrow.Author.Needs.{needs}
-use Rattle.meaning.specs.Refusal.{Lent}
-use Rattle.chain.specs.Lent.{lent, withList}
+use Rattle.meaning.specs.Refusal.{Lent, withList}
+use Rattle.chain.specs.Lent.{lent}
 use Rattle.chain.proofs.Law.{holds, fails}
 use Rattle.look.specs.Says.{Upto, counted}
 use Rattle.look.proofs.Found.{found, none}

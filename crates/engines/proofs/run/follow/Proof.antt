@@ -2,6 +2,7 @@ use mathlib.Core.Path.{_≡_, sym, _∙_}
 use native.Mathlib.Omega.{arith}
 use borrow.Author.Needs.{needs}
 use borrow.Author.Tests.{not-true, not-false, eqb-true, eqb-false}
+use Rattle.meaning.specs.Number.{bit}
 use Rattle.meaning.specs.Chain.{Live}
 use Rattle.meaning.specs.Step.{Sets, first, after}
 use Rattle.meaning.specs.Stop.{earns}
@@ -9,13 +10,13 @@ use Rattle.meaning.specs.Refusal.{Lent}
 use Rattle.chain.specs.Lent.{lent as lentTo}
 use Rattle.survey.specs.Sets.{setsOf}
 use Rattle.engines.specs.Run.{Begun}
-use Rattle.engines.specs.Table.{tableOf, Kept}
+use Rattle.engines.specs.Table.{rowAt, tableOf, Kept}
 use Rattle.engines.specs.Order.{going, Finished}
 use Rattle.engines.specs.declared.walk.Walk.the-variants.{Done}
 use Rattle.engines.specs.Turn.{Reached}
 use Rattle.engines.proofs.Tables.{kept-same, kept-more}
 use Rattle.engines.proofs.Turns.{reached-fitting}
-use Rattle.engines.proofs.Course.{runs-won, runs-lost, start-live, stops-first, stops-unfit, reads, walk-done, walk-kept}
+use Rattle.engines.proofs.Course.{runs-won, runs-lost, unlogged, start-live, stops-first, logged-first, stops-unfit, logged-unfit, reads, logged-through, walk-done, walk-kept, walk-inside}
 use Rattle.engines.proofs.run.follow.Statement.{statement}
 use Rattle.engines.proofs.run.follow.Tie as tie
 
@@ -27,27 +28,36 @@ abbrev k : tie.Start → Sets
 k c = setsOf (c .args .e .sets)
 
 begun : (c : tie.Start) → Begun (c .args .e .rounding) (l c) (k c)
-begun c = c .pre
+begun c = c .pre .0
+
+-- The start is a goal, or has no path to one.
+won-by : (c : tie.After-no-row) → bit (c .before .before .before .before .before .before .before .before .before .before .before .args .e .chain .goals) (c .before .before .before .before .before .before .before .before .before .before .before .args .e .chain .start) ≡ 1
+won-by c = eqb-true _ _ (sym (c .before .before .holds .ensures) ∙ c .before .if1 .taken)
+
+lost-by : (c : tie.After-no-row2) → bit (c .before .before .before .before .before .before .before .before .before .before .before .before .before .args .e .sets .good) (c .before .before .before .before .before .before .before .before .before .before .before .before .before .args .e .chain .start) ≡ 1 → ⊥
+lost-by c = eqb-false _ _ (sym (c .before .before .holds2 .ensures) ∙ not-true _ (c .before .if2 .taken))
 
 returns : tie.Need-returns
 returns c =
     let h = c .before .before in
-    let s = h .before .before .before .before .before .before .before .before in (
+    let s = h .before .before .before .before .before .before .before .before .before in (
       kept-same (s .args .e .chain .states) (s .args .work .now),
-      runs-won (s .args .e .rounding) (l s) (k s) (begun s .asked .right) (eqb-true _ _ (sym (h .holds .ensures) ∙ c .before .if1 .taken)) (c .no-row .ensures),
+      runs-won (s .args .e .rounding) (l s) (k s) (begun s .asked .right) (won-by c) (c .no-row .ensures),
+      unlogged (s .args .e .rounding) (l s) (k s) (begun s .asked .right) (λ a. a .unwon (won-by c)) (s .pre .1) _,
     )
 
 returns-2 : tie.Need-returns-2
 returns-2 c =
     let h = c .before .before in
-    let s = h .before .before .before .before .before .before .before .before .before .before in (
+    let s = h .before .before .before .before .before .before .before .before .before .before .before in (
       kept-same (s .args .e .chain .states) (s .args .work .now),
-      runs-lost (s .args .e .rounding) (l s) (k s) (begun s .asked .right) (eqb-false _ _ (sym (h .holds2 .ensures) ∙ not-true _ (c .before .if2 .taken))) (c .no-row2 .ensures),
+      runs-lost (s .args .e .rounding) (l s) (k s) (begun s .asked .right) (lost-by c) (c .no-row2 .ensures),
+      unlogged (s .args .e .rounding) (l s) (k s) (begun s .asked .right) (λ a. lost-by c (begun s .asked .right .good _ .1 (a .leads))) (s .pre .1) _,
     )
 
 -- The elimination is begun where the start is live.
 abbrev start-of : tie.Else2 → tie.Start
-start-of c = c .before .before .before .before .before .before .before .before .before .before .before
+start-of c = c .before .before .before .before .before .before .before .before .before .before .before .before
 
 alive : (c : tie.Else2) → Live (l (start-of c) .chain) (l (start-of c) .chain .start)
 alive c =
@@ -66,19 +76,22 @@ returns-3 c =
     let at = c .before .before .before in
     let y = at .before .before in
     let s = start-of y in
-    let m = at .first-rows .ensures in
-    (m .kept, stops-first (s .args .e .rounding) (l s) (k s) (begun s .asked .right) (alive y) (m .unfit (not-true _ (c .if3 .taken))))
+    let m = at .first-rows .ensures in (
+      m .kept,
+      stops-first (s .args .e .rounding) (l s) (k s) (begun s .asked .right) (alive y) (m .unfit (not-true _ (c .if3 .taken))),
+      logged-first (s .args .e .rounding) (l s) (k s) (begun s .asked .right) (begun s .asked .few) (s .pre .1),
+    )
 
 eliminate-requires : tie.Need-eliminate-requires
 eliminate-requires c κs =
-    let at = c .before .before .before .before in
+    let at = c .before .before .before .before .before in
     let s = start-of (at .before .before) in
-    let z = at .first-rows .ensures .reached (not-false _ (c .before .if3 .left)) in
-    ((reached-fitting (begun s .asked .few) (begun s .asked .room) z, begun s .orders), begun s .inside)
+    let z = at .first-rows .ensures .reached (not-false _ (c .before .before .if3 .left)) in
+    ((reached-fitting (begun s .asked .few) (begun s .asked .room) z, begun s .orders, s .pre .1), begun s .inside)
 
 -- The walk, and what it began with.
 abbrev begun-at : tie.After-eliminate → tie.Else2
-begun-at c = c .before .before .before .before .before .before .before
+begun-at c = c .before .before .before .before .before .before .before .before
 
 abbrev from : tie.After-eliminate → tie.Start
 from c = start-of (begun-at c)
@@ -86,55 +99,59 @@ from c = start-of (begun-at c)
 begins : (c : tie.After-eliminate)
     → let s = from c in
     let b = s .args .e .rounding in
-    Reached b (s .args .e .chain .states) (first b (l s .chain) (k s) (earns (l s)) (λ _. 0)) (s .args .work .now) (c .before .before .before .before .before .first-rows .last .0)
-begins c = c .before .before .before .before .before .first-rows .ensures .reached (not-false _ (c .before .before .if3 .left))
+    Reached b (s .args .e .chain .states) (first b (l s .chain) (k s) (earns (l s)) (λ _. 0)) (s .args .work .now) (c .before .before .before .before .before .before .first-rows .last .0)
+begins c = c .before .before .before .before .before .before .first-rows .ensures .reached (not-false _ (c .before .before .before .if3 .left))
 
 kept : (c : tie.After-eliminate) → Kept (from c .args .e .chain .states) (from c .args .work .now) (c .eliminate .last .0)
 kept c =
     let a = from c .args in
     kept-more (begins c .kept)
-    (walk-kept (a .e .rounding) (a .e .chain .states) (going (a .e)) (a .order .now) _ _ (c .eliminate .result) (c .eliminate .ensures))
+    (walk-kept (a .e .rounding) (a .e .chain .states) (going (a .e)) (a .order .now) _ _ (c .eliminate .result) (c .eliminate .ensures .0))
 
 done : (c : tie.After-eliminate) → c .eliminate .result ≡ Done
     → let a = from c .args in
     let b = a .e .rounding in
     let n = a .e .chain .states in
     let o = a .order .now in
-    let v = c .before .before .before .before .before .first-rows .last .0 in
+    let v = c .before .before .before .before .before .before .first-rows .last .0 in
     Finished b n (after b n (going (a .e)) o (tableOf n v)) v (c .eliminate .last .0)
 done c e =
     let a = from c .args in
-    walk-done (a .e .rounding) (a .e .chain .states) (going (a .e)) (a .order .now) _ _ (c .eliminate .result) (c .eliminate .ensures) e
+    walk-done (a .e .rounding) (a .e .chain .states) (going (a .e)) (a .order .now) _ _ (c .eliminate .result) (c .eliminate .ensures .0) e
 
 same-length-2 : tie.Need-same-length-2
-same-length-2 c = kept (c .before .before .before .before .before) .len
+same-length-2 c = kept (c .before .before .before .before .before .before .before) .len
 
 returns-4 : tie.Need-returns-4
 returns-4 c =
-    let at = c .before .before .before .before .before in
+    let at = c .before .before .before .before .before .before .before in
     let s = from at in (
       kept at,
       stops-unfit (s .args .e .rounding) (l s) (k s) (begun s .asked .right) (alive (begun-at at)) _ _ (begins at .same) (at .eliminate .result)
-          (at .eliminate .ensures) _ (c .before .p .given .1),
+          (at .eliminate .ensures .0) _ (c .before .p .given .1),
+      logged-unfit (s .args .e .rounding) (l s) (k s) (begun s .asked .right) (alive (begun-at at)) _ (begins at .same) (at .eliminate .result) (at .eliminate .ensures .1) _ (c .before .p .given .1)
+          (walk-inside (s .args .e .rounding) (s .args .e .chain .states) (going (s .args .e)) (s .args .order .now) _ _ (at .eliminate .result) (at .eliminate .ensures .0) (c .before .p .given .1)),
     )
 
 last-of-requires : tie.Need-last-of-requires
 last-of-requires c κs =
-    let at = c .before .before .before .before .before in
+    let at = c .before .before .before .before .before .before .before in
     let s = from at in
     let z = begins at .kept .len in
     (reached-fitting (begun s .asked .few) (omega (arith, begun s .asked .room)) (done at (c .before .enum-told .given .1) .reached), begun s .start)
 
-same-length-3 : tie.Need-same-length-3
-same-length-3 c = kept (c .before .before .before .before .before .before) .len
+same-length-4 : tie.Need-same-length-4
+same-length-4 c = kept (c .before .before .before .before .before .before .before .before) .len
 
 returns-5 : tie.Need-returns-5
 returns-5 c =
-    let at = c .before .before .before .before .before .before in
+    let at = c .before .before .before .before .before .before .before .before in
     let s = from at in (
       kept at,
       reads (s .args .e .rounding) (l s) (k s) (begun s .asked .right) (alive (begun-at at)) _ _ (begins at .same) (at .eliminate .result)
-          (at .eliminate .ensures) (begun s .start) (c .before .before .enum-told .given .1) (c .last-of .result) (c .last-of .ensures),
+          (at .eliminate .ensures .0) (begun s .start) (c .before .before .enum-told .given .1) (c .last-of .result) (c .last-of .ensures),
+      logged-through (s .args .e .rounding) (l s) (k s) (begun s .asked .right) (alive (begun-at at)) _ (begins at .same) (at .eliminate .result) (at .eliminate .ensures .1) (c .before .before .enum-told .given .1)
+          (rowAt (s .args .e .chain .states) (at .eliminate .last .0) (s .args .e .chain .start)) (c .last-of .ensures),
     )
 
 pub follow-spec : {M : Type 1} → statement M
@@ -153,8 +170,10 @@ follow-spec =
     eliminate-requires
     (λ c. search needs)
     same-length-2
+    (λ c. search needs)
     returns-4
     (λ c. search needs)
     last-of-requires
-    same-length-3
+    same-length-4
+    (λ c. search needs)
     returns-5)
