@@ -1,10 +1,11 @@
 -- From the log of an elimination to the trace that the chance entry's companion answers.
-use Prim.Native.Nat.{ℕ, zero, suc, _+_, _*_, _≤_, _<_}
-use mathlib.Core.Path.{_≡_, refl, sym, _∙_}
+use Prim.Native.Nat.{ℕ, suc, _+_, _*_, _≤_, _<_}
+use mathlib.Core.Path.{_≡_, refl, sym, ap, _∙_}
 use mathlib.Core.Logic.{inl, inr, ⊎-elim}
-use mathlib.Core.List.{List, [], _∷_, append-nil}
+use mathlib.Core.List.{List, [], _∷_, _++_, append-nil}
 use native.Mathlib.Omega.{arith}
-use lib.ListN.{length, getD, drop, List·getD-eq-default}
+use lib.ListN.{length, getD, List·getD-eq-default}
+use lib.Seq.{drop-nil}
 use borrow.Author.Tests.{lt-ltb, le-ltb}
 use Rattle.meaning.specs.Number.{tabFrom, filled}
 use Rattle.meaning.specs.Chain.{mostStates}
@@ -34,19 +35,16 @@ unfolding numbersOf tabFrom
 records-from numbers [] i h = refl
 records-from numbers (r ∷ rs) i h =
     rw (
-      h 0 (1 + recordSize * i) (omega arith),
-      h 1 (2 + recordSize * i) (omega arith),
-      h 2 (3 + recordSize * i) (omega arith),
-      h 3 (4 + recordSize * i) (omega arith),
+      h 0 (recordSize * i + 1) (omega arith),
+      h 1 (recordSize * i + 2) (omega arith),
+      h 2 (recordSize * i + 3) (omega arith),
+      h 3 (recordSize * i + 4) (omega arith),
       records-from numbers rs (suc i) (λ j k e. h (suc (suc (suc (suc j)))) k (omega arith)),
     )
 
-filled-none : (rs : List StepRecord) → filled rs [] ≡ rs
-filled-none rs = rw (drop-none (length rs)) (append-nil rs)
-  where
-    drop-none : (n : ℕ) → drop {A = StepRecord} n [] ≡ []
-    drop-none zero = refl
-    drop-none (suc n) = refl
+-- Records that are put into no list are all of it.
+pub filled-none : (rs : List StepRecord) → filled rs [] ≡ rs
+filled-none rs = ap (λ (z : List StepRecord). rs ++ z) (drop-nil (length rs)) ∙ append-nil rs
 
 -- A log that is asked for.
 holds : {log : List ℕ} {rs : List StepRecord} → length log ≡ logSize → Logged log rs → Holds log rs

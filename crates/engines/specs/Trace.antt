@@ -17,10 +17,10 @@ countIn numbers = getD numbers 0 0
 abbrev pub recordIn : List ℕ → ℕ → StepRecord
 recordIn numbers i =
     record {
-      state = getD numbers (1 + recordSize * i) 0;
-      rows = getD numbers (2 + recordSize * i) 0;
-      columns = getD numbers (3 + recordSize * i) 0;
-      divisor = getD numbers (4 + recordSize * i) 0;
+      state = getD numbers (recordSize * i + 1) 0;
+      rows = getD numbers (recordSize * i + 2) 0;
+      columns = getD numbers (recordSize * i + 3) 0;
+      divisor = getD numbers (recordSize * i + 4) 0;
     }
 
 abbrev pub recordsIn : List ℕ → List StepRecord

@@ -1,4 +1,5 @@
 // What the entries answer; toldChance, toldReward and toldBounds give document 01's numbers for each case.
+use chain::Chain;
 use chain::fraction::Fraction;
 
 pub enum Chance {
@@ -27,5 +28,5 @@ pub struct Trace {
 impl Trace {
     pub const RECORD: usize = 4;
 
-    pub const NUMBERS: usize = 257;
+    pub const NUMBERS: usize = 1 + Trace::RECORD * Chain::STATES;
 }

@@ -13,13 +13,11 @@ ghost use Rattle.meaning.specs.Steps.{StepRecord, rowsTo, columnsOf, recordOf};
 ghost use Rattle.engines.specs.Table.{tableOf, rowAt, Fitting};
 ghost use Rattle.engines.specs.Turn.{Made};
 ghost use Rattle.engines.specs.Log.{logSize, Holds, Roomy, LoggedMore};
+use crate::answer::Trace;
 use crate::row::UNKNOWN;
 use crate::step::remove;
 use crate::work::row_start;
 use chain::Chain;
-
-// How many numbers a record has: state, rows, columns, divisor.
-pub(crate) const RECORD: usize = 4;
 
 // 1 for a weight, and 0 for none or for the state's own.
 fn counted(x: u64, own: bool) -> u64
@@ -82,7 +80,7 @@ fn note(log: &mut [u64], state: u64, rows: u64, columns: u64, divisor: u64)
         ⌜ ((rs : List StepRecord) → Holds (now (log .entry)) rs → Holds (now (log .exit)) (rs ++ (r ∷ []))) ⌝ }
 {
     let count = log[0];
-    let k = 1 + RECORD * count as usize;
+    let k = 1 + Trace::RECORD * count as usize;
     log[0] = count + 1;
     log[k] = state;
     log[k + 1] = rows;
