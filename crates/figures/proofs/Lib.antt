@@ -2,3 +2,4 @@ pub mod Outcomes
 pub mod Opened
 pub mod Numbered
 pub mod Unique
+pub mod Traces

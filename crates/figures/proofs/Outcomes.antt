@@ -33,7 +33,7 @@ retold {r} t e = subst (Tells r) e t
 
 module _ {f : Input} {c : Chain} {denominators edges order rewards : List ℕ} (h : Holds f c denominators edges order rewards) where
   -- Without the rewards the tables are what the entries for the chance and for the bounds are lent.
-  unpaid : ours c denominators edges order [] ≡ plainIn f
+  pub unpaid : ours c denominators edges order [] ≡ plainIn f
   unpaid = ap (λ (l : Lent). record { chain = l .chain; order = l .order; rewards = []; work = l .work; list = l .list }) (h .paid)
 
   bare : lent c denominators edges [] [] [] ≡ bareIn f

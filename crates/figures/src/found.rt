@@ -1,8 +1,14 @@
 // What is found of a chain, as numbers: its figures, each with a work table of its own, and its counts.
+ghost use mathlib.Core.Path.{_≡_};
 ghost use mathlib.Core.List.{[]};
+ghost use lib.ListN.{replicate};
 ghost use Rattle.meaning.specs.Block.{Input};
-ghost use Rattle.meaning.specs.Outcome.{ChanceOutcome, RewardOutcome, BoundsOutcome};
+ghost use Rattle.meaning.specs.Refusal.{withList};
+ghost use Rattle.meaning.specs.Outcome.{refusal, ChanceOutcome, RewardOutcome, BoundsOutcome};
 ghost use Rattle.chain.specs.Lent.{lent};
+ghost use Rattle.engines.specs.Answer.{toldChance};
+ghost use Rattle.engines.specs.Log.{logSize};
+ghost use Rattle.engines.specs.Trace.{Traced};
 ghost use Rattle.figures.specs.Told.{toldAnswer, toldLimits};
 ghost use Rattle.figures.specs.Found.{ours, Found, Counted, Holds, ReportAsked, AskedOf};
 use crate::Question;
@@ -12,6 +18,8 @@ use crate::answer::Figures;
 use crate::answer::Limits;
 use chain::Chain;
 use chain::edge;
+use engines::answer::Chance;
+use engines::answer::Trace;
 use engines::entry;
 use survey::Survey;
 
@@ -106,5 +114,32 @@ pub(crate) fn found(
         Question::Chance => Figures::of_chance(chance(c, denominators, edges, order)),
         Question::Bounds => Figures::of_bounds(bounds(c, denominators, edges, order)),
         Question::Report => whole(c, denominators, edges, order, rewards),
+    }
+}
+
+// The chance and the step list of the chain and tables of an accepted file.
+pub(crate) fn trace(
+    c: Chain,
+    denominators: &[u64],
+    edges: &[u64],
+    order: &[u64],
+    list: usize,
+) -> Trace
+    ensures { λ r.
+        let l = ours c (now (denominators .entry)) (now (edges .entry)) (now (order .entry)) [] in
+        ⌜ Found (Traced (withList list l)) r ⌝ }
+{
+    let mut work = [0u64; Chain::WORK];
+    entry::trace(c, denominators, edges, order, &mut work, list)
+}
+
+// Of a file that is refused there is no record.
+pub(crate) fn no_trace(number: u32, place: usize) -> Trace
+    ensures { λ r. ⌜ (toldChance (r .chance) ≡ refusal number place) × (r .numbers ≡ replicate logSize 0) ⌝ }
+{
+    let numbers = [0u64; Trace::NUMBERS];
+    Trace {
+        chance: Chance::Refused { number, place },
+        numbers,
     }
 }

@@ -1,9 +1,11 @@
-// The figures of the chain in a file.
+// The figures of the chain in a file, and its step list.
 ghost use Rattle.chainfile.specs.Input.{input};
 ghost use Rattle.figures.specs.Found.{FiguresOutcome};
+ghost use Rattle.figures.specs.Traced.{FileTraced};
 use chain::Chain;
 use chain::edge;
 use chainfile::Reading;
+use engines::answer::Trace;
 
 mod answer;
 mod found;
@@ -51,6 +53,34 @@ pub fn ask(kept: &[u8], more: u64, question: Question) -> Figures
                 &order[..n],
                 &rewards[..n],
             )
+        }
+    }
+}
+
+// Opens the file in the same way, and answers its chance and its step list by value, for a caller who has room for so many records.
+pub fn steps(kept: &[u8], more: u64, list: usize) -> Trace
+    ensures { λ r. ⌜ FileTraced (input (now (kept .entry)) more) list r ⌝ }
+{
+    let mut denominators = [0u64; Chain::STATES];
+    let mut edges = [0u64; edge::MOST];
+    let mut order = [0u64; Chain::STATES];
+    let mut rewards = [0u64; Chain::STATES];
+    match chainfile::read(
+        kept,
+        more,
+        &mut denominators,
+        &mut edges,
+        &mut order,
+        &mut rewards,
+    ) {
+        Reading::Refused { number, place } => found::no_trace(number, place),
+        Reading::Chain {
+            chain,
+            edges: count,
+        } => {
+            let n = chain.states;
+            let e = edge::SIZE * count;
+            found::trace(chain, &denominators[..n], &edges[..e], &order[..n], list)
         }
     }
 }

@@ -24,6 +24,8 @@ pub mod Survey
 pub mod Block
 -- "Chain files": 20 to 24, and the tables of an accepted file.
 pub mod File
+-- The step list of a chain file.
+pub mod FileSteps
 -- What is answered where bytes are written into a lent buffer.
 pub mod Buffer
 -- The writer of chain files.

@@ -1,12 +1,12 @@
 -- The report: what the program prints for an input, byte for byte.
 use Prim.Native.Nat.{ℕ, _≤_, _<_}
 use mathlib.Core.Path.{_≡_}
-use mathlib.Core.List.{List, _++_}
+use mathlib.Core.List.{List, [], _∷_, _++_}
 use lib.ListN.{length}
 use lib.Dec.{eqb}
 use Rattle.meaning.specs.Number.{choose, filled}
 use Rattle.meaning.specs.Chain.{Goal, Live}
-use Rattle.meaning.specs.Refusal.{paid, Refused, WellFormed}
+use Rattle.meaning.specs.Refusal.{paid, listing, Refused, WellFormed}
 use Rattle.meaning.specs.Outcome.{
   Answer,
   ChanceOutcome,
@@ -14,9 +14,11 @@ use Rattle.meaning.specs.Outcome.{
   Bounds,
   BoundsOutcome,
 }
+use Rattle.meaning.specs.Steps.{StepRecord, StepsOutcome}
 use Rattle.meaning.specs.Survey.{Count}
 use Rattle.meaning.specs.Block.{Input, headStates, headEdges}
 use Rattle.meaning.specs.File.{FileRefused, Accepted, chainIn, plainIn, paidIn}
+use Rattle.meaning.specs.FileSteps.{listedIn}
 use Rattle.meaning.specs.Buffer.{Writing, noWriting, writing}
 use Rattle.meaning.specs.Text.{bytesOf, decimal}
 
@@ -72,6 +74,33 @@ pub data Report (f : Input) (t : List ℕ) : Type 0 where
 abbrev pub faceText : ℕ → Answer → List ℕ
 faceText face chance = lineText (bytesOf "face " ++ decimal face ++ bytesOf " ") (answerText chance)
 
+-- The line of a record of the step list, as `state 3 rows 2 columns 4 divisor 6`.
+abbrev pub recordText : ℕ → ℕ → ℕ → ℕ → List ℕ
+recordText state rows columns divisor =
+    bytesOf "state "
+    ++ decimal state
+    ++ bytesOf " rows "
+    ++ decimal rows
+    ++ bytesOf " columns "
+    ++ decimal columns
+    ++ lineText (bytesOf " divisor ") (decimal divisor)
+
+-- A line for each record.
+unfoldable pub recordsText : List StepRecord → List ℕ
+recordsText [] = []
+recordsText (r ∷ rs) = recordText (r .state) (r .rows) (r .columns) (r .divisor) ++ recordsText rs
+
+-- t is what the desk's program prints for the input f: the single line of a refusal by 20 to 24 or 1 to 10, or the lines of the step list and
+-- then the report's line of the chance, in which 12 replaces the fraction.
+pub data StepsReport (f : Input) (t : List ℕ) : Type 0 where
+  file-refused : (number place : ℕ) → FileRefused f number place → t ≡ refusedText number place ++ bytesOf "\n" → StepsReport f t
+  chain-refused : (number place : ℕ) → Accepted f → Refused listing (listedIn f) number place
+      → t ≡ refusedText number place ++ bytesOf "\n" → StepsReport f t
+  listed : Accepted f → WellFormed listing (listedIn f) → (chance : Answer) (count : ℕ) (work : List ℕ) (records : List StepRecord)
+      → StepsOutcome (listedIn f) [] chance count work records
+      → t ≡ recordsText records ++ lineText (bytesOf "chance ") (answerText chance)
+      → StepsReport f t
+
 -- A buffer with less than the room for any such text is refused by 2, and stays. Else the text stands at its front, and bytes past the text
 -- stay.
 pub data TextOutcome (room : ℕ) (Text : List ℕ → Type 0) (before : List ℕ) (a : Writing) (after : List ℕ) : Type 0 where
@@ -92,3 +121,10 @@ faceRoom = 69
 
 abbrev pub FaceOutcome : ℕ → Answer → List ℕ → Writing → List ℕ → Type 0
 FaceOutcome face chance = TextOutcome faceRoom (λ t. t ≡ faceText face chance)
+
+-- Room for any step list: 64 lines of 111 bytes and the chance's line of 50, since numbers of 64 bits have 20 digits.
+abbrev pub stepsRoom : ℕ
+stepsRoom = 7154
+
+abbrev pub StepsReportOutcome : Input → List ℕ → Writing → List ℕ → Type 0
+StepsReportOutcome f = TextOutcome stepsRoom (StepsReport f)

@@ -1,4 +1,4 @@
--- Chain files, the report and the call from C: one outcome each; and what damage to a file meets.
+-- Chain files, the report, the step list and the calls from C: one outcome each; and what damage to a file meets.
 pub mod Fletcher
 pub mod Sums
 pub mod Head
@@ -14,5 +14,6 @@ pub mod FileOne
 pub mod Alike
 pub mod Written
 pub mod ReportOne
+pub mod StepsOne
 pub mod CallOne
 pub mod CallRead

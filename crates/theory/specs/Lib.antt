@@ -11,5 +11,5 @@ pub mod Rows
 pub mod Stages
 -- From a well-formed input to the answer: every entry has one outcome, and what it is held to; the chains worked by hand.
 pub mod Outcomes
--- Chain files, the report and the call from C: one outcome each; and what damage to a file meets.
+-- Chain files, the report, the step list and the calls from C: one outcome each; and what damage to a file meets.
 pub mod Files

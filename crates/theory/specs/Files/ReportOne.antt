@@ -16,7 +16,7 @@ use Rattle.theory.specs.Chains.Counted.{count-one}
 use Rattle.theory.specs.Outcomes.Entries.{chance-determined, reward-determined, bounds-determined}
 use Rattle.theory.specs.Files.FileOne.{file-one, accepted-unrefused}
 
-line : {n p n′ p′ : ℕ} {t t′ : List ℕ} → (n ≡ n′) × (p ≡ p′) → t ≡ refusedText n p ++ bytesOf "\n" → t′ ≡ refusedText n′ p′ ++ bytesOf "\n" → t ≡ t′
+pub line : {n p n′ p′ : ℕ} {t t′ : List ℕ} → (n ≡ n′) × (p ≡ p′) → t ≡ refusedText n p ++ bytesOf "\n" → t′ ≡ refusedText n′ p′ ++ bytesOf "\n" → t ≡ t′
 line o e e′ = e ∙ ap₂ (λ n p. refusedText n p ++ bytesOf "\n") (o .0) (o .1) ∙ sym e′
 
 formed-or : {x : Entry} {l : Lent} {n p : ℕ} → WellFormed x l → Refused x l n p → ⊥
