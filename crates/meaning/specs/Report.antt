@@ -74,15 +74,16 @@ pub data Report (f : Input) (t : List ℕ) : Type 0 where
 abbrev pub faceText : ℕ → Answer → List ℕ
 faceText face chance = lineText (bytesOf "face " ++ decimal face ++ bytesOf " ") (answerText chance)
 
+-- A number after its name.
+abbrev pub namedText : List ℕ → ℕ → List ℕ
+namedText name x = name ++ decimal x
+
 -- The line of a record of the step list, as `state 3 rows 2 columns 4 divisor 6`.
 abbrev pub recordText : ℕ → ℕ → ℕ → ℕ → List ℕ
 recordText state rows columns divisor =
-    bytesOf "state "
-    ++ decimal state
-    ++ bytesOf " rows "
-    ++ decimal rows
-    ++ bytesOf " columns "
-    ++ decimal columns
+    namedText (bytesOf "state ") state
+    ++ namedText (bytesOf " rows ") rows
+    ++ namedText (bytesOf " columns ") columns
     ++ lineText (bytesOf " divisor ") (decimal divisor)
 
 -- A line for each record.

@@ -32,11 +32,11 @@ use Rattle.report.proofs.Lengths.{refusal-short}
 use Rattle.report.proofs.Room.{reward-near, report-short}
 
 -- 12 and 0 do not end the report.
-twelve : {number : ℕ} → number ≡ 12 → Ends number → ⊥
+pub twelve : {number : ℕ} → number ≡ 12 → Ends number → ⊥
 twelve e (chain a b) = omega arith
 twelve e (file a b) = omega arith
 
-nought : Ends 0 → ⊥
+pub nought : Ends 0 → ⊥
 nought (chain a b) = omega arith
 nought (file a b) = omega arith
 

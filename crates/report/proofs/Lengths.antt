@@ -68,15 +68,22 @@ lines-short states edges goals live chance reward bounds hs he hg hl nc sc nr sr
 pub refusal-short : (number place : ℕ) → Near number place → length (refusedText number place ++ bytesOf "\n") ≤ reportRoom
 refusal-short number place n = simp length-append (omega (arith, digits 1 number (omega arith), digits 3 place (omega arith)))
 
--- The line of a face, whatever 64-bit numbers stand in it.
-pub face-room : (buffer : List ℕ) (face : ℕ) (a : Answer) → faceRoom ≤ length buffer
-    → face < 2 ^ 64 → a .number < 2 ^ 32 → a .place < 2 ^ 64 → a .numerator < 2 ^ 64 → a .denominator < 2 ^ 64
-    → Room buffer 0 (faceText face a)
-face-room buffer face a room hf hn hp hu hd =
-    let refused : length (refusedText (a .number) (a .place)) ≤ 42 =
-    simp length-append (omega (arith, digits 9 (a .number) (omega arith), digits 19 (a .place) (omega arith))) in
+-- An answer whose numbers have room in their types.
+pub record Wide (a : Answer) : Type 0 where
+  pub number : a .number < 2 ^ 32
+  pub place : a .place < 2 ^ 64
+  pub numerator : a .numerator < 2 ^ 64
+  pub denominator : a .denominator < 2 ^ 64
+
+pub refused-wide : (a : Answer) → Wide a → length (refusedText (a .number) (a .place)) ≤ 42
+refused-wide a w = simp length-append (omega (arith, digits 9 (a .number) (omega arith), digits 19 (a .place) (omega arith)))
+
+pub answer-wide : (a : Answer) → Wide a → length (answerText a) ≤ 42
+answer-wide a w =
     let fraction : length (fractionText (a .numerator) (a .denominator)) ≤ 42 =
     simp length-append (omega (arith, digits 19 (a .numerator) (omega arith), digits 19 (a .denominator) (omega arith))) in
-    let answer : length (answerText a) ≤ 42 =
-    either (eqb (a .number) 0) _ _ 42 (either (eqb (a .denominator) 0) _ _ 42 (omega arith) fraction) refused in
-    simp length-append (omega (arith, digits 19 face (omega arith)))
+    either (eqb (a .number) 0) _ _ 42 (either (eqb (a .denominator) 0) _ _ 42 (omega arith) fraction) (refused-wide a w)
+
+-- The line of a face, whatever 64-bit numbers stand in it.
+pub face-room : (buffer : List ℕ) (face : ℕ) (a : Answer) → faceRoom ≤ length buffer → face < 2 ^ 64 → Wide a → Room buffer 0 (faceText face a)
+face-room buffer face a room hf w = simp length-append (omega (arith, answer-wide a w, digits 19 face (omega arith)))

@@ -5,3 +5,5 @@ pub mod Near
 pub mod Room
 pub mod ChainLines
 pub mod Unique
+pub mod StepLines
+pub mod StepsText

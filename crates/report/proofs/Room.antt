@@ -17,8 +17,14 @@ use Rattle.meaning.specs.Outcome.{
 }
 use Rattle.meaning.specs.Report.{linesText, reportRoom}
 use Rattle.theory.specs.Outcomes.Small.{chance-small, reward-small, bounds-small}
-use Rattle.report.proofs.Lengths.{Near, lines-short}
+use Rattle.figures.specs.Told.{Tells, toldAnswer}
+use Rattle.figures.specs.declared.answer.Answer.{Answer as Told}
+use Rattle.report.proofs.Lengths.{Near, lines-short, Wide}
 use Rattle.report.proofs.Near.{refused-near, stopped-near}
+
+-- What is told of an answer has room in its types.
+pub wide : {r : Told} {a : Answer} → Tells r a → Wide (toldAnswer r)
+wide t = record { number = t .number; place = t .place; numerator = t .numerator; denominator = t .denominator }
 
 nought : Near 0 0
 nought = record { two = omega arith; four = omega arith }

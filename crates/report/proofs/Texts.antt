@@ -1,9 +1,9 @@
--- The texts that document 01 prints are those of the definitions.
+-- The texts that document 01 prints, and the line of a record, are those of the definitions.
 use mathlib.Core.Path.{_≡_, refl}
 use mathlib.Core.List.{_++_}
 use Rattle.meaning.specs.Outcome.{fraction, infinite, refusal, between}
 use Rattle.meaning.specs.Text.{bytesOf, decimal, decimalIn}
-use Rattle.meaning.specs.Report.{answerText, refusedText, linesText, faceText}
+use Rattle.meaning.specs.Report.{answerText, refusedText, linesText, recordText, faceText}
 
 -- The address chain.
 address : linesText 7 12 1 5 (fraction 4375 4376) infinite (between 4375 4376 4375 4376)
@@ -23,3 +23,8 @@ within = refl
 face : faceText 1 (fraction 1 6) ≡ bytesOf "face 1 1/6\n"
 unfolding decimal decimalIn
 face = refl
+
+-- A record of the step list.
+step : recordText 3 2 4 6 ≡ bytesOf "state 3 rows 2 columns 4 divisor 6\n"
+unfolding decimal decimalIn
+step = refl

@@ -7,8 +7,10 @@ use lib.ListN.{length, drop, length-append}
 use Rattle.meaning.specs.Outcome.{Answer}
 use Rattle.meaning.specs.Block.{Input}
 use Rattle.meaning.specs.Buffer.{Writing}
-use Rattle.meaning.specs.Report.{Report, TextOutcome, ReportOutcome, FaceOutcome}
+use Rattle.meaning.specs.Report.{answerText, lineText, recordsText, Report, StepsReport, TextOutcome, ReportOutcome, StepsReportOutcome, FaceOutcome}
+use Rattle.meaning.specs.Text.{bytesOf}
 use Rattle.theory.specs.Files.ReportOne.{report-one, text-one}
+use Rattle.theory.specs.Files.StepsOne.{steps-report-one}
 use Rattle.report.specs.Stands.{told}
 use Rattle.report.specs.declared.Printed.{Printed}
 use Rattle.report.specs.declared.Printed.the-variants.{Length, Refused}
@@ -60,6 +62,17 @@ report-some t (Report.reported a w g v cg cv c r b x y z oc or ob e) = omega (ar
 pub report-unique : {f : Input} {before after after′ : List ℕ} (r r′ : Printed) → ReportOutcome f before (told r) after
     → ReportOutcome f before (told r′) after′ → (r ≡ r′) × (after ≡ after′)
 report-unique = unique report-some (λ t t′. report-one)
+
+steps-some : {f : Input} (t : List ℕ) → StepsReport f t → 0 < length t
+steps-some t (StepsReport.file-refused n p w e) = omega (arith, ap length e)
+steps-some t (StepsReport.chain-refused n p a r e) = omega (arith, ap length e)
+steps-some t (StepsReport.listed a w c n z rs o e) =
+    let l = lineText (bytesOf "chance ") (answerText c) in
+    omega (arith, ap length e, length-append (recordsText rs) l)
+
+pub steps-unique : {f : Input} {before after after′ : List ℕ} (r r′ : Printed) → StepsReportOutcome f before (told r) after
+    → StepsReportOutcome f before (told r′) after′ → (r ≡ r′) × (after ≡ after′)
+steps-unique = unique steps-some (λ t t′. steps-report-one)
 
 pub face-unique : (face : ℕ) (chance : Answer) {before after after′ : List ℕ} (r r′ : Printed) → FaceOutcome face chance before (told r) after
     → FaceOutcome face chance before (told r′) after′ → (r ≡ r′) × (after ≡ after′)

@@ -25,3 +25,7 @@ toldLines r =
 pub data Ends (number : ℕ) : Type 0 where
   chain : 1 ≤ number → number ≤ 11 → Ends number
   file : 20 ≤ number → number ≤ 24 → Ends number
+
+-- How long the line of a record is at its longest, with numbers of 64 bits.
+abbrev pub recordRoom : ℕ
+recordRoom = 111

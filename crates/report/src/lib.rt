@@ -1,19 +1,22 @@
-// The report of a chain file, and the line of a face of the dice.
+// The report of a chain file, its step list as a text, and the line of a face of the dice.
 ghost use Prim.Native.Nat.{_≤_};
 ghost use lib.ListN.{length};
-ghost use Rattle.meaning.specs.Report.{reportRoom, Report, ReportOutcome, FaceOutcome};
+ghost use Rattle.meaning.specs.Report.{reportRoom, Report, ReportOutcome, stepsRoom, StepsReport, StepsReportOutcome, FaceOutcome};
 ghost use Rattle.engines.specs.Answer.{toldChance};
 ghost use Rattle.chainfile.specs.Input.{input};
 ghost use Rattle.report.specs.Stands.{Stands, told};
+use chain::Chain;
 use engines::answer::Chance;
 use figures::Answer;
 use figures::Question;
 
 mod lines;
+mod records;
 mod text;
 
 pub use lines::FACE_ROOM;
 pub use lines::REPORT_ROOM;
+pub use lines::STEPS_ROOM;
 
 // What a text in a lent buffer answers: how long it is, or that the buffer is refused.
 pub enum Printed {
@@ -49,6 +52,35 @@ pub fn report(kept: &[u8], more: u64, buffer: &mut [u8]) -> Printed
         };
     }
     Printed::Length(file_lines(kept, more, buffer))
+}
+
+// A line for each record and then the chance, with room for the records of the largest chain; or the line of a refusal but 12.
+fn steps_lines(kept: &[u8], more: u64, buffer: &mut [u8]) -> usize
+    requires { ⌜ stepsRoom ≤ length (now buffer) ⌝ }
+    ensures { λ r. ⌜ Stands (StepsReport (input (now (kept .entry)) more)) (now (buffer .entry)) r (now (buffer .exit)) ⌝ }
+{
+    let t = figures::steps(kept, more, Chain::STATES);
+    let answered = t.chance;
+    let chance = Answer::of_chance(answered);
+    if lines::ends(chance.number) {
+        return lines::refusal_line(buffer, 0, chance.number, chance.place);
+    }
+    let numbers = t.numbers;
+    let end = records::record_lines(buffer, &numbers);
+    lines::answer_line(buffer, end, b"chance ", chance)
+}
+
+// The step list and the chance of a chain file, in the same way.
+pub fn steps(kept: &[u8], more: u64, buffer: &mut [u8]) -> Printed
+    ensures { λ r. ⌜ StepsReportOutcome (input (now (kept .entry)) more) (now (buffer .entry)) (told r) (now (buffer .exit)) ⌝ }
+{
+    if buffer.len() < lines::STEPS_ROOM {
+        return Printed::Refused {
+            number: 2,
+            place: 0,
+        };
+    }
+    Printed::Length(steps_lines(kept, more, buffer))
 }
 
 // The line of a face of the dice, with its chance or why there is none, at the front of the buffer.

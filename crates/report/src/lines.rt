@@ -1,12 +1,14 @@
 // The lines of the report. Each function asks for the room of what it writes, and answers the place after it.
 ghost use mathlib.Core.List.{_++_};
 ghost use Rattle.meaning.specs.Text.{bytesOf, decimal};
-ghost use Rattle.meaning.specs.Report.{fractionText, refusedText, answerText, boundsText, lineText, faceText};
+ghost use Rattle.meaning.specs.Report.{fractionText, refusedText, answerText, boundsText, namedText, lineText, faceText};
 ghost use Rattle.chain.specs.Decide.{decides};
 ghost use Rattle.chainfile.specs.Written.{Room, Written};
 ghost use Rattle.figures.specs.Told.{toldAnswer, toldLimits};
 ghost use Rattle.report.specs.Lines.{toldLines, countsText, Ends};
+use crate::records::RECORD_LINE;
 use crate::text;
+use chain::Chain;
 use figures::Answer;
 use figures::Counts;
 use figures::Figures;
@@ -21,10 +23,16 @@ const ANSWER_LINE: usize = 7 + FRACTION + 1;
 
 const BOUNDS_LINE: usize = 7 + FRACTION + 1 + FRACTION + 1;
 
-// Room for any line of a face: a number of 64 bits has 20 digits.
-pub const FACE_ROOM: usize = 5 + 20 + 1 + (8 + 10 + 4 + 20) + 1;
+// What stands in the line of an exact figure, whatever its numbers are: a number of 64 bits has 20 digits.
+const ANSWER: usize = 8 + 10 + 4 + 20;
+
+// Room for any line of a face.
+pub const FACE_ROOM: usize = 5 + 20 + 1 + ANSWER + 1;
 
 pub const REPORT_ROOM: usize = COUNT_LINES + 2 * ANSWER_LINE + BOUNDS_LINE;
+
+// Room for any step list, and the line of its chance.
+pub const STEPS_ROOM: usize = Chain::STATES * RECORD_LINE + (7 + ANSWER + 1);
 
 // The numbers of refusal that end the report with a single line.
 pub(crate) fn ends(number: u32) -> bool
@@ -77,16 +85,23 @@ fn fractions(buffer: &mut [u8], at: usize, p: u64, q: u64, s: u64, t: u64) -> us
     fraction(buffer, upper, s, t)
 }
 
-fn count_line(buffer: &mut [u8], at: usize, name: &[u8], x: u64) -> usize
+pub(crate) fn named(buffer: &mut [u8], at: usize, name: &[u8], x: u64) -> usize
+    requires { ⌜ Room (now buffer) at (namedText (now name) x) ⌝ }
+    ensures { λ r. ⌜ Written (now (buffer .entry)) at (namedText (now (name .entry)) x) (now (buffer .exit)) r ⌝ }
+{
+    let value = text::put(buffer, at, name);
+    text::number(buffer, value, x)
+}
+
+pub(crate) fn count_line(buffer: &mut [u8], at: usize, name: &[u8], x: u64) -> usize
     requires { ⌜ Room (now buffer) at (lineText (now name) (decimal x)) ⌝ }
     ensures { λ r. ⌜ Written (now (buffer .entry)) at (lineText (now (name .entry)) (decimal x)) (now (buffer .exit)) r ⌝ }
 {
-    let value = text::put(buffer, at, name);
-    let end = text::number(buffer, value, x);
+    let end = named(buffer, at, name, x);
     text::put(buffer, end, b"\n")
 }
 
-fn answer_line(buffer: &mut [u8], at: usize, name: &[u8], a: Answer) -> usize
+pub(crate) fn answer_line(buffer: &mut [u8], at: usize, name: &[u8], a: Answer) -> usize
     requires { ⌜ Room (now buffer) at (lineText (now name) (answerText (toldAnswer a))) ⌝ }
     ensures { λ r. ⌜ Written (now (buffer .entry)) at (lineText (now (name .entry)) (answerText (toldAnswer a))) (now (buffer .exit)) r ⌝ }
 {

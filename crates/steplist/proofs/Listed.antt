@@ -8,15 +8,9 @@ use mathlib.Core.List.{List, [], _∷_, _++_, map, map-append}
 use lib.ListN.{length, getD, set, drop, length-append, length-drop}
 use lib.Seq.{drop-cons, set-at, append-snoc}
 use Rattle.meaning.specs.Number.{tabFrom, filled}
-use Rattle.theory.specs.Numbers.Tab.{tab-length}
+use Rattle.theory.specs.Numbers.Tab.{tab-length, tab-last}
 
 module _ {ℓ} {A : Type ℓ} where
-  tab-last : (i k : ℕ) (f : ℕ → A) → tabFrom i (suc k) f ≡ tabFrom i k f ++ (f (i + k) ∷ [])
-  unfolding tabFrom
-  tab-last i zero f = ap (λ (j : ℕ). f j ∷ []) (omega arith)
-  tab-last i (suc k) f =
-      ap (λ (l : List A). f i ∷ l) (tab-last (suc i) k f ∙ ap (λ (j : ℕ). tabFrom (suc i) k f ++ (f j ∷ [])) (omega arith))
-
   module _ (f : ℕ → A) (l : List A) where
     pub listed-none : filled (tabFrom 0 0 f) l ≡ l
     unfolding tabFrom

@@ -4,6 +4,7 @@ use borrow.Author.Needs.{needs}
 use Rattle.meaning.specs.Report.{faceText, TextOutcome}
 use Rattle.figures.specs.Told.{toldAnswer}
 use Rattle.report.proofs.Lengths.{face-room}
+use Rattle.report.proofs.Room.{wide}
 use Rattle.report.proofs.ChainLines.{stands, printed}
 use Rattle.report.proofs.face.Statement.{statement}
 use Rattle.report.proofs.face.Tie as tie
@@ -15,8 +16,7 @@ face-line-requires : tie.Need-face-line-requires
 face-line-requires c κs =
     let o = c .of-chance in
     let s = c .before .before .before .before in
-    face-room (s .args .buffer .now) (s .args .face) (toldAnswer (o .result)) (c .before .before .if1 .left) (search needs)
-    (o .ensures .number) (o .ensures .place) (o .ensures .numerator) (o .ensures .denominator)
+    face-room (s .args .buffer .now) (s .args .face) (toldAnswer (o .result)) (c .before .before .if1 .left) (search needs) (wide (o .ensures))
 
 returns-2 : tie.Need-returns-2
 returns-2 c =

@@ -5,27 +5,19 @@ use Rattle.chainfile.proofs.Steps.{join}
 use Rattle.report.proofs.lines.count_line.Statement.{statement}
 use Rattle.report.proofs.lines.count_line.Tie as tie
 
+named-requires : tie.Need-named-requires
+named-requires c κs = simp length-append (omega (arith, simp length-append at (c .before .before .before .pre)))
+
 put-requires : tie.Need-put-requires
-put-requires c κs = omega (arith, simp length-append at (c .before .before .before .pre))
-
-number-requires : tie.Need-number-requires
-number-requires c κs =
-    let at-start = c .before .before .before .before .before .before .before in
-    omega (arith, simp length-append at (at-start .pre))
-
-put-requires-2 : tie.Need-put-requires-2
-put-requires-2 c κs =
-    let at-start = c .before .before .before .before .before .before .before .before .before .before .before .before in
-    omega (arith, simp length-append at (at-start .pre))
+put-requires c κs =
+    let at-named = c .before .before .before .before in
+    omega (arith, simp length-append at (at-named .before .before .before .before .pre), simp length-append at (at-named .named .ensures .past))
 
 returns : tie.Need-returns
 returns c =
-    let at-put2 = c .before .before in
-    let at-number = at-put2 .before .before .before .before .before in
-    let at-put = at-number .before .before .before .before in
-    join (join (at-put .put .ensures) (at-number .number .ensures)) (at-put2 .put2 .ensures)
+    let at-put = c .before .before in
+    join (at-put .before .before .before .before .before .named .ensures) (at-put .put .ensures)
 
 pub count-line-spec : {M : Type 1} → statement M
 count-line-spec =
-    tie.close
-    (tie.spec put-requires number-requires (λ c. search needs) put-requires-2 (λ c. search needs) returns)
+    tie.close (tie.spec named-requires (λ c. search needs) put-requires (λ c. search needs) returns)
