@@ -1,3 +1,4 @@
 pub mod Called
 pub mod Replied
 pub mod Writes
+pub mod Stepping

@@ -16,11 +16,15 @@ use Rattle.engines.specs.Trace.{countIn, recordIn, recordsIn, Traced}
 use Rattle.steplist.specs.Told.{shown, recordsFor}
 
 -- The records that an empty list would be are those at the front of any other.
-pub moved : {l : Lent} {a : Answer} {count : ℕ} {rs : List Numbers} (before : List Numbers) → Listed l a [] count rs
+moved : {l : Lent} {a : Answer} {count : ℕ} {rs : List Numbers} (before : List Numbers) → Listed l a [] count rs
     → Listed l a before count (filled rs before)
 moved before (untouched number place r z e) = untouched number place r z (rw e refl)
 moved {l} before (listed w k r p f c e) =
     listed w k r p f c (ap (λ (z : List Numbers). filled z before) (e ∙ filled-none (recordsTo l k p)))
+
+pub put-in : {l : Lent} {a : Answer} {count : ℕ} {work : List ℕ} {rs : List Numbers} (before : List Numbers) → StepsOutcome l [] a count work rs
+    → StepsOutcome l before a count work (filled rs before)
+put-in before o = record { outcome = o .outcome; list = moved before (o .list) }
 
 -- A list is given all records of a trace where there are no more than 64 and it has the room.
 pub all-given : (t : Trace) (room : ℕ) → countIn (t .numbers) ≤ mostStates → countIn (t .numbers) ≤ room
@@ -33,4 +37,4 @@ pub promised : {l : Lent} {t : Trace} {work : List ℕ} → Traced l t work → 
     → after ≡ filled (recordsFor t (l .list)) before → (r : Steps) → r .chance ≡ t .chance → r .count ≡ countIn (t .numbers)
     → StepsOutcome l before (toldChance (r .chance)) (r .count) work after
 promised {l} {t} p before e r same count =
-    rw (same, count, e, all-given t (l .list) (p .few) (p .inside)) (record { outcome = p .outcome .outcome; list = moved before (p .outcome .list) })
+    rw (same, count, e, all-given t (l .list) (p .few) (p .inside)) (put-in before (p .outcome))
