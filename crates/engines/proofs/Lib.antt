@@ -13,4 +13,5 @@ pub mod Looked
 pub mod Outcomes
 pub mod Traces
 pub mod Told
+pub mod TraceOne
 pub mod Unique

@@ -3,9 +3,13 @@ use Prim.Native.Nat.{ℕ, _<_}
 use mathlib.Core.Path.{_≡_, ap}
 use mathlib.Core.List.{List}
 use native.Mathlib.Omega.{arith}
-use Rattle.meaning.specs.Refusal.{Lent}
-use Rattle.meaning.specs.Outcome.{refused, stopped, answered, Answer, ChanceFigure, ChanceOutcome, Bounds as Numbers, BoundsFigure, BoundsOutcome}
+use lib.ListN.{getD}
+use Rattle.meaning.specs.Row.{exact}
+use Rattle.meaning.specs.Refusal.{Lent, Entry, plain, listing}
+use Rattle.meaning.specs.Stop.{Stopped}
+use Rattle.meaning.specs.Outcome.{Outcome, refused, stopped, answered, Answer, refusal, ChanceFigure, ChanceOutcome, Bounds as Numbers, BoundsFigure, BoundsOutcome}
 use Rattle.theory.specs.Outcomes.DemandTwo.{stopped-twelve}
+use Rattle.theory.specs.Outcomes.Steps.{steps-determined}
 use Rattle.theory.specs.Outcomes.Entries.{chance-determined, reward-determined, bounds-determined}
 use Rattle.engines.specs.Answer.{toldChance, toldBounds, ProperChance, ProperBounds}
 use Rattle.engines.specs.declared.answer.Chance.{Chance}
@@ -13,6 +17,9 @@ use Rattle.engines.specs.declared.answer.Chance.the-variants as chance
 use Rattle.engines.specs.declared.answer.Reward.{Reward}
 use Rattle.engines.specs.declared.answer.Bounds.{Bounds}
 use Rattle.engines.specs.declared.answer.Bounds.the-variants as bounds
+use Rattle.engines.specs.declared.answer.Trace.{Trace}
+use Rattle.engines.specs.Trace.{Traced}
+use Rattle.engines.proofs.TraceOne.{numbers-one}
 use Rattle.engines.proofs.Told.{chance-told, reward-told, bounds-told}
 use Rattle.engines.specs.Told.{Rewarded}
 use Rattle.look.proofs.Refuse.{refused-some}
@@ -25,13 +32,14 @@ module _ {a b : Answer} (e : a ≡ b) where
   denominator = ap (λ (a : Answer). a .denominator) e
 
 -- A fraction has a denominator above 0, and a refusal a number above 0.
-chance-proper : (l : Lent) (r : Chance) (w : List ℕ) → ChanceOutcome l (toldChance r) w → ProperChance r
-chance-proper l (chance.Is f) w (refused n p z e s) = absurd (omega (arith, number e, refused-some z))
-chance-proper l (chance.Is f) w (stopped n p v t e s) = absurd (omega (arith, number e, stopped-twelve t))
-chance-proper l (chance.Is f) w (answered v t (ChanceFigure.chance p q h e) s) = omega (arith, denominator e, h .lowest .whole)
-chance-proper l (chance.Refused k i) w (refused n p z e s) = omega (arith, number e, refused-some z)
-chance-proper l (chance.Refused k i) w (stopped n p v t e s) = omega (arith, number e, stopped-twelve t)
-chance-proper l (chance.Refused k i) w (answered v t (ChanceFigure.chance p q h e) s) =
+pub chance-proper : (x : Entry) (l : Lent) (r : Chance) (w : List ℕ)
+    → Outcome x l refusal (Stopped exact l) (ChanceFigure l) (toldChance r) w → ProperChance r
+chance-proper x l (chance.Is f) w (refused n p z e s) = absurd (omega (arith, number e, refused-some z))
+chance-proper x l (chance.Is f) w (stopped n p v t e s) = absurd (omega (arith, number e, stopped-twelve t))
+chance-proper x l (chance.Is f) w (answered v t (ChanceFigure.chance p q h e) s) = omega (arith, denominator e, h .lowest .whole)
+chance-proper x l (chance.Refused k i) w (refused n p z e s) = omega (arith, number e, refused-some z)
+chance-proper x l (chance.Refused k i) w (stopped n p v t e s) = omega (arith, number e, stopped-twelve t)
+chance-proper x l (chance.Refused k i) w (answered v t (ChanceFigure.chance p q h e) s) =
     absurd (omega (arith, denominator e, h .lowest .whole))
 
 module _ {a b : Numbers} (e : a ≡ b) where
@@ -63,7 +71,7 @@ module _ (l : Lent) (w w′ : List ℕ) where
   pub chance-unique : (r r′ : Chance) → ChanceOutcome l (toldChance r) w → ChanceOutcome l (toldChance r′) w′ → (r ≡ r′) × (w ≡ w′)
   chance-unique r r′ o o′ =
       let e = chance-determined l o o′ in
-      (chance-told r r′ (chance-proper l r w o) (chance-proper l r′ w′ o′) (e .0), e .1)
+      (chance-told r r′ (chance-proper plain l r w o) (chance-proper plain l r′ w′ o′) (e .0), e .1)
 
   pub reward-unique : (r r′ : Reward) → Rewarded l r w → Rewarded l r′ w′ → (r ≡ r′) × (w ≡ w′)
   reward-unique r r′ o o′ =
@@ -74,3 +82,14 @@ module _ (l : Lent) (w w′ : List ℕ) where
   bounds-unique r r′ o o′ =
       let e = bounds-determined l o o′ in
       (bounds-told r r′ (bounds-proper l r w o) (bounds-proper l r′ w′ o′) (e .0), e .1)
+
+  -- Of a trace it determines the answer and every number.
+  pub trace-unique : (t t′ : Trace) → Traced l t w → Traced l t′ w′
+      → (t .chance ≡ t′ .chance) × ((j : ℕ) → getD (t .numbers) j 0 ≡ getD (t′ .numbers) j 0) × (w ≡ w′)
+  trace-unique t t′ o o′ =
+      let e = steps-determined l (o .outcome) (o′ .outcome) in (
+        chance-told (t .chance) (t′ .chance) (chance-proper listing l (t .chance) w (o .outcome .outcome))
+            (chance-proper listing l (t′ .chance) w′ (o′ .outcome .outcome)) (e .0),
+        numbers-one (t .numbers) (t′ .numbers) (e .1) (e .3) (o .past) (o′ .past),
+        e .2,
+      )

@@ -1,14 +1,30 @@
--- What is promised of a file's figures determines every number of the answer.
+-- What is promised of a file's figures, and of its step list, determines every number of the answer.
+use Prim.Native.Nat.{ℕ}
 use mathlib.Core.Path.{_≡_, sym, ap, ap₂, _∙_}
+use mathlib.Core.List.{List, []}
+use native.Mathlib.Omega.{arith}
+use lib.ListN.{getD}
+use Rattle.meaning.specs.Refusal.{withList, listing}
 use Rattle.meaning.specs.Outcome.{Answer as Numbers, Bounds as BothNumbers, ChanceOutcome, RewardOutcome, BoundsOutcome}
 use Rattle.meaning.specs.Survey.{Survey}
 use Rattle.meaning.specs.Block.{Input}
 use Rattle.meaning.specs.File.{plainIn, paidIn}
+use Rattle.meaning.specs.Steps.{StepRecord}
+use Rattle.meaning.specs.FileSteps.{FileSteps, file-refused, asked}
 use Rattle.theory.specs.Chains.Counted.{survey-one}
 use Rattle.theory.specs.Outcomes.Entries.{chance-determined, reward-determined, bounds-determined}
-use Rattle.theory.specs.Files.FileOne.{file-one, accepted-unrefused}
+use Rattle.theory.specs.Files.FileOne.{file-one, file-numbers, accepted-unrefused}
+use Rattle.theory.specs.Files.StepsOne.{file-steps-one}
+use Rattle.engines.specs.Answer.{toldChance, ProperChance}
+use Rattle.engines.specs.declared.answer.Chance.{Chance as Exact}
+use Rattle.engines.specs.declared.answer.Chance.the-variants as found
+use Rattle.engines.specs.declared.answer.Trace.{Trace}
+use Rattle.engines.proofs.Told.{chance-told}
+use Rattle.engines.proofs.TraceOne.{numbers-one}
+use Rattle.engines.proofs.Unique.{chance-proper}
 use Rattle.figures.specs.Told.{toldAnswer, toldLimits, figures, noCounts, noAnswer, noLimits}
 use Rattle.figures.specs.Found.{Found, Counted, bareIn, AskedOf, FiguresOutcome, refused, accepted}
+use Rattle.figures.specs.Traced.{FileTraced}
 use Rattle.figures.specs.declared.answer.Counts.{Counts}
 use Rattle.figures.specs.declared.answer.Answer.{Answer}
 use Rattle.figures.specs.declared.answer.Limits.{Limits}
@@ -69,3 +85,18 @@ figures-unique (refused n p w e) (refused n′ p′ w′ e′) =
 figures-unique (refused n p w e) (accepted a x) = absurd (accepted-unrefused a w)
 figures-unique (accepted a x) (refused n p w e) = absurd (accepted-unrefused a w)
 figures-unique {f} {question} (accepted a x) (accepted a′ x′) = asked-one f question x x′
+
+-- A refusal's number is above 0, and a fraction's denominator.
+traced-proper : {f : Input} {list count : ℕ} {rs : List StepRecord} (r : Exact) → FileSteps f list [] (toldChance r) count rs → ProperChance r
+traced-proper (found.Is x) (file-refused n p w e c k) = absurd (omega (arith, file-numbers w, ap (λ (a : Numbers). a .number) e))
+traced-proper (found.Refused n′ p′) (file-refused n p w e c k) = omega (arith, file-numbers w, ap (λ (a : Numbers). a .number) e)
+traced-proper {f} {list} r (asked a w o) = chance-proper listing (withList list (plainIn f)) r w (o .outcome)
+
+-- Of a file's step list it determines the answer and every number.
+pub traced-unique : {f : Input} {list : ℕ} (t t′ : Trace) → FileTraced f list t → FileTraced f list t′
+    → (t .chance ≡ t′ .chance) × ((j : ℕ) → getD (t .numbers) j 0 ≡ getD (t′ .numbers) j 0)
+traced-unique t t′ o o′ =
+    let e = file-steps-one (o .outcome) (o′ .outcome) in (
+      chance-told (t .chance) (t′ .chance) (traced-proper (t .chance) (o .outcome)) (traced-proper (t′ .chance) (o′ .outcome)) (e .0),
+      numbers-one (t .numbers) (t′ .numbers) (e .1) (e .2) (o .past) (o′ .past),
+    )

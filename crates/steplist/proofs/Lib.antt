@@ -1,3 +1,4 @@
 pub mod Kept
 pub mod Listed
 pub mod Promised
+pub mod Unique
