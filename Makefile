@@ -1,15 +1,18 @@
-# make report prints the report of a chain file; make test runs the gate; make memory runs a sample of it under valgrind; make bench times;
-# make fmt lays every file of Rattle out.
+# make report prints the report of a chain file, make steps its step list; make test runs the gate; make memory runs a sample of it under
+# valgrind; make bench times; make fmt lays every file of Rattle out.
 CHAIN ?= examples/address.chain
 
-.PHONY: report test memory fmt bench
+.PHONY: report steps test memory fmt bench
 
 report: target/bin/nightchance
 	@tests/x86-64 run target/bin/nightchance <"$(CHAIN)"
 
+steps: target/bin/nightsteps
+	@tests/x86-64 run target/bin/nightsteps <"$(CHAIN)"
+
 # Only a proved program is built, so the first build takes as long as its proofs.
-target/bin/nightchance: $(shell find crates -name '*.rt' -o -name '*.antt') crates.txt
-	rt check nightchance
+target/bin/%: $(shell find crates -name '*.rt' -o -name '*.antt') crates.txt
+	rt check $*
 	@test -x $@ && touch $@
 
 test:

@@ -88,6 +88,20 @@ def long():
     return chain_file(rows + [{done: 1}, {lost: 1}], goals={done})
 
 
+def gateway():
+    """A copy passes four stores in turn. A store hands it on 496 times in 500; 3 times it goes back to the gateway, which sends it to any of
+    the four, and once it is lost.
+
+    0 begun, 1 the gateway, 2 to 5 the stores, 6 all is well, 7 lost: the goal
+
+    The order removes the gateway first, and each store then leads to all four: the exact numbers have no fit after three steps. With the gateway last in the
+    order they fit: chance 2421953/481015391.
+    """
+    rows = [{1: 1}, {2: 1, 3: 1, 4: 1, 5: 1}]
+    rows += [{store + 1: 496, 1: 3, 7: 1} for store in (2, 3, 4, 5)]
+    return chain_file(rows + [{6: 1}, {7: 1}], goals={7})
+
+
 def backup():
     """A backup night, in thousandths. The reward of a state is the minutes that a visit takes.
 
@@ -109,5 +123,5 @@ def backup():
 
 if __name__ == "__main__":
     here = Path(__file__).resolve().parent
-    for make in (address, dice, long, backup):
+    for make in (address, dice, long, gateway, backup):
         (here / f"{make.__name__}.chain").write_bytes(make())

@@ -1,10 +1,10 @@
 /*
  * What a scheduler does with chain files: asks for the exact chance and for bounds, and tells the
- * answers, or why there are none.
+ * answers, or why there are none. Where the exact numbers grew too large it tells the steps before.
  *
  *     cc -std=c11 -Wall -Wextra -Werror -I include examples/scheduler.c \
  *         target/staticlib/libegorstream.a -o scheduler
- *     ./scheduler examples/address.chain examples/long.chain
+ *     ./scheduler examples/address.chain examples/gateway.chain
  */
 #include "egorstream.h"
 
@@ -53,6 +53,18 @@ static uint32_t number_at(const uint8_t *bytes)
            (uint32_t)bytes[3] << 24;
 }
 
+/* Tells the steps that were finished before the exact numbers grew too large. */
+static void tell_steps(const char *name, size_t length)
+{
+    struct egorstream_step list[EGORSTREAM_MOST_STATES];
+    struct egorstream_stepped stepped = egorstream_steps(file, length, list, EGORSTREAM_MOST_STATES);
+    for (size_t i = 0; i < stepped.count; i++) {
+        printf("%s: state %" PRIu64 " rows %" PRIu64 " columns %" PRIu64 " divisor %" PRIu64 "\n", name,
+               list[i].state, list[i].rows, list[i].columns, list[i].divisor);
+    }
+    printf("%s: no fit at position %" PRIu32 " of the order\n", name, stepped.place);
+}
+
 /* Asks for both fractions; tells of a refusal. */
 static bool ask(const char *name, const char *figure, size_t length, uint32_t mode,
                 struct fraction *lower, struct fraction *upper)
@@ -61,6 +73,9 @@ static bool ask(const char *name, const char *figure, size_t length, uint32_t mo
     uint32_t number = egorstream_chance(file, length, mode, answer, sizeof answer);
     if (number != EGORSTREAM_ANSWERED) {
         printf("%s: %s refused, %s (%" PRIu32 ")\n", name, figure, refusal_name(number), number);
+        if (number == EGORSTREAM_NO_FIT) {
+            tell_steps(name, length);
+        }
         return false;
     }
     *lower = (struct fraction){number_at(answer), number_at(answer + 4)};

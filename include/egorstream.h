@@ -1,6 +1,6 @@
 /*
- * The chance that a chain reaches a goal, from the bytes of a chain file; and the chain file of a
- * chain, from its tables.
+ * The chance that a chain reaches a goal, from the bytes of a chain file; the steps by which it was
+ * sought; and the chain file of a chain, from its tables.
  *
  * Link with libegorstream.a.
  */
@@ -29,9 +29,12 @@ extern "C" {
 /* The longest chain file: 69 blocks of 512 bytes. */
 #define EGORSTREAM_MOST_FILE_LENGTH (69 * 512)
 
-/* What egorstream_chance returns, and the number that egorstream_write answers. */
+/* The most states of a chain: a step list with so many records has room for every chain. */
+#define EGORSTREAM_MOST_STATES 64
 
-/* The answer, or the file, is written. */
+/* What egorstream_chance returns, and the number that egorstream_steps and egorstream_write answer. */
+
+/* The answer, the list or the file is written. */
 #define EGORSTREAM_ANSWERED UINT32_C(0)
 
 /* The request is wrong: the caller must be mended. */
@@ -41,7 +44,10 @@ extern "C" {
  * does not fit it, the edge numbers are not in threes, or there are no edges or over 4,096.
  */
 #define EGORSTREAM_MODE_OR_LENGTH_WRONG UINT32_C(1)
-/* The answer has fewer than 16 bytes. For egorstream_write: the buffer is shorter than the file. */
+/*
+ * The answer has fewer than 16 bytes. For egorstream_steps: the list has fewer records than the chain
+ * has states. For egorstream_write: the buffer is shorter than the file.
+ */
 #define EGORSTREAM_ANSWER_TOO_SHORT UINT32_C(2)
 
 /* The file is whole, but it or the tables hold no chain: what wrote them must be mended. */
@@ -67,7 +73,10 @@ extern "C" {
 
 /* The chain is well formed, but its exact chance was not found. */
 
-/* Numbers on the way grew above 2,147,483,647: ask for bounds, or try another order. */
+/*
+ * Numbers on the way grew above 2,147,483,647: ask for bounds, or try another order. The step list
+ * shows where they grew.
+ */
 #define EGORSTREAM_NO_FIT UINT32_C(12)
 
 /* The file is damaged or is no chain file: fetch or write it again. */
@@ -106,6 +115,49 @@ extern "C" {
  */
 uint32_t egorstream_chance(const uint8_t *file, size_t file_length, uint32_t mode,
                            uint8_t *answer, size_t answer_length);
+
+/* What the step list says of one state that was removed. */
+struct egorstream_step {
+    uint64_t state;
+    /* How many other rows had a weight to it, that of the start included. */
+    uint64_t rows;
+    /* In how many columns its row had a weight: other states, the goal, and being lost. */
+    uint64_t columns;
+    /* The largest divisor that was taken out of a row in this step; 1 if there was none. */
+    uint64_t divisor;
+};
+
+/*
+ * What egorstream_steps answers: 0, 0, how many records it wrote, and the chance; or a refusal's
+ * number and place, how many records it wrote, which is 0 but for EGORSTREAM_NO_FIT, 0 and 0.
+ */
+struct egorstream_stepped {
+    uint32_t number;
+    uint32_t place;
+    uint64_t count;
+    uint64_t numerator;
+    uint64_t denominator;
+};
+
+/*
+ * Finds the exact chance, as egorstream_chance does, and writes a record for each state that it
+ * removes on the way, in the order of removal, to the front of a list.
+ *
+ * file, file_length      The bytes of a chain file, as above.
+ * list, list_length      Room for the records, which the length counts: at least as many as the chain
+ *                        has states, though fewer may be removed. It is aligned as uint64_t is, and
+ *                        does not overlap the file. A null pointer with length 0 is an empty list.
+ *
+ * EGORSTREAM_NO_FIT has as its place the position in the order of the step that was not finished; the
+ * records of the steps before it stand. Every other refusal leaves the whole list as it was. Records
+ * past the last one written always stay as they were.
+ *
+ * The file is tested first, then the list's length, then the chain. Its place is a block, a state, the
+ * index of an edge or a position of the order, each from 0, or else 0. Its tables are its own, as
+ * those of egorstream_chance are: the same stack is enough.
+ */
+struct egorstream_stepped egorstream_steps(const uint8_t *file, size_t file_length,
+                                           struct egorstream_step *list, size_t list_length);
 
 /* What egorstream_write answers: 0, 0 and the file's length; or a refusal's number and place, and 0. */
 struct egorstream_written {
