@@ -1,7 +1,7 @@
 /*
  * Calls the C entries on requests that come on standard input, one after the other, so that a program on any machine can try them.
  *
- * A request begins with a 4-byte number in the machine's order: 0 for the chance, 1 for the writer.
+ * A request begins with a 4-byte number in the machine's order: 0 for the chance, 1 for the writer, 2 for the step list.
  *
  * The chance: five such numbers (mode, file length, memory length, where the answer begins in the memory, answer length), then the file,
  * then the memory. The reply: two such numbers (what the entry returned, whether the file is unchanged), then the memory as the entry left
@@ -11,13 +11,18 @@
  * length), then states, start and goals as 8-byte numbers, the tables in 8-byte numbers, the memory. The reply: four 4-byte numbers (number,
  * place, length, whether the tables are unchanged), then the memory.
  *
- * A file, a table or a buffer that is empty is handed over as a null pointer. The file, the tables and the memory end where a page begins that nobody may touch: who
+ * The step list: four such numbers (file length, memory length, where the list begins in the memory, how many records it has), then the file,
+ * then the memory. The reply: six such numbers (number, place, count, numerator, denominator, whether the file is unchanged), then the memory.
+ * The memory has a length, and the list a beginning, that is a multiple of 8.
+ *
+ * A file, a table, a list or a buffer that is empty is handed over as a null pointer. The file, the tables and the memory end where a page begins that nobody may touch: who
  * reads or writes past them is stopped.
  */
 #define _DEFAULT_SOURCE
 
 #include "egorstream.h"
 
+#include <stddef.h>
 #include <stdio.h>
 #include <stdlib.h>
 #include <string.h>
@@ -30,6 +35,7 @@ IS(MODE_EXACT, 1);
 IS(MODE_BOUNDS, 2);
 IS(ANSWER_LENGTH, 16);
 IS(MOST_FILE_LENGTH, 69 * 512);
+IS(MOST_STATES, 64);
 IS(ANSWERED, 0);
 IS(MODE_OR_LENGTH_WRONG, 1);
 IS(ANSWER_TOO_SHORT, 2);
@@ -49,6 +55,13 @@ IS(BLOCK_NUMBER_WRONG, 22);
 IS(BLOCK_KIND_WRONG, 23);
 IS(BLOCK_CONTENT_WRONG, 24);
 #undef IS
+
+/* A record is four numbers of 8 bytes, side by side. */
+_Static_assert(sizeof(struct egorstream_step) == 32, "step");
+_Static_assert(offsetof(struct egorstream_step, state) == 0, "state");
+_Static_assert(offsetof(struct egorstream_step, rows) == 8, "rows");
+_Static_assert(offsetof(struct egorstream_step, columns) == 16, "columns");
+_Static_assert(offsetof(struct egorstream_step, divisor) == 24, "divisor");
 
 /* A page, or a multiple of it, on every machine that this runs on. */
 #define PAGE ((size_t)65536)
@@ -105,6 +118,12 @@ static void answer(void)
     leave(file, file_length);
 }
 
+/* No number of an answer is so large: one that does not fit shows as one that is not expected. */
+static uint32_t in_four_bytes(uint64_t number)
+{
+    return number > UINT32_MAX ? UINT32_MAX : (uint32_t)number;
+}
+
 static void write_file(void)
 {
     uint32_t request[7];
@@ -128,9 +147,7 @@ static void write_file(void)
     struct egorstream_written written =
         egorstream_write(numbers[0], numbers[1], numbers[2], table[0], request[0], table[1], request[1], table[2], request[2], table[3],
                          request[3], request[6] == 0 ? NULL : memory + request[5], request[6]);
-    /* No file has so many bytes: a length that does not fit shows as one that is not expected. */
-    uint32_t length = written.length > UINT32_MAX ? UINT32_MAX : (uint32_t)written.length;
-    uint32_t reply[4] = {written.number, written.place, length, 1};
+    uint32_t reply[4] = {written.number, written.place, in_four_bytes(written.length), 1};
     for (int i = 0; i < 4; i++) {
         size_t length = request[i] * sizeof(uint64_t);
         reply[3] &= memcmp(copy[i], lent[i], length) == 0;
@@ -143,14 +160,43 @@ static void write_file(void)
     leave(memory, memory_length);
 }
 
+static void list_steps(void)
+{
+    uint32_t request[4];
+    take(request, sizeof request);
+    size_t file_length = request[0], memory_length = request[1];
+    uint8_t *file = room(file_length), *copy = room(file_length), *memory = room(memory_length);
+    take(file, file_length);
+    take(memory, memory_length);
+    memcpy(copy, file, file_length);
+
+    struct egorstream_step *list = request[3] == 0 ? NULL : (struct egorstream_step *)(void *)(memory + request[2]);
+    struct egorstream_stepped stepped = egorstream_steps(file_length == 0 ? NULL : file, file_length, list, request[3]);
+    uint32_t reply[6] = {stepped.number,
+                         stepped.place,
+                         in_four_bytes(stepped.count),
+                         in_four_bytes(stepped.numerator),
+                         in_four_bytes(stepped.denominator),
+                         memcmp(copy, file, file_length) == 0};
+
+    fwrite(reply, sizeof reply, 1, stdout);
+    fwrite(memory, 1, memory_length, stdout);
+    fflush(stdout);
+    leave(memory, memory_length);
+    leave(copy, file_length);
+    leave(file, file_length);
+}
+
 int main(void)
 {
     uint32_t kind;
     while (fread(&kind, sizeof kind, 1, stdin) == 1) {
         if (kind == 0) {
             answer();
-        } else {
+        } else if (kind == 1) {
             write_file();
+        } else {
+            list_steps();
         }
     }
     return 0;

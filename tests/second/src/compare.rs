@@ -12,8 +12,8 @@ use crate::report;
 use crate::tables::Tables;
 use crate::tally::{Asked, Case, Tally};
 
-/// Bytes before and behind the answer that must stay as they are.
-const AROUND: usize = 24;
+/// Bytes before and behind an answer that must stay as they are.
+pub const AROUND: usize = 24;
 
 /// Calls the C entry; compares its number, its answer and every byte around the answer. Hands back
 /// the product's answer where it gives one.
@@ -87,15 +87,18 @@ fn decode(answer: &[u8]) -> Option<Pair> {
     Some((Fraction::new(lower, lower_by), Fraction::new(upper, upper_by)))
 }
 
+/// What memory holds before a call, which must not show afterwards: all bits set, or anything.
+pub fn held(random: &mut Random, length: usize) -> Vec<u8> {
+    let before = random.pick(&[Some(0xff), None]);
+    (0..length).map(|_| before.unwrap_or_else(|| random.byte())).collect()
+}
+
 /// Calls the writer; compares what it returns, the file and every byte of the buffer and around it.
 pub fn writer(tally: &mut Tally, case: Case, tables: &Tables, buffer_length: usize) {
     let expected = tables.written(buffer_length);
     let mut random = Random::new(case.seed);
     let start = random.between(AROUND - 8, AROUND);
-    // What the buffer held before must not show in the file.
-    let before = random.pick(&[Some(0xff), None]);
-    let byte = |random: &mut Random| before.unwrap_or_else(|| random.byte());
-    let mut memory: Vec<u8> = (0..buffer_length + 2 * AROUND).map(|_| byte(&mut random)).collect();
+    let mut memory = held(&mut random, buffer_length + 2 * AROUND);
     let mut expected_memory = memory.clone();
     let mut told = Written { number: 0, place: 0, length: 0, tables_unchanged: true };
     match &expected {
@@ -132,16 +135,22 @@ pub fn enclosure(tally: &mut Tally, case: Case, file: &[u8], exact: Fraction, bo
     });
 }
 
-/// Runs `nightchance` and compares its whole report, which it hands back.
-pub fn report(tally: &mut Tally, case: Case, file: &[u8]) -> String {
-    let expected = report::of_file(file);
-    let came = match product::report(file) {
+/// Runs a program on a file and compares all that it prints, which it hands back.
+pub fn printed(tally: &mut Tally, case: Case, name: &str, file: &[u8], expected: &str) -> String {
+    let came = match product::printed(name, file) {
         Ok(bytes) => String::from_utf8_lossy(&bytes).into_owned(),
         Err(error) => format!("nothing: {error}"),
     };
     tally.check(case, file, came == expected, || {
-        format!("report: expected {expected:?}, came {came:?}")
+        format!("{name}: expected {expected:?}, came {came:?}")
     });
+    came
+}
+
+/// Runs `nightchance` and compares its whole report, which it hands back.
+pub fn report(tally: &mut Tally, case: Case, file: &[u8]) -> String {
+    let expected = report::of_file(file);
+    let came = printed(tally, case, product::NIGHTCHANCE, file, &expected);
 
     for line in expected.lines() {
         let words: Vec<&str> = line.split(' ').collect();

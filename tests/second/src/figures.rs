@@ -7,14 +7,14 @@ use crate::equations;
 use crate::fraction::Fraction;
 use crate::live::Reach;
 use crate::refusal::Refusal;
-use crate::steps::{last_row, Figure};
+use crate::steps::{steps, Figure};
 
 /// The exact chance, or refusal 12.
 pub fn chance(chain: &Chain, reach: &Reach) -> Result<Fraction, Refusal> {
     if let Some(known) = known_chance(chain, reach) {
         return Ok(known);
     }
-    last_row(chain, reach, Figure::Chance)?;
+    steps(chain, reach, Figure::Chance).end?;
     Ok(equations::chance(chain, reach).fraction().expect("a chance whose steps fit is at most M"))
 }
 
@@ -26,7 +26,7 @@ pub fn reward(chain: &Chain, reach: &Reach) -> Result<Option<Fraction>, Refusal>
     if reach.reward_is_infinite() {
         return Ok(None);
     }
-    last_row(chain, reach, Figure::Reward)?;
+    steps(chain, reach, Figure::Reward).end?;
     let reward = equations::reward(chain, reach).fraction();
     Ok(Some(reward.expect("a reward whose steps fit is at most M")))
 }
@@ -36,7 +36,7 @@ pub fn bounds(chain: &Chain, reach: &Reach) -> (Fraction, Fraction) {
     if let Some(known) = known_chance(chain, reach) {
         return (known, known);
     }
-    let Ok(row) = last_row(chain, reach, Figure::Bounds) else {
+    let Ok(row) = steps(chain, reach, Figure::Bounds).end else {
         unreachable!("the bounds were refused");
     };
     (row.lower, row.upper)

@@ -4,6 +4,7 @@ use crate::chain::{Chain, M, MOST_STATES};
 use crate::draft::Draft;
 use crate::live::Reach;
 use crate::random::Random;
+use crate::step_list;
 
 type Make = fn(&mut Random) -> Chain;
 
@@ -42,6 +43,17 @@ pub fn draw_for_orders(random: &mut Random) -> Chain {
         let chain = random.pick(&FITTING)(random);
         let reach = Reach::of(&chain);
         if reach.live[chain.start()] && reach.live_count() > 3 {
+            return chain;
+        }
+    }
+}
+
+/// A chain whose numbers outgrow the exact engine after some finished steps.
+pub fn draw_grown(random: &mut Random) -> Chain {
+    loop {
+        let chain = random.pick(&FAMILIES).1(random);
+        let list = step_list::of_chain(&chain);
+        if list.chance.is_err() && !list.records.is_empty() {
             return chain;
         }
     }

@@ -1,16 +1,17 @@
-//! A second implementation of document 01, compared with the product.
+//! A second implementation of documents 01 and 02, compared with the product.
 //!
 //! It makes chains and damaged requests from fixed seeds, calls the C entries of the product's static
-//! library on all of them and its program `nightchance` on a part, and compares every answer with
-//! its own. Its last line is `second: N passed, 0 failed`, where N counts comparisons.
+//! library on all of them and its programs `nightchance` and `nightsteps` on a part, and compares
+//! every answer with its own. Its last line is `second: N passed, 0 failed`, where N counts comparisons.
 //!
 //! `cargo run --release` compares, with the word `sample` on a small part of it; `cargo test` tries
-//! this implementation alone on the chains that document 01 works by hand. The product is sought
+//! this implementation alone on the chains that are worked by hand. The product is sought
 //! below the repository's `target`.
 
 mod block;
 mod chain;
 mod compare;
+mod compare_steps;
 mod damage;
 mod damage_check;
 mod damage_head;
@@ -31,11 +32,13 @@ mod random;
 mod refusal;
 mod report;
 mod sharp;
+mod step_list;
 mod steps;
 mod tables;
 mod tally;
 mod work;
 mod worked;
+mod worked_steps;
 
 use std::env;
 use std::process::ExitCode;
@@ -49,7 +52,8 @@ fn main() -> ExitCode {
             return ExitCode::FAILURE;
         }
     };
-    for program in [product::driver(), product::program()] {
+    let programs = [product::NIGHTCHANCE, product::NIGHTSTEPS].map(product::program);
+    for program in programs.into_iter().chain([product::driver()]) {
         if !program.is_file() {
             eprintln!("The program {} is missing.", program.display());
             return ExitCode::FAILURE;

@@ -1,5 +1,5 @@
-//! The product as its users meet it: the C entry of its static library, and its program. Both are
-//! x86-64 code, so both are run as processes, in the way that a script knows for this machine.
+//! The product as its users meet it: the C entries of its static library, and its programs. All are
+//! x86-64 code, so all are run as processes, in the way that a script knows for this machine.
 
 use crate::tables::Tables;
 use std::cell::RefCell;
@@ -14,14 +14,18 @@ fn below_root(path: &str) -> PathBuf {
     Path::new(env!("CARGO_MANIFEST_DIR")).join("../..").join(path)
 }
 
-/// The program that is linked with the static library and calls its entry: `driver.c`.
+/// The program that is linked with the static library and calls its entries: `driver.c`.
 pub fn driver() -> PathBuf {
     below_root("target/second/driver")
 }
 
-/// Where `nightchance` is.
-pub fn program() -> PathBuf {
-    below_root("target/bin/nightchance")
+/// The programs that read a chain file.
+pub const NIGHTCHANCE: &str = "nightchance";
+pub const NIGHTSTEPS: &str = "nightsteps";
+
+/// Where a program is.
+pub fn program(name: &str) -> PathBuf {
+    below_root("target/bin").join(name)
 }
 
 /// The words before a program that run x86-64 code here. The script is asked once: it costs a third
@@ -107,6 +111,15 @@ impl Driver {
         Ok(Written { number, place, length, tables_unchanged: unchanged == 1 })
     }
 
+    fn steps(&mut self, listing: &Listing, memory: &mut [u8]) -> io::Result<Stepped> {
+        let Listing { file, start, room } = *listing;
+        let numbers = [2, file.len(), memory.len(), start, room];
+        let [number, place, count, numerator, denominator, unchanged] =
+            self.ask(&numbers, file, memory)?;
+        let file_unchanged = unchanged == 1;
+        Ok(Stepped { number, place, count, numerator, denominator, file_unchanged })
+    }
+
     /// How a driver ended on which a call failed with this error.
     fn ended(mut self, error: io::Error) -> io::Error {
         drop(self.requests.take());
@@ -173,9 +186,35 @@ pub fn write(writing: &Writing, memory: &mut [u8]) -> io::Result<Written> {
     })
 }
 
-/// What `nightchance` prints for this file on its standard input.
-pub fn report(file: &[u8]) -> io::Result<Vec<u8>> {
-    let mut child = start(&program());
+/// One call of the step list's entry. The list, of so many records, is the part of the memory from
+/// `start` on.
+pub struct Listing<'a> {
+    pub file: &'a [u8],
+    pub start: usize,
+    pub room: usize,
+}
+
+#[derive(Debug, PartialEq, Eq)]
+pub struct Stepped {
+    pub number: u32,
+    pub place: u32,
+    pub count: u32,
+    pub numerator: u32,
+    pub denominator: u32,
+    pub file_unchanged: bool,
+}
+
+/// What the step list's entry returns; `memory` then holds what it left there.
+pub fn steps(listing: &Listing, memory: &mut [u8]) -> io::Result<Stepped> {
+    DRIVER.with_borrow_mut(|driver| {
+        let stepped = driver.steps(listing, memory);
+        stepped.map_err(|error| mem::replace(driver, Driver::new()).ended(error))
+    })
+}
+
+/// What a program prints for this file on its standard input.
+pub fn printed(name: &str, file: &[u8]) -> io::Result<Vec<u8>> {
+    let mut child = start(&program(name));
     // A program that stops reading early shows in its report; that the pipe broke is no more news.
     let _ = child.stdin.take().expect("it is piped").write_all(file);
     let output = child.wait_with_output()?;

@@ -36,6 +36,7 @@ fn of_chain(chain: &Chain) -> String {
     )
 }
 
-fn refused(refusal: Refusal) -> String {
+/// A refusal as the programs print it.
+pub fn refused(refusal: Refusal) -> String {
     format!("refused {} at {}", refusal.number, refusal.place)
 }

@@ -18,6 +18,24 @@ pub enum Figure {
 /// The place of a no fit before the first step.
 const BEFORE_THE_FIRST: usize = 64;
 
+/// What the step list says of one removed state (document 02, request 2).
+#[derive(Clone, Debug, PartialEq, Eq)]
+pub struct StepRecord {
+    pub state: usize,
+    /// How many other kept rows had a weight to it at its turn.
+    pub rows: usize,
+    /// How many columns its row had a weight in: states but itself, Goal and Trap.
+    pub columns: usize,
+    /// The largest divisor taken out of a row that the step made, 1 if it made none.
+    pub divisor: u128,
+}
+
+/// The finished steps of an order, and how it ended.
+pub struct Steps {
+    pub records: Vec<StepRecord>,
+    pub end: Result<LastRow, Refusal>,
+}
+
 /// One kept row.
 #[derive(Clone)]
 struct Row {
@@ -46,10 +64,17 @@ impl Row {
         }
     }
 
-    fn in_lowest_terms(&self) -> Row {
+    /// The greatest common divisor of all columns.
+    fn divisor(&self) -> u128 {
         let last = [self.goal, self.trap, self.unknown, self.reward];
-        let divisor = self.weights.iter().chain(&last).fold(0, |a, &b| gcd(a, b));
-        self.map(|value| value / divisor)
+        self.weights.iter().chain(&last).fold(0, |a, &b| gcd(a, b))
+    }
+
+    /// In how many columns there is a weight: those of the states but t, Goal and Trap.
+    fn columns(&self, t: usize) -> usize {
+        let others = self.weights.iter().enumerate().filter(|&(state, _)| state != t);
+        let weights = others.map(|(_, &weight)| weight).chain([self.goal, self.trap]);
+        weights.filter(|&weight| weight > 0).count()
     }
 
     /// This row after state t, whose row is `removed`, is removed; `d` is D of that row.
@@ -81,7 +106,8 @@ impl Row {
 
     /// The row as it is kept: in lowest terms, and rounded where the figure allows it.
     fn kept(&self, figure: Figure, place: usize) -> Result<Row, Refusal> {
-        let row = self.in_lowest_terms();
+        let divisor = self.divisor();
+        let row = self.map(|value| value / divisor);
         if row.total() <= u128::from(M) && row.reward <= u128::from(M) {
             return Ok(row);
         }
@@ -99,36 +125,55 @@ pub struct LastRow {
     pub upper: Fraction,
 }
 
-/// Makes every step of the order on a chain whose start is live.
+/// Makes the steps of the order on a chain whose start is live.
 ///
-/// Refuses 12 where a row has no fit. A live state has weight outside its own loop at its turn,
-/// rounded or not: rounding turns what it takes off into Unknown.
-pub fn last_row(chain: &Chain, reach: &Reach, figure: Figure) -> Result<LastRow, Refusal> {
-    let mut rows: Vec<Option<Row>> = Vec::new();
-    for state in 0..chain.states() {
-        let row = first_row(chain, reach, figure, state);
-        rows.push(if reach.live[state] { Some(row.kept(figure, BEFORE_THE_FIRST)?) } else { None });
-    }
-    for (position, &state) in chain.order.iter().enumerate() {
-        let t = usize::from(state);
-        if t == chain.start() {
-            continue;
-        }
-        let Some(removed) = rows[t].take() else { continue };
-        let d = removed.total() - removed.weights[t];
-        assert!(d > 0, "a live state whose whole row leads to itself");
-        for row in rows.iter_mut().flatten() {
-            if row.weights[t] > 0 {
-                *row = row.without(t, &removed, d).kept(figure, position)?;
+/// Refuses 12 where a row has no fit.
+pub fn steps(chain: &Chain, reach: &Reach, figure: Figure) -> Steps {
+    let mut records = Vec::new();
+    let end = first_rows(chain, reach, figure).and_then(|mut rows| {
+        for (position, &state) in chain.order.iter().enumerate() {
+            let t = usize::from(state);
+            if t != chain.start() && rows[t].is_some() {
+                records.push(remove(&mut rows, t, figure, position)?);
             }
         }
+        Ok(last_row(&rows, chain.start()))
+    });
+    Steps { records, end }
+}
+
+fn first_rows(chain: &Chain, reach: &Reach, figure: Figure) -> Result<Vec<Option<Row>>, Refusal> {
+    let row = |state| first_row(chain, reach, figure, state).kept(figure, BEFORE_THE_FIRST);
+    (0..chain.states()).map(|i| reach.live[i].then(|| row(i)).transpose()).collect()
+}
+
+/// Removes state t, whose row is kept, at this position of the order.
+///
+/// A live state has weight outside its own loop at its turn, rounded or not: rounding turns what it
+/// takes off into Unknown.
+fn remove(
+    rows: &mut [Option<Row>],
+    t: usize,
+    figure: Figure,
+    position: usize,
+) -> Result<StepRecord, Refusal> {
+    let removed = rows[t].take().expect("the row is kept");
+    let d = removed.total() - removed.weights[t];
+    assert!(d > 0, "a live state whose whole row leads to itself");
+    let mut record = StepRecord { state: t, rows: 0, columns: removed.columns(t), divisor: 1 };
+    for row in rows.iter_mut().flatten().filter(|row| row.weights[t] > 0) {
+        let made = row.without(t, &removed, d);
+        record.rows += 1;
+        record.divisor = record.divisor.max(made.divisor());
+        *row = made.kept(figure, position)?;
     }
-    let row = rows[chain.start()].take().expect("the start is live");
-    let d = row.total() - row.weights[chain.start()];
-    Ok(LastRow {
-        lower: Fraction::new(row.goal, d),
-        upper: Fraction::new(row.goal + row.unknown, d),
-    })
+    Ok(record)
+}
+
+fn last_row(rows: &[Option<Row>], start: usize) -> LastRow {
+    let row = rows[start].as_ref().expect("the start is live");
+    let d = row.total() - row.weights[start];
+    LastRow { lower: Fraction::new(row.goal, d), upper: Fraction::new(row.goal + row.unknown, d) }
 }
 
 fn first_row(chain: &Chain, reach: &Reach, figure: Figure, state: usize) -> Row {

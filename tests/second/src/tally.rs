@@ -17,13 +17,47 @@ pub enum Asked {
     EntryOnDamage,
     Report,
     Writer,
+    Steps,
+    StepsText,
 }
+
+/// The columns of the table.
+const ASKED: usize = 6;
+
+/// What a call of the step list's entry, or `nightsteps`, met; each is a line after the table.
+#[derive(Clone, Copy)]
+pub enum Met {
+    Through,
+    NoStep,
+    StoppedLater,
+    StoppedAtOnce,
+    TooShort,
+    Exact,
+    Longer,
+    Divided,
+    PrintedLater,
+}
+
+/// Each kind in words, and how often a run meets it at least.
+const MET: [(&str, u64); 9] = [
+    ("step lists of answers", 5_000),
+    ("step lists of answers with no step", 300),
+    ("step lists that end in 12 after some steps", 2_000),
+    ("step lists that end in 12 at the first step", 300),
+    ("step lists in too little room", 2_000),
+    ("step lists in room for n records", 2_000),
+    ("step lists in more room", 2_000),
+    ("step lists with a divisor above 1", 2_000),
+    ("step lists printed that end in 12 after some steps", 500),
+];
 
 /// The numbers that a file's bytes, a mode and an answer's length can give; 0 is an answer. 11 needs
 /// a reward above what two bytes hold.
 const GIVEN: [RangeInclusive<usize>; 3] = [0..=10, 12..=12, 20..=24];
 /// Those that need a mode or an answer, which a report does not have.
 const NOT_REPORTED: [usize; 2] = [1, 2];
+/// Those that need a mode, which the step list does not have.
+const NOT_LISTED: [usize; 1] = [1];
 /// Those that the writer can give.
 const WRITTEN: RangeInclusive<usize> = 0..=11;
 /// How many different chains a run has at least, and how many that fit in different orders.
@@ -43,7 +77,9 @@ pub struct Tally {
     failed: u64,
     told: Vec<String>,
     /// How often each number was expected, by `Asked`; 0 is an answer.
-    numbers: [[u64; NUMBERS]; 4],
+    numbers: [[u64; NUMBERS]; ASKED],
+    /// How often each kind was met, by `Met`.
+    met: [u64; MET.len()],
     /// The generated chains, each by a hash of its file, so that none counts twice.
     chains: HashSet<u64>,
     /// Chains whose chance fits in two different orders or more.
@@ -91,19 +127,32 @@ impl Tally {
         self.numbers[asked as usize][number as usize] += 1;
     }
 
+    /// Counts a kind where it was met.
+    pub fn meet(&mut self, kind: Met, met: bool) {
+        self.met[kind as usize] += u64::from(met);
+    }
+
     /// Fails for each number that nothing expected, because a pass says nothing about it, and where
-    /// chains or orders are too few.
+    /// chains, orders or step lists are too few.
     pub fn judge_coverage(&mut self) {
         for number in GIVEN.into_iter().flatten() {
-            let [chains, damage, reports, _] = self.numbers.map(|column| column[number]);
+            let [chains, damage, reports, _, lists, texts] =
+                self.numbers.map(|column| column[number]);
             self.cover(chains + damage > 0, || format!("no call of the entry expects {number}"));
             if !NOT_REPORTED.contains(&number) {
                 self.cover(reports > 0, || format!("no report expects {number}"));
+                self.cover(texts > 0, || format!("no text of nightsteps expects {number}"));
+            }
+            if !NOT_LISTED.contains(&number) {
+                self.cover(lists > 0, || format!("no call for a step list expects {number}"));
             }
         }
         for number in WRITTEN {
             let writes = self.numbers[Asked::Writer as usize][number];
             self.cover(writes > 0, || format!("no call of the writer expects {number}"));
+        }
+        for ((kind, least), met) in MET.into_iter().zip(self.met) {
+            self.cover(met >= least, || format!("only {met} {kind}"));
         }
         let (chains, reordered) = (self.chains.len(), self.reordered);
         self.cover(chains >= CHAINS, || format!("only {chains} chains differ"));
@@ -132,6 +181,9 @@ impl Tally {
         for (mine, theirs) in self.rewards.iter_mut().zip(other.rewards) {
             *mine += theirs;
         }
+        for (mine, theirs) in self.met.iter_mut().zip(other.met) {
+            *mine += theirs;
+        }
         self.chains.extend(other.chains);
         self.reordered += other.reordered;
         self.open_bounds += other.open_bounds;
@@ -142,17 +194,24 @@ impl Tally {
         for failure in &self.told {
             println!("{failure}");
         }
-        println!("number   entry on chains   entry on damage   reports   writer");
+        println!("number   entry on chains   entry on damage   reports   writer   steps   printed");
         for number in 0..NUMBERS {
-            let [chains, damage, reports, writes] = self.numbers.map(|column| column[number]);
-            if chains + damage + reports + writes > 0 {
-                println!("{number:6}   {chains:15}   {damage:15}   {reports:7}   {writes:6}");
+            let row = self.numbers.map(|column| column[number]);
+            let [chains, damage, reports, writes, lists, texts] = row;
+            if row.iter().sum::<u64>() > 0 {
+                println!(
+                    "{number:6}   {chains:15}   {damage:15}   {reports:7}   {writes:6}   \
+                     {lists:5}   {texts:7}"
+                );
             }
         }
         let [fractions, infinite, refused] = self.rewards;
         println!("different generated chains: {}", self.chains.len());
         println!("chains that fit in two orders or more: {}", self.reordered);
         println!("bounds whose fractions differ: {}", self.open_bounds);
+        for ((kind, _), met) in MET.iter().zip(self.met) {
+            println!("{kind}: {met}");
+        }
         println!("rewards: {fractions} fractions, {infinite} infinite, {refused} refused");
         println!("second: {} passed, {} failed", self.passed, self.failed);
         self.failed == 0

@@ -1,8 +1,9 @@
 //! The whole work of a run, cut into units that any thread can take.
 
 use crate::block::{self, VERSIONS};
-use crate::chain::Chain;
+use crate::chain::{Chain, MOST_STATES};
 use crate::compare;
+use crate::compare_steps;
 use crate::damage::{self, Request, DAMAGES, RECORDS_WRONG};
 use crate::damage_lent::{self, LENT_DAMAGES};
 use crate::entry::{Pair, ANSWER, BOUNDS, DEFAULT, EXACT};
@@ -14,6 +15,7 @@ use crate::random::Random;
 use crate::tables::Tables;
 use crate::tally::{Asked, Case, Tally};
 use crate::worked;
+use crate::worked_steps;
 use std::collections::HashSet;
 use std::sync::atomic::{AtomicU64, Ordering};
 use std::thread;
@@ -26,7 +28,8 @@ const CHAINS: u64 = 2_100 * FAMILIES.len() as u64;
 const ORDERED: u64 = 400;
 const DAMAGED: u64 = 2_000 * DAMAGES.len() as u64;
 const LENT: u64 = 500 * LENT_DAMAGES.len() as u64;
-const UNITS: u64 = CHAINS + ORDERED + DAMAGED + LENT;
+const GROWN: u64 = 600;
+const UNITS: u64 = CHAINS + ORDERED + DAMAGED + LENT + GROWN;
 
 /// How many orders each chain of the ordered part is given.
 const ORDERS: usize = 8;
@@ -72,8 +75,10 @@ fn worker(next: &AtomicU64, once_in: u64) -> Tally {
             one_chain_in_many_orders(&mut tally, seed);
         } else if place < CHAINS + ORDERED + DAMAGED {
             one_damage(&mut tally, seed, place, with_report);
-        } else {
+        } else if place < CHAINS + ORDERED + DAMAGED + LENT {
             one_writing(&mut tally, seed, place);
+        } else {
+            one_grown(&mut tally, seed);
         }
     }
 }
@@ -84,17 +89,35 @@ fn known_answers(tally: &mut Tally) {
     for (place, worked) in worked::all().into_iter().enumerate() {
         let case = Case { family: worked.name, seed: place as u64 };
         for version in VERSIONS {
+            let file = file::write(&worked.chain, version);
             compare_chain(tally, case, &worked.chain, version);
-            compare::report_lines(tally, case, &file::write(&worked.chain, version), worked.lines);
+            compare::report_lines(tally, case, &file, worked.lines);
+            compare_lists(tally, case, &file, worked.chain.states());
         }
     }
-    for (family, file, lines) in EXAMPLES {
+    for (place, (family, chain, text)) in worked_steps::all().into_iter().enumerate() {
+        let case = Case { family, seed: place as u64 };
+        for version in VERSIONS {
+            let file = file::write(&chain, version);
+            compare_steps::text(tally, case, &file, text);
+            compare_lists(tally, case, &file, chain.states());
+        }
+    }
+    for (family, file, lines, text) in EXAMPLES {
         let case = Case { family, seed: 0 };
         compare::report_lines(tally, case, file, lines);
+        compare_steps::text(tally, case, file, text);
     }
     let zeros = Case { family: "512 zero bytes", seed: 0 };
     compare::report_lines(tally, zeros, &[0; 512], &["refused 23 at 0"]);
     far_too_long(tally);
+}
+
+/// Compares the step lists of a file of n states in lists of every length that matters.
+fn compare_lists(tally: &mut Tally, case: Case, file: &[u8], n: usize) {
+    for room in [0, n - 1, n, n + 1, MOST_STATES, MOST_STATES + 3] {
+        compare_steps::entry(tally, case, file, room);
+    }
 }
 
 /// A chain file with 65,536 blocks behind it: in two bytes its block total would be right.
@@ -103,6 +126,8 @@ fn far_too_long(tally: &mut Tally) {
     let mut file = file::write(&worked::chains()[0].chain, 2);
     file.resize(file.len() + 65_536 * block::LENGTH, 0);
     compare::report(tally, case, &file);
+    compare_steps::program(tally, case, &file);
+    compare_steps::entry(tally, case, &file, MOST_STATES);
     let request = Request { file, mode: EXACT, answer_length: ANSWER };
     compare::entry(tally, case, &request, Asked::EntryOnDamage);
 }
@@ -140,8 +165,10 @@ fn one_chain(tally: &mut Tally, seed: u64, place: u64, with_report: bool) {
     compare_chain(tally, case, &chain, version);
     let tables = Tables::of(&chain);
     compare::writer(tally, case, &tables, buffer_length(&mut random, tables.file_length()));
+    compare_steps::entry(tally, case, &file, list_length(&mut random, chain.states()));
     if with_report {
         compare::report(tally, case, &file);
+        compare_steps::program(tally, case, &file);
     }
 }
 
@@ -184,10 +211,14 @@ fn turns(chain: &Chain) -> Vec<u8> {
 fn one_damage(tally: &mut Tally, seed: u64, place: u64, with_report: bool) {
     let damage = DAMAGES[(place % DAMAGES.len() as u64) as usize];
     let case = Case { family: damage.0, seed };
-    let request = damage::request(&mut Random::new(seed), damage);
+    let mut random = Random::new(seed);
+    let request = damage::request(&mut random, damage);
     compare::entry(tally, case, &request, Asked::EntryOnDamage);
+    let any = random.below(MOST_STATES + 6);
+    compare_steps::entry(tally, case, &request.file, random.pick(&[MOST_STATES, any]));
     if with_report || damage.0 == RECORDS_WRONG {
         compare::report(tally, case, &request.file);
+        compare_steps::program(tally, case, &request.file);
     }
 }
 
@@ -201,6 +232,23 @@ fn one_writing(tally: &mut Tally, seed: u64, place: u64) {
     let length = if tables.states > 64 { longest } else { tables.file_length() };
     let length = buffer_length(&mut random, length);
     compare::writer(tally, case, &tables, length);
+}
+
+/// A chain that ends in 12 after some steps, through C and through the program.
+fn one_grown(tally: &mut Tally, seed: u64) {
+    let case = Case { family: "grown", seed };
+    let mut random = Random::new(seed);
+    let chain = generate::draw_grown(&mut random);
+    let file = file::write(&chain, random.pick(&VERSIONS));
+    tally.chain(&file);
+    compare_lists(tally, case, &file, chain.states());
+    compare_steps::program(tally, case, &file);
+}
+
+/// n records, one less, none, or more.
+fn list_length(random: &mut Random, n: usize) -> usize {
+    let more = n + random.below(MOST_STATES);
+    random.pick(&[n, n, more, more, n - 1, 0])
 }
 
 /// A file's own length, one byte less, none, or more.

@@ -28,7 +28,7 @@ pub fn chain(rows: &[&[(u8, u32)]], goals: &[usize], rewards: &[u16]) -> Chain {
 }
 
 /// The address chain of source 000.
-fn address(goals: &[usize], rewards: &[u16]) -> Chain {
+pub fn address(goals: &[usize], rewards: &[u16]) -> Chain {
     let rows: [&[(u8, u32)]; 7] = [
         &[(5, 7), (1, 1)],
         &[(0, 4), (2, 1)],
@@ -42,7 +42,7 @@ fn address(goals: &[usize], rewards: &[u16]) -> Chain {
 }
 
 /// The dice of Knuth and Yao.
-fn dice(goals: &[usize], rewards: &[u16]) -> Chain {
+pub fn dice(goals: &[usize], rewards: &[u16]) -> Chain {
     let halves: [[(u8, u32); 2]; 7] = [
         [(1, 1), (2, 1)],
         [(3, 1), (4, 1)],
@@ -56,6 +56,12 @@ fn dice(goals: &[usize], rewards: &[u16]) -> Chain {
     let mut rows: Vec<&[(u8, u32)]> = halves.iter().map(|row| &row[..]).collect();
     rows.extend(faces.iter().map(|row| &row[..]));
     chain(&rows, goals, rewards)
+}
+
+/// A rare way on, then a row of thirds: the totals' product is above M.
+pub fn no_fit() -> Chain {
+    let rows = [&[(1, 1), (3, M - 1)][..], &[(2, 1), (3, 2)], &[(2, 1)], &[(3, 1)]];
+    chain(&rows, &[2], &[])
 }
 
 fn with(mut chain: Chain, change: impl Fn(&mut Chain)) -> Chain {
@@ -106,12 +112,7 @@ pub fn chains() -> Vec<Worked> {
         chain(&[&[(1, 1)], &[(0, 1)]], &[1], &[]),
         &["live 1", "chance 1/1"],
     );
-    let no_fit = [&[(1, 1), (3, M - 1)][..], &[(2, 1), (3, 2)], &[(2, 1)], &[(3, 1)]];
-    add(
-        "no fit",
-        chain(&no_fit, &[2], &[]),
-        &["chance refused 12 at 1", "bounds 0/1 1/1610612736"],
-    );
+    add("no fit", no_fit(), &["chance refused 12 at 1", "bounds 0/1 1/1610612736"]);
     let rare = [&[(1, 1), (2, M - 1)][..], &[(1, 1)], &[(2, 1)]];
     add("one in M", chain(&rare, &[1], &[]), &["chance 1/2147483647"]);
     add(
