@@ -1,7 +1,7 @@
 /*
- * Times the C entries on chain files: the chance in both modes, and the writing of the file again.
+ * Times the C entries on chain files: the chance in both modes, the step list, and the writing of the file again.
  *
- *     entry FILE ..                     three lines a file, for bench/table.py
+ *     entry FILE ..                     four lines a file, for bench/table.py
  *     entry calls N exact|bounds FILE   only makes N calls, for a profiler
  */
 #include "bench.h"
@@ -47,6 +47,35 @@ static void time_mode(const struct bench_file *file, const char *what, uint32_t 
     char result[64];
     write_result(&request, result, sizeof result);
     bench_line(file, what, result, timing);
+}
+
+/* A step list, with room for every chain. */
+struct listing {
+    const struct bench_file *file;
+    struct egorstream_step list[EGORSTREAM_MOST_STATES];
+    struct egorstream_stepped stepped;
+};
+
+static void call_steps(void *work)
+{
+    struct listing *listing = work;
+    listing->stepped = egorstream_steps(listing->file->bytes, listing->file->length, listing->list,
+                                        EGORSTREAM_MOST_STATES);
+}
+
+static void time_steps(const struct bench_file *file)
+{
+    static struct listing listing;
+    listing.file = file;
+    struct bench_timing timing = bench_time(call_steps, &listing);
+    const struct egorstream_stepped *said = &listing.stepped;
+    char result[64];
+    if (said->number != EGORSTREAM_ANSWERED) {
+        snprintf(result, sizeof result, "refused:%" PRIu32, said->number);
+    } else {
+        snprintf(result, sizeof result, "%" PRIu64 "/%" PRIu64, said->numerator, said->denominator);
+    }
+    bench_line(file, "steps", result, timing);
 }
 
 /* The tables of a file, for the writer. It trusts the file, which the entry took for well formed. */
@@ -143,6 +172,7 @@ int main(int argc, char **argv)
         bench_read(&file, argv[i]);
         time_mode(&file, "exact", EGORSTREAM_MODE_EXACT);
         time_mode(&file, "bounds", EGORSTREAM_MODE_BOUNDS);
+        time_steps(&file);
         time_write(&file);
     }
     return EXIT_SUCCESS;

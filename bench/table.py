@@ -15,6 +15,7 @@ import sys
 NAMES = {
     "exact": "entry exact",
     "bounds": "entry bounds",
+    "steps": "entry steps",
     "write": "entry write",
     "dixon": "FLINT Dixon",
     "dixon:solver": "FLINT Dixon, alone",
@@ -25,7 +26,7 @@ NAMES = {
 }
 ENTRY = ("exact", "bounds")
 # What is a time of the product's own code.
-OWN = (*ENTRY, "write")
+OWN = (*ENTRY, "steps", "write")
 FLINT = ("dixon", "size")
 # What starts from the file's bytes and has a result.
 COMPARED = (*ENTRY, *FLINT, "lapack")
@@ -55,6 +56,10 @@ class Measurement:
         lower, _, upper = self.result.partition("..")
         return Fraction(lower), Fraction(upper or lower)
 
+    def answer(self):
+        """The number of the refusal, or both fractions."""
+        return self.refusal() or self.between()
+
 
 def chains(lines):
     """For each chain, in the order they came in, its measurements by what was measured."""
@@ -75,6 +80,9 @@ def disagreements(rows):
     if lower > upper:
         wrong.append(f"the lower bound {lower} is above the upper {upper}")
     exact = rows["exact"]
+    steps = rows["steps"]
+    if steps.answer() != exact.answer():
+        wrong.append(f"the step list ends in {steps.result} and the exact entry says {exact.result}")
     if exact.refusal() is None:
         chance, again = exact.between()
         if chance != again:
