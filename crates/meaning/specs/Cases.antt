@@ -21,6 +21,7 @@ use Rattle.meaning.specs.Outcome.{
   BoundsOutcome,
 }
 use Rattle.meaning.specs.Steps.{StepRecord, StepsOutcome}
+use Rattle.meaning.specs.Copies.{planOf, copiesLent}
 
 -- What an entry is lent, what it answers, and its work table then; for the companion also the records that it writes; a chance that no entry
 -- need answer; or a file, with the number and the place that refuse it.
@@ -140,13 +141,18 @@ full = lend 64 (2 ^ 64 - 1) (replicate 64 1) (loops 0 64) []
 abbrev pub goalless : Lent
 goalless = lend 1 0 (1 ∷ []) (loops 0 1) []
 
+-- One copy, loss 1, finish 3 (request 5): no state is rebuilt to, so any rebuild gives this chain.
+abbrev pub oneCopy : Lent
+oneCopy = copiesLent (planOf 1 1 1 3)
+
 -- 512 zero bytes: the check passes, and the kind is wrong.
 abbrev pub zeros : Input
 zeros = record { kept = replicate blockSize 0; more = 0 }
 
 abbrev pub cases : List Case
 cases =
-    chance okay (fraction 4375 4376) (cleared okay)
+    chance oneCopy (fraction 1 4) (cleared oneCopy)
+    ∷ chance okay (fraction 4375 4376) (cleared okay)
     ∷ chance failed (fraction 1 4376) (cleared failed)
     ∷ reward done (fraction 625 547) (cleared done)
     ∷ chance loop (fraction 1 2) (cleared loop)

@@ -1,13 +1,13 @@
 -- Chain files: the numbers of refusal 20 to 24 with their block, in the order in which they are tested, and the tables of a file that is accepted.
-use Prim.Native.Nat.{ℕ, _+_, _*_, _-_, _/_, _%_, _^_, _≤_, _<_, min}
+use Prim.Native.Nat.{ℕ, _+_, _*_, _-_, _%_, _^_, _≤_, _<_, min}
 use mathlib.Core.Path.{_≡_}
 use mathlib.Core.Logic.{_⊎_}
 use mathlib.Core.List.{List, []}
-use lib.ListN.{length, replicate}
+use lib.ListN.{length}
 use lib.Dec.{eqb, leb}
 use Rattle.meaning.specs.Number.{sumTo, choose, tabFrom, filled}
 use Rattle.meaning.specs.Chain.{mostStates, mostEdges, Chain, edgeSize, edge, edgeNumber}
-use Rattle.meaning.specs.Refusal.{Lent, workSize}
+use Rattle.meaning.specs.Refusal.{Lent, ownWork}
 use Rattle.meaning.specs.Block.{
   Input,
   inputLength,
@@ -169,16 +169,9 @@ chainIn f =
       edges = edgesIn f;
     }
 
--- What an entry is lent of an accepted file, by a function whose work table is its own and holds zeros.
+-- What an entry is lent of an accepted file.
 abbrev pub lentIn : Input → List ℕ → Lent
-lentIn f rewards =
-    record {
-      chain = chainIn f;
-      order = ordersIn f;
-      rewards = rewards;
-      work = replicate (workSize mostStates) 0;
-      list = 0;
-    }
+lentIn f rewards = ownWork (chainIn f) (ordersIn f) rewards
 
 -- The entries for the chance and for the bounds are lent no rewards.
 abbrev pub plainIn : Input → Lent

@@ -40,3 +40,5 @@ pub mod Report
 pub mod Cases
 -- The words of demands 2 and 3, and of the D that is never zero.
 pub mod Demand
+-- The requests that came after: planning copies.
+pub mod Copies

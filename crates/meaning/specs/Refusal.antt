@@ -4,7 +4,7 @@ use mathlib.Core.Path.{_≡_}
 use mathlib.Core.Logic.{_⊎_}
 use mathlib.Core.Bool.{Bool, true, false}
 use mathlib.Core.List.{List, [], _∷_}
-use lib.ListN.{length, getD}
+use lib.ListN.{length, getD, replicate}
 use Rattle.meaning.specs.Number.{only}
 use Rattle.meaning.specs.Chain.{
   mostStates,
@@ -37,6 +37,11 @@ withList list l = record { chain = l .chain; order = l .order; rewards = l .rewa
 -- How many numbers of the work table an elimination needs.
 abbrev pub workSize : ℕ → ℕ
 workSize n = n * width n
+
+-- What is lent by a function whose work table is its own and holds zeros.
+abbrev pub ownWork : Chain → List ℕ → List ℕ → Lent
+ownWork chain order rewards =
+    record { chain = chain; order = order; rewards = rewards; work = replicate (workSize mostStates) 0; list = 0 }
 
 -- What an entry asks decides which numbers it can give: which tables it is lent, the least number of edges, how long the table has to be
 -- that it writes, for so many states and edges, and how many records its step list has to have, for so many states.
@@ -83,9 +88,13 @@ RoomFault x states edges work list = (work < x .room states edges) ⊎ (list < x
 abbrev pub GoalFault : ℕ → ℕ → Type 0
 GoalFault n goals = (goals ≡ 0) ⊎ (2 ^ n ≤ goals)
 
+-- x is not 1 to the limit.
+abbrev pub Beyond : ℕ → ℕ → Type 0
+Beyond limit x = (x ≡ 0) ⊎ (limit < x)
+
 -- x is 0 or above M.
 abbrev pub OutOfRange : ℕ → Type 0
-OutOfRange x = (x ≡ 0) ⊎ (M < x)
+OutOfRange x = Beyond M x
 
 -- 5: the denominator of state i is 0 or above M.
 abbrev pub DenominatorFault : ℕ → List ℕ → ℕ → Type 0

@@ -1,6 +1,7 @@
 -- Edges, paths and sets of states: what is decided and counted of a chain.
 pub mod Fine
 pub mod Flow
+pub mod Joined
 pub mod Path
 pub mod Sets
 pub mod Marks

@@ -17,3 +17,4 @@ pub mod ReportOne
 pub mod StepsOne
 pub mod CallOne
 pub mod CallRead
+pub mod CallFile

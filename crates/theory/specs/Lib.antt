@@ -13,3 +13,5 @@ pub mod Stages
 pub mod Outcomes
 -- Chain files, the report, the step list and the calls from C: one outcome each; and what damage to a file meets.
 pub mod Files
+-- Planning copies: the chain of a plan is well formed, and the planner's answer is one.
+pub mod Plans

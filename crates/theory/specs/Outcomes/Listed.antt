@@ -17,6 +17,7 @@ use Rattle.meaning.specs.Figure.{Chance}
 use Rattle.meaning.specs.Refusal.{Lent, plain}
 use Rattle.meaning.specs.Block.{Input}
 use Rattle.meaning.specs.File.{FileRefused}
+use Rattle.meaning.specs.Copies.{each, copiesEdges}
 use Rattle.meaning.specs.Cases.{Case, chance, reward, bounds, steps, value, file, Claim, cases}
 use Rattle.meaning.specs.Steps.{StepRecord, takenOut, recordOf, recordsAlong}
 use Rattle.theory.specs.Outcomes.StepsComputed.{steps-computed}
@@ -211,7 +212,7 @@ every [] = true
 every (x ∷ s) = let rest = every s in choose (shown x) rest false
 
 pub cases-pass : every cases ≡ true
-unfolding every shown sumTo largest tabFrom gcdIn gcd carried flow gcdOf divisor over shiftFrom shiftOf roundedBy bounded settled given noRow first combined renewed removed after marks takenOut recordOf recordsAlong
+unfolding every shown sumTo largest tabFrom gcdIn gcd carried flow gcdOf divisor over shiftFrom shiftOf roundedBy bounded settled given noRow first combined renewed removed after marks takenOut recordOf recordsAlong each copiesEdges
 cases-pass = refl
 
 both : (a b : Bool) → choose a b false ≡ true → (a ≡ true) × (b ≡ true)

@@ -1,0 +1,70 @@
+-- The planner's answer is one; and one copy with loss 1 and finish 3 is 1/4, whatever the rebuild.
+use Prim.Native.Nat.{ℕ, zero, suc, _≤_, _<_}
+use mathlib.Core.Path.{_≡_, refl, sym, ap, ap₂, _∙_}
+use mathlib.Core.Logic.{inl, inr}
+use mathlib.Core.List.{List, List·Memᴰ·head}
+use native.Mathlib.Omega.{arith}
+use Rattle.meaning.specs.Refusal.{Beyond, Lent, plain, WellFormed}
+use Rattle.meaning.specs.Outcome.{cleared, Answer, refusal, fraction, ChanceOutcome}
+use Rattle.meaning.specs.Copies.{Plan, planOf, mostWeight, PlaceFault, Sensible, each, copiesEdges, copiesLent, CopiesOutcome, copies-wrong, weight-wrong, large, planned}
+use Rattle.meaning.specs.Cases.{Case, oneCopy}
+use Rattle.meaning.specs.Demand.{NoFitAnywhere}
+use Rattle.theory.specs.Outcomes.Determined.{meet}
+use Rattle.theory.specs.Outcomes.Formed.{formed-fine}
+use Rattle.theory.specs.Outcomes.DemandTwo.{chance-is, chance-refuses}
+use Rattle.theory.specs.Outcomes.Listed.{cases-hold}
+use Rattle.theory.specs.Figures.Unique.{chance-one}
+use Rattle.theory.specs.Plans.Formed.{copies-plain}
+
+-- What is answered for one plan is one answer.
+pub copies-one : {j : Plan} {a a′ : Answer} → CopiesOutcome j a → CopiesOutcome j a′ → a ≡ a′
+copies-one (copies-wrong f e) (copies-wrong f′ e′) = e ∙ sym e′
+copies-one (copies-wrong f e) (weight-wrong g′ p′ f′ b′ e′) = absurd (g′ f)
+copies-one (copies-wrong f e) (large s′ n′ e′) = absurd (s′ .copies f)
+copies-one (copies-wrong f e) (planned s′ n′ p′ q′ h′ e′) = absurd (s′ .copies f)
+copies-one (weight-wrong g p f b e) (copies-wrong f′ e′) = absurd (g f′)
+copies-one (weight-wrong g p f b e) (weight-wrong g′ p′ f′ b′ e′) =
+    e ∙ ap (refusal 31) (meet p p′ (λ h. b′ p h f) (λ h. b p′ h f′)) ∙ sym e′
+copies-one (weight-wrong g p f b e) (large s′ n′ e′) = absurd (s′ .weights p f)
+copies-one (weight-wrong g p f b e) (planned s′ n′ p′ q′ h′ e′) = absurd (s′ .weights p f)
+copies-one (large s n e) (copies-wrong f′ e′) = absurd (s .copies f′)
+copies-one (large s n e) (weight-wrong g′ p′ f′ b′ e′) = absurd (s .weights p′ f′)
+copies-one (large s n e) (large s′ n′ e′) = e ∙ sym e′
+copies-one (large s n e) (planned s′ n′ p′ q′ h′ e′) = absurd (n′ n)
+copies-one (planned s n p q h e) (copies-wrong f′ e′) = absurd (s .copies f′)
+copies-one (planned s n p q h e) (weight-wrong g′ p′ f′ b′ e′) = absurd (s .weights p′ f′)
+copies-one (planned s n p q h e) (large s′ n′ e′) = absurd (n n′)
+copies-one {j} (planned s n p q h e) (planned s′ n′ p′ q′ h′ e′) =
+    let o = chance-one (formed-fine plain (copiesLent j) (copies-plain s)) h h′ in
+    e ∙ ap₂ fraction (o .0) (o .1) ∙ sym e′
+
+-- One copy, loss 1 and finish 3.
+module _ (rebuild : ℕ) (right : Beyond mostWeight rebuild → ⊥) where
+  abbrev single : Plan
+  single = planOf 1 1 rebuild 3
+
+  sensible : Sensible single
+  sensible = record { copies = λ f. out 1 32 (omega arith) (omega arith) f; weights = wrong }
+    where
+      out : (x limit : ℕ) → 0 < x → x ≤ limit → Beyond limit x → ⊥
+      out x limit h k (inl e) = omega arith
+      out x limit h k (inr e) = omega arith
+
+      wrong : (p : ℕ) → PlaceFault single p → ⊥
+      wrong zero f = out 1 mostWeight (omega arith) (omega arith) (f .1)
+      wrong (suc zero) f = right (f .1)
+      wrong (suc (suc zero)) f = out 3 mostWeight (omega arith) (omega arith) (f .1)
+      wrong (suc (suc (suc p))) f = omega (arith, f .0)
+
+  quarter : ChanceOutcome (copiesLent single) (fraction 1 4) (cleared (copiesLent single))
+  unfolding each copiesEdges
+  quarter = cases-hold (Case.chance oneCopy (fraction 1 4) (cleared oneCopy)) (List·Memᴰ·head refl)
+
+  pub copies-quarter : {a : Answer} → CopiesOutcome single a → a ≡ fraction 1 4
+  copies-quarter o =
+      let l : Lent = copiesLent single in
+      let w : List ℕ = cleared l in
+      let formed : WellFormed plain l = copies-plain sensible in
+      let none : NoFitAnywhere l → ⊥ =
+      λ f. let t : _≡_ {A = ℕ} 0 12 = chance-refuses l formed (fraction 1 4) w quarter .1 f in omega arith in
+      copies-one o (planned sensible none 1 4 (chance-is l formed (fraction 1 4) w quarter refl) refl)
