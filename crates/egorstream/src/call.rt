@@ -8,11 +8,11 @@ use crate::reply;
 use figures::Question;
 
 // The modes: the default means exact.
-const DEFAULT: u32 = 0;
+pub const MODE_DEFAULT: u32 = 0;
 
-const EXACT: u32 = 1;
+pub const MODE_EXACT: u32 = 1;
 
-const BOUNDS: u32 = 2;
+pub const MODE_BOUNDS: u32 = 2;
 
 // The exact fraction stands twice.
 fn exact(file: &[u8], answer: &mut [u8]) -> u32
@@ -56,14 +56,14 @@ fn between(file: &[u8], answer: &mut [u8]) -> u32
 pub extern "C" fn egorstream_chance(file: &[u8], mode: u32, answer: &mut [u8]) -> u32
     ensures { λ r. ⌜ CallOutcome (now (file .entry)) mode (now (answer .entry)) r (now (answer .exit)) ⌝ }
 {
-    if BOUNDS < mode {
+    if MODE_BOUNDS < mode {
         return 1;
     }
-    if answer.len() < reply::LENGTH {
+    if answer.len() < reply::ANSWER_LENGTH {
         return 2;
     }
     match mode {
-        DEFAULT | EXACT => exact(file, answer),
+        MODE_DEFAULT | MODE_EXACT => exact(file, answer),
         _ => between(file, answer),
     }
 }

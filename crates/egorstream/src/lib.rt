@@ -4,8 +4,13 @@ mod reply;
 mod steps;
 mod write;
 
+pub use call::MODE_BOUNDS;
+pub use call::MODE_DEFAULT;
+pub use call::MODE_EXACT;
 pub use call::egorstream_chance;
+pub use reply::ANSWER_LENGTH;
 pub use steps::Stepped;
 pub use steps::egorstream_steps;
+pub use write::EDGE_SIZE;
 pub use write::Written;
 pub use write::egorstream_write;

@@ -9,7 +9,7 @@ use chainfile::put_number;
 const WIDTH: usize = 4;
 
 // How long an answer is: four numbers.
-pub(crate) const LENGTH: usize = 4 * WIDTH;
+pub const ANSWER_LENGTH: usize = 4 * WIDTH;
 
 // p over q and s over t, numerators first. Bytes beyond these stay.
 pub(crate) fn reply(answer: &mut [u8], p: u64, q: u64, s: u64, t: u64)

@@ -4,6 +4,9 @@ ghost use Rattle.egorstream.specs.Told.{told, lent};
 use chain::Chain;
 use chainwriter::Writing;
 
+// How many numbers of the list an edge has.
+pub const EDGE_SIZE: usize = chain::edge::SIZE;
+
 // A refusal's number and place, or 0 and how long the file is.
 #[repr(C)]
 pub struct Written {

@@ -32,7 +32,7 @@ pub mod Buffer
 pub mod Write
 -- "Chain files": the call from C.
 pub mod Call
--- "The report": numbers as text.
+-- "The report": numbers as text; and what a word is read as.
 pub mod Text
 -- "The report": the lines, and what a program's text is.
 pub mod Report

@@ -102,6 +102,10 @@ pub data StepsReport (f : Input) (t : List ℕ) : Type 0 where
       → t ≡ recordsText records ++ lineText (bytesOf "chance ") (answerText chance)
       → StepsReport f t
 
+-- The line of an answer alone, as `1/4`, or `refused 31 at 2`.
+abbrev pub answerLine : Answer → List ℕ
+answerLine a = answerText a ++ bytesOf "\n"
+
 -- A buffer with less than the room for any such text is refused by 2, and stays. Else the text stands at its front, and bytes past the text
 -- stay.
 pub data TextOutcome (room : ℕ) (Text : List ℕ → Type 0) (before : List ℕ) (a : Writing) (after : List ℕ) : Type 0 where
@@ -129,3 +133,10 @@ stepsRoom = 7154
 
 abbrev pub StepsReportOutcome : Input → List ℕ → Writing → List ℕ → Type 0
 StepsReportOutcome f = TextOutcome stepsRoom (StepsReport f)
+
+-- Room for any line of an answer, likewise.
+abbrev pub answerRoom : ℕ
+answerRoom = 43
+
+abbrev pub AnswerOutcome : Answer → List ℕ → Writing → List ℕ → Type 0
+AnswerOutcome a = TextOutcome answerRoom (λ t. t ≡ answerLine a)

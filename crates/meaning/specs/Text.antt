@@ -1,8 +1,10 @@
--- Text as bytes: ASCII characters and decimal numbers.
-use Prim.Native.Nat.{ℕ, zero, suc, _+_, _/_, _%_}
+-- Text as bytes: ASCII characters and decimal numbers, written and read.
+use Prim.Native.Nat.{ℕ, zero, suc, _+_, _*_, _-_, _/_, _%_, _^_, _≤_, _<_}
+use mathlib.Core.Path.{_≡_}
 use Prim.Native.String.{String, [] as none, _∷_ as _then_}
 use Prim.Native.Char.{code}
 use mathlib.Core.List.{List, [], _∷_, _++_}
+use lib.ListN.{length, getD}
 use lib.Dec.{ltb}
 use Rattle.meaning.specs.Number.{choose}
 
@@ -20,3 +22,27 @@ decimalIn (suc steps) x =
 -- x in decimal, with no zero in front: it has at most x + 1 digits.
 unfoldable pub decimal : ℕ → List ℕ
 decimal x = decimalIn x x
+
+-- The number that the first n digits of a word say.
+unfoldable pub valueTo : List ℕ → ℕ → ℕ
+valueTo word zero = 0
+valueTo word (suc n) = valueTo word n * 10 + (getD word n 0 - 48)
+
+-- The most digits of a word, and the number that no word reaches: the numbers of 64 bits.
+abbrev pub mostDigits : ℕ
+mostDigits = 20
+
+abbrev pub pastNumbers : ℕ
+pastNumbers = 2 ^ 64
+
+-- A word is a decimal number of 64 bits.
+pub record Decimal (word : List ℕ) : Type 0 where
+  pub some : 0 < length word
+  pub few : length word ≤ mostDigits
+  pub digits : (i : ℕ) → i < length word → (48 ≤ getD word i 0) × (getD word i 0 ≤ 57)
+  pub fits : valueTo word (length word) < pastNumbers
+
+-- What a word is read as: its number, or 0 where it has none.
+pub data WordOutcome (word : List ℕ) (x : ℕ) : Type 0 where
+  number : Decimal word → x ≡ valueTo word (length word) → WordOutcome word x
+  nothing : (Decimal word → ⊥) → x ≡ 0 → WordOutcome word x

@@ -3,3 +3,4 @@ pub mod Kinds
 pub mod Sums
 pub mod Formed
 pub mod Copies
+pub mod Filed

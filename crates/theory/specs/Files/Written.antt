@@ -4,11 +4,11 @@ use Prim.Native.Nat.{ℕ, zero, suc, _*_, _≤_}
 use mathlib.Core.Path.{_≡_, refl, sym, ap, ap₂, subst, _∙_}
 use mathlib.Core.List.{List}
 use native.Mathlib.Omega.{arith}
-use lib.ListN.{length, take, drop}
+use lib.ListN.{length, take, drop, length-append}
 use lib.Seq.{take-at}
 use Rattle.meaning.specs.Number.{filled}
 use Rattle.meaning.specs.Chain.{Chain, edgeSize, edgeCount, edgeNumber}
-use Rattle.meaning.specs.Refusal.{Lent, paid, Misshaped, Applies, Refused, WellFormed}
+use Rattle.meaning.specs.Refusal.{Lent, paid, Misshaped, Applies, WellFormed}
 use Rattle.meaning.specs.Block.{Input, wholeFile, secondVersion, versionIn, headStates, headEdges, denominatorIn, rewardIn, orderIn}
 use Rattle.meaning.specs.File.{Accepted, edgeIn, chainIn, ordersIn, rewardsIn, paidIn, Tables, Short, Reading, ReadOutcome}
 use Rattle.meaning.specs.Buffer.{Writing, noWriting, writing}
@@ -50,6 +50,30 @@ write-one (written w f x e k) (refused n p r e′ k′) = absurd (w .none n p (r
 write-one {l} (written w f x e k) (written w′ f′ x′ e′ k′) =
     let o = file-of-one x x′ in
     (e ∙ ap (λ f. writing (length f)) o ∙ sym e′, k ∙ ap (λ f. filled f (l .work)) o ∙ sym k′)
+
+-- What is well formed is written.
+pub formed-written : {l : Lent} {a : Writing} {after : List ℕ} → WriteOutcome l a after → WellFormed filing l → a .number ≡ 0
+formed-written (refused n p r e k) w = absurd (w .none n p (r .applies))
+formed-written (written w f x e k) _ = ap (λ (a : Writing). a .number) e
+
+-- The file is in the buffer.
+pub written-inside : {l : Lent} {a : Writing} {after : List ℕ} → WriteOutcome l a after → a .written ≤ length after
+written-inside (refused n p r e k) = let z = ap (λ (a : Writing). a .written) e in omega arith
+written-inside {l} (written w f x e k) =
+    let z = ap (λ (a : Writing). a .written) e in
+    omega (arith, ap length k, length-append f (drop (length f) (l .work)))
+
+-- A file is of the tables, whatever else is lent.
+pub file-of-same : {l m : Lent} {file : List ℕ} → l .chain ≡ m .chain → l .order ≡ m .order → l .rewards ≡ m .rewards → FileOf l file → FileOf m file
+file-of-same c o r x =
+    record {
+      bytes = x .bytes;
+      version = x .version;
+      accepted = x .accepted;
+      chain = x .chain ∙ c;
+      order = x .order ∙ o;
+      rewards = x .rewards ∙ r;
+    }
 
 -- With number 0, what was written is a file of what is lent, and the buffer has kept its other bytes.
 pub read-back : {l : Lent} {a : Writing} {after : List ℕ} → WriteOutcome l a after → a .number ≡ 0

@@ -1,0 +1,5 @@
+pub mod Growing
+pub mod Deciding
+pub mod Sums
+pub mod Filing
+pub mod Unique

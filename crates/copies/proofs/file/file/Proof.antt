@@ -1,0 +1,69 @@
+use Prim.Native.Nat.{_+_}
+use native.Mathlib.Omega.{arith}
+use borrow.Author.Needs.{needs}
+use Rattle.theory.specs.Plans.Formed.{in-range}
+use Rattle.copies.proofs.Filing.{front-length, zeros-length, filed}
+use Rattle.copies.proofs.file.file.Statement.{statement}
+use Rattle.copies.proofs.file.file.Tie as tie
+
+add-states : tie.Need-add-states
+add-states c = omega (arith, in-range (c .before .pre .0) .few)
+
+denominators-requires : tie.Need-denominators-requires
+denominators-requires c κs = let s = c .before .before in (s .pre .0, omega (arith, in-range (s .pre .0) .few))
+
+edges-requires : tie.Need-edges-requires
+edges-requires c κs = (c .before .before .before .before .before .pre .0, omega arith)
+
+rising-requires : tie.Need-rising-requires
+rising-requires c κs = omega (arith, in-range (c .before .before .before .before .before .before .before .before .pre .0) .few)
+
+add-egorstream-write : tie.Need-add-egorstream-write
+add-egorstream-write c = omega (arith, in-range (c .before .before .before .before .before .before .before .before .before .before .before .pre .0) .few)
+
+slice-aggregate-egorstream-write : tie.Need-slice-aggregate-egorstream-write
+slice-aggregate-egorstream-write c = front-length (c .before .before .before .before .before .before .before .before .before .denominators2 .ensures)
+
+slice-aggregate-egorstream-write-2 : tie.Need-slice-aggregate-egorstream-write-2
+slice-aggregate-egorstream-write-2 c = front-length (c .before .before .before .before .before .before .before .edges .ensures)
+
+slice-aggregate-egorstream-write-3 : tie.Need-slice-aggregate-egorstream-write-3
+slice-aggregate-egorstream-write-3 c = front-length (c .before .before .before .before .before .rising .ensures)
+
+slice-aggregate-egorstream-write-4 : tie.Need-slice-aggregate-egorstream-write-4
+slice-aggregate-egorstream-write-4 c =
+    let s = c .before .before .before .before .before .before .before .before .before .before .before .before .before .before .before in zeros-length (s .args .plan .copies + 2) 34 (omega (arith, in-range (s .pre .0) .few))
+
+returns : tie.Need-returns
+returns c =
+    let written = c .before .before in
+    let rising = written .before .before .before .before .before .before .before .before in
+    let edges = rising .before .before .before in
+    let denominators = edges .before .before .before in
+    let s = denominators .before .before .before in
+    filed (s .pre .0) 34 (denominators .denominators2 .ensures .written) (edges .edges .ensures .written) (rising .rising .ensures .written)
+    (omega (arith, in-range (s .pre .0) .few)) (s .pre .1) (written .egorstream-write .ensures)
+
+pub file-spec : {M : Type 1} → statement M
+file-spec =
+    tie.close
+    (tie.spec
+    add-states
+    (λ c. search needs)
+    denominators-requires
+    (λ c. search needs)
+    edges-requires
+    (λ c. search needs)
+    rising-requires
+    add-egorstream-write
+    (λ c. search needs)
+    slice-aggregate-egorstream-write
+    (λ c. search needs)
+    slice-aggregate-egorstream-write-2
+    (λ c. search needs)
+    slice-aggregate-egorstream-write-3
+    (λ c. search needs)
+    slice-aggregate-egorstream-write-4
+    (λ c κs. search needs)
+    (λ c. search needs)
+    returns)

@@ -1,0 +1,52 @@
+// The chain file of a plan is handed to the C entry, and the fraction is read from the bytes of its answer.
+ghost use Prim.Native.Nat.{_+_, _≤_, _<_};
+ghost use mathlib.Core.Path.{_≡_};
+ghost use lib.ListN.{length};
+ghost use Rattle.meaning.specs.Block.{wholeFile, numberAt};
+ghost use Rattle.meaning.specs.Copies.{Sensible, CopiesOutcome};
+ghost use Rattle.copies.specs.Told.{toldPlan, told};
+use crate::Plan;
+use crate::Planned;
+use crate::file;
+use crate::refused;
+use egorstream::ANSWER_LENGTH;
+use egorstream::MODE_DEFAULT;
+use egorstream::egorstream_chance;
+
+fn wide(x: u8) -> u64
+    ensures { λ r. ⌜ (r ≡ x) × (r < 256) ⌝ }
+{
+    x as u64
+}
+
+// The number in the four bytes of an answer from `at` on.
+fn number(answer: &[u8], at: usize) -> u64
+    requires { ⌜ at + 4 ≤ length (now answer) ⌝ }
+    ensures { λ r. ⌜ r ≡ numberAt (wholeFile (now (answer .entry))) at 4 ⌝ }
+{
+    let first = wide(answer[at]);
+    let second = wide(answer[at + 1]);
+    let third = wide(answer[at + 2]);
+    let fourth = wide(answer[at + 3]);
+    first + 256 * second + 65536 * third + 16777216 * fourth
+}
+
+// The chance of a sensible plan. Nothing but 12 is refused, and of that the entry gives no place.
+pub(crate) fn ask(plan: Plan) -> Planned
+    requires { ⌜ Sensible (toldPlan plan) ⌝ }
+    ensures { λ r. ⌜ CopiesOutcome (toldPlan plan) (told r) ⌝ }
+{
+    let mut buffer = [0u8; file::LONGEST];
+    let length = file::file(plan, &mut buffer);
+    let mut answer = [0u8; ANSWER_LENGTH];
+    let returned = egorstream_chance(&buffer[..length], MODE_DEFAULT, &mut answer);
+    if returned != 0 {
+        return refused(returned, 0);
+    }
+    Planned {
+        number: 0,
+        place: 0,
+        numerator: number(&answer, 0),
+        denominator: number(&answer, 4),
+    }
+}
