@@ -9,7 +9,7 @@ use Rattle.meaning.specs.Number.{choose}
 use Rattle.meaning.specs.Chain.{mostStates, mostEdges}
 use Rattle.meaning.specs.Outcome.{Answer, Bounds}
 use Rattle.meaning.specs.Text.{bytesOf}
-use Rattle.meaning.specs.Report.{fractionText, refusedText, answerText, boundsText, linesText, faceText, reportRoom, faceRoom}
+use Rattle.meaning.specs.Report.{fractionText, refusedText, answerText, boundsText, linesText, answerLine, faceText, reportRoom, faceRoom, answerRoom}
 use Rattle.theory.specs.Outcomes.Small.{Small, BothSmall}
 use Rattle.chainfile.specs.Written.{Room}
 use Rattle.report.proofs.Decimal.{digits}
@@ -83,6 +83,10 @@ answer-wide a w =
     let fraction : length (fractionText (a .numerator) (a .denominator)) ≤ 42 =
     simp length-append (omega (arith, digits 19 (a .numerator) (omega arith), digits 19 (a .denominator) (omega arith))) in
     either (eqb (a .number) 0) _ _ 42 (either (eqb (a .denominator) 0) _ _ 42 (omega arith) fraction) (refused-wide a w)
+
+-- The line of an answer alone.
+pub answer-room : (buffer : List ℕ) (a : Answer) → answerRoom ≤ length buffer → Wide a → Room buffer 0 (answerLine a)
+answer-room buffer a room w = simp length-append (omega (arith, answer-wide a w))
 
 -- The line of a face, whatever 64-bit numbers stand in it.
 pub face-room : (buffer : List ℕ) (face : ℕ) (a : Answer) → faceRoom ≤ length buffer → face < 2 ^ 64 → Wide a → Room buffer 0 (faceText face a)

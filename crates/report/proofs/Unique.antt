@@ -7,8 +7,8 @@ use lib.ListN.{length, drop, length-append}
 use Rattle.meaning.specs.Outcome.{Answer}
 use Rattle.meaning.specs.Block.{Input}
 use Rattle.meaning.specs.Buffer.{Writing}
-use Rattle.meaning.specs.Report.{answerText, lineText, recordsText, Report, StepsReport, TextOutcome, ReportOutcome, StepsReportOutcome, FaceOutcome}
 use Rattle.meaning.specs.Text.{bytesOf}
+use Rattle.meaning.specs.Report.{answerText, lineText, recordsText, Report, StepsReport, TextOutcome, ReportOutcome, StepsReportOutcome, FaceOutcome, AnswerOutcome}
 use Rattle.theory.specs.Files.ReportOne.{report-one, text-one}
 use Rattle.theory.specs.Files.StepsOne.{steps-report-one}
 use Rattle.report.specs.Stands.{told}
@@ -77,3 +77,7 @@ steps-unique = unique steps-some (λ t t′. steps-report-one)
 pub face-unique : (face : ℕ) (chance : Answer) {before after after′ : List ℕ} (r r′ : Printed) → FaceOutcome face chance before (told r) after
     → FaceOutcome face chance before (told r′) after′ → (r ≡ r′) × (after ≡ after′)
 face-unique face chance = unique (λ t e. omega (arith, ap length e)) (λ t t′ e e′. e ∙ sym e′)
+
+pub answer-unique : (a : Answer) {before after after′ : List ℕ} (r r′ : Printed) → AnswerOutcome a before (told r) after
+    → AnswerOutcome a before (told r′) after′ → (r ≡ r′) × (after ≡ after′)
+answer-unique a = unique (λ t e. omega (arith, ap length e, length-append (answerText a) (bytesOf "\n"))) (λ t t′ e e′. e ∙ sym e′)

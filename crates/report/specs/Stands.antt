@@ -4,6 +4,7 @@ use mathlib.Core.Path.{_≡_}
 use mathlib.Core.List.{List}
 use lib.ListN.{length}
 use Rattle.meaning.specs.Number.{filled}
+use Rattle.meaning.specs.Outcome.{Answer}
 use Rattle.meaning.specs.Buffer.{Writing, writing, noWriting}
 use Rattle.report.specs.declared.Printed.{Printed}
 use Rattle.report.specs.declared.Printed.the-variants.{Length, Refused}
@@ -19,3 +20,8 @@ pub record Stands (Text : List ℕ → Type 0) (before : List ℕ) (returned : �
 abbrev pub told : Printed → Writing
 told (Length n) = writing n
 told (Refused number place) = noWriting number place
+
+-- An answer as its four numbers.
+abbrev pub answerOf : ℕ → ℕ → ℕ → ℕ → Answer
+answerOf number place numerator denominator =
+    record { number = number; place = place; numerator = numerator; denominator = denominator }

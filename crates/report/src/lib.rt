@@ -1,10 +1,10 @@
-// The report of a chain file, its step list as a text, and the line of a face of the dice.
+// The report of a chain file, its step list as a text, the line of a face of the dice, and the line of an answer alone.
 ghost use Prim.Native.Nat.{_≤_};
 ghost use lib.ListN.{length};
-ghost use Rattle.meaning.specs.Report.{reportRoom, Report, ReportOutcome, stepsRoom, StepsReport, StepsReportOutcome, FaceOutcome};
+ghost use Rattle.meaning.specs.Report.{reportRoom, Report, ReportOutcome, stepsRoom, StepsReport, StepsReportOutcome, FaceOutcome, AnswerOutcome};
 ghost use Rattle.engines.specs.Answer.{toldChance};
 ghost use Rattle.chainfile.specs.Input.{input};
-ghost use Rattle.report.specs.Stands.{Stands, told};
+ghost use Rattle.report.specs.Stands.{Stands, told, answerOf};
 use chain::Chain;
 use engines::answer::Chance;
 use figures::Answer;
@@ -14,6 +14,7 @@ mod lines;
 mod records;
 mod text;
 
+pub use lines::ANSWER_ROOM;
 pub use lines::FACE_ROOM;
 pub use lines::REPORT_ROOM;
 pub use lines::STEPS_ROOM;
@@ -94,4 +95,31 @@ pub fn face(face: u64, chance: Chance, buffer: &mut [u8]) -> Printed
         };
     }
     Printed::Length(lines::face_line(buffer, 0, face, Answer::of_chance(chance)))
+}
+
+// The line of an answer alone, from its four numbers, at the front of the buffer.
+pub fn answer(
+    number: u32,
+    place: usize,
+    numerator: u64,
+    denominator: u64,
+    buffer: &mut [u8],
+) -> Printed
+    ensures { λ r.
+        let a = answerOf number place numerator denominator in
+        ⌜ AnswerOutcome a (now (buffer .entry)) (told r) (now (buffer .exit)) ⌝ }
+{
+    if buffer.len() < lines::ANSWER_ROOM {
+        return Printed::Refused {
+            number: 2,
+            place: 0,
+        };
+    }
+    let a = Answer {
+        number,
+        place,
+        numerator,
+        denominator,
+    };
+    Printed::Length(lines::answer_line(buffer, 0, b"", a))
 }

@@ -26,8 +26,10 @@ const BOUNDS_LINE: usize = 7 + FRACTION + 1 + FRACTION + 1;
 // What stands in the line of an exact figure, whatever its numbers are: a number of 64 bits has 20 digits.
 const ANSWER: usize = 8 + 10 + 4 + 20;
 
-// Room for any line of a face.
-pub const FACE_ROOM: usize = 5 + 20 + 1 + ANSWER + 1;
+// Room for any line of an answer alone, and of a face.
+pub const ANSWER_ROOM: usize = ANSWER + 1;
+
+pub const FACE_ROOM: usize = 5 + 20 + 1 + ANSWER_ROOM;
 
 pub const REPORT_ROOM: usize = COUNT_LINES + 2 * ANSWER_LINE + BOUNDS_LINE;
 
