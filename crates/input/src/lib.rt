@@ -1,8 +1,13 @@
-// Standard input for programs: what is kept of it, and what is only counted.
+// What programs are given: standard input, what is kept of it and what is only counted; and words that are numbers.
 ghost use Prim.Native.Nat.{_+_, _≤_};
 ghost use lib.ListN.{length};
 ghost use Rattle.input.specs.Kept.{InputKept};
 use libc::STDIN_FILENO;
+
+mod word;
+
+pub use word::DIGITS;
+pub use word::number;
 
 // What one read takes at most, and how many reads there are at most, some 2^63 bytes in all: a proved loop has to end, and nothing says that
 // the input does.

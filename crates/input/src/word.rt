@@ -1,0 +1,49 @@
+// Words of the command line, read as numbers.
+ghost use Rattle.meaning.specs.Text.{WordOutcome};
+ghost use Rattle.input.specs.Digit.{Digit};
+
+// The most digits of a number of 64 bits, and the last such number.
+pub const DIGITS: usize = 20;
+
+const LAST: u64 = 18446744073709551615;
+
+// What a byte stands for that is no digit.
+const NONE: u64 = 10;
+
+fn digit(byte: u8) -> u64
+    ensures { λ r. ⌜ Digit byte r ⌝ }
+{
+    if byte < 48 {
+        return NONE;
+    }
+    if 57 < byte {
+        return NONE;
+    }
+    (byte - 48) as u64
+}
+
+// The number that a word says in decimal; 0 where it says none.
+pub fn number(word: &[u8]) -> u64
+    ensures { λ r. ⌜ WordOutcome (now (word .entry)) r ⌝ }
+{
+    if word.len() == 0 {
+        return 0;
+    }
+    if DIGITS < word.len() {
+        return 0;
+    }
+    let mut x = 0;
+    let mut i = 0;
+    while i < word.len() {
+        let d = digit(word[i]);
+        if d == NONE {
+            return 0;
+        }
+        if (LAST - d) / 10 < x {
+            return 0;
+        }
+        x = x * 10 + d;
+        i += 1;
+    }
+    x
+}
