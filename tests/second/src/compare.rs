@@ -5,6 +5,7 @@ use crate::damage::Request;
 use crate::entry::{self, Pair, ANSWER, BOUNDS};
 use crate::file;
 use crate::fraction::Fraction;
+use crate::plan::Plan;
 use crate::product::{self, Call, Reply, Writing, Written};
 use crate::random::Random;
 use crate::refusal::Refusal;
@@ -167,6 +168,20 @@ pub fn report(tally: &mut Tally, case: Case, file: &[u8]) -> String {
         }
     }
     came
+}
+
+/// Runs `plancopies` on these words and compares its line.
+pub fn plan(tally: &mut Tally, case: Case, words: &[String]) {
+    let plan = Plan::of_words(words);
+    let expected = plan.line();
+    let came = match product::plan(words) {
+        Ok(bytes) => String::from_utf8_lossy(&bytes).into_owned(),
+        Err(error) => format!("nothing: {error}"),
+    };
+    tally.check(case, &[], came == expected, || {
+        format!("plan {words:?}: expected {expected:?}, came {came:?}")
+    });
+    tally.number(Asked::Planner, plan.chance().map_or_else(|refusal| refusal.number, |_| 0));
 }
 
 /// Compares a whole report, and those of its lines that are known from elsewhere.

@@ -1,8 +1,9 @@
 //! A second implementation of documents 01 and 02, compared with the product.
 //!
 //! It makes chains and damaged requests from fixed seeds, calls the C entries of the product's static
-//! library on all of them and its programs `nightchance` and `nightsteps` on a part, and compares
-//! every answer with its own. Its last line is `second: N passed, 0 failed`, where N counts comparisons.
+//! library on all of them and its programs `nightchance` and `nightsteps` on a part, runs its program
+//! `plancopies` on plans, and compares every answer with its own. Its last line is
+//! `second: N passed, 0 failed`, where N counts comparisons.
 //!
 //! `cargo run --release` compares, with the word `sample` on a small part of it; `cargo test` tries
 //! this implementation alone on the chains that are worked by hand. The product is sought
@@ -27,6 +28,7 @@ mod fraction;
 mod generate;
 mod live;
 mod modular;
+mod plan;
 mod product;
 mod random;
 mod refusal;
@@ -52,8 +54,8 @@ fn main() -> ExitCode {
             return ExitCode::FAILURE;
         }
     };
-    let programs = [product::NIGHTCHANCE, product::NIGHTSTEPS].map(product::program);
-    for program in programs.into_iter().chain([product::driver()]) {
+    let programs = [product::NIGHTCHANCE, product::NIGHTSTEPS, product::PLANCOPIES];
+    for program in programs.map(product::program).into_iter().chain([product::driver()]) {
         if !program.is_file() {
             eprintln!("The program {} is missing.", program.display());
             return ExitCode::FAILURE;

@@ -22,6 +22,8 @@ pub fn driver() -> PathBuf {
 /// The programs that read a chain file.
 pub const NIGHTCHANCE: &str = "nightchance";
 pub const NIGHTSTEPS: &str = "nightsteps";
+/// The program that is given a plan.
+pub const PLANCOPIES: &str = "plancopies";
 
 /// Where a program is.
 pub fn program(name: &str) -> PathBuf {
@@ -39,7 +41,7 @@ static WAY: LazyLock<Vec<String>> = LazyLock::new(|| {
     words.lines().map(str::to_string).collect()
 });
 
-fn start(program: &Path) -> Child {
+fn start(program: &Path, words: &[String]) -> Child {
     let mut command = match WAY.split_first() {
         None => Command::new(program),
         Some((runner, words)) => {
@@ -48,6 +50,7 @@ fn start(program: &Path) -> Child {
             command
         }
     };
+    command.args(words);
     command.stdin(Stdio::piped()).stdout(Stdio::piped()).stderr(Stdio::inherit());
     command.spawn().unwrap_or_else(|error| panic!("{command:?} does not start: {error}"))
 }
@@ -62,7 +65,7 @@ struct Driver {
 
 impl Driver {
     fn new() -> Driver {
-        let mut process = start(&driver());
+        let mut process = start(&driver(), &[]);
         let requests = process.stdin.take();
         let replies = process.stdout.take().expect("it is piped");
         Driver { process, requests, replies }
@@ -214,9 +217,19 @@ pub fn steps(listing: &Listing, memory: &mut [u8]) -> io::Result<Stepped> {
 
 /// What a program prints for this file on its standard input.
 pub fn printed(name: &str, file: &[u8]) -> io::Result<Vec<u8>> {
-    let mut child = start(&program(name));
+    let mut child = start(&program(name), &[]);
     // A program that stops reading early shows in its report; that the pipe broke is no more news.
     let _ = child.stdin.take().expect("it is piped").write_all(file);
+    all_of(child)
+}
+
+/// What `plancopies` prints for these words.
+pub fn plan(words: &[String]) -> io::Result<Vec<u8>> {
+    all_of(start(&program(PLANCOPIES), words))
+}
+
+/// All that a program prints until it ends.
+fn all_of(child: Child) -> io::Result<Vec<u8>> {
     let output = child.wait_with_output()?;
     if !output.status.success() {
         return Err(io::Error::other(format!("it ended with {}", output.status)));

@@ -8,7 +8,7 @@ use std::{env, fs};
 /// How many failures are told in full.
 const TOLD: usize = 5;
 /// One more than the greatest number of refusal.
-const NUMBERS: usize = 25;
+const NUMBERS: usize = 32;
 
 /// Where a refusal number was expected; each is a column of the table.
 #[derive(Clone, Copy)]
@@ -19,10 +19,11 @@ pub enum Asked {
     Writer,
     Steps,
     StepsText,
+    Planner,
 }
 
 /// The columns of the table.
-const ASKED: usize = 6;
+const ASKED: usize = 7;
 
 /// What a call of the step list's entry, or `nightsteps`, met; each is a line after the table.
 #[derive(Clone, Copy)]
@@ -60,6 +61,8 @@ const NOT_REPORTED: [usize; 2] = [1, 2];
 const NOT_LISTED: [usize; 1] = [1];
 /// Those that the writer can give.
 const WRITTEN: RangeInclusive<usize> = 0..=11;
+/// Those that the planner can give.
+const PLANNED: [usize; 4] = [0, 12, 30, 31];
 /// How many different chains a run has at least, and how many that fit in different orders.
 const CHAINS: usize = 20_000;
 const REORDERED: u64 = 300;
@@ -136,7 +139,7 @@ impl Tally {
     /// chains, orders or step lists are too few.
     pub fn judge_coverage(&mut self) {
         for number in GIVEN.into_iter().flatten() {
-            let [chains, damage, reports, _, lists, texts] =
+            let [chains, damage, reports, _, lists, texts, _] =
                 self.numbers.map(|column| column[number]);
             self.cover(chains + damage > 0, || format!("no call of the entry expects {number}"));
             if !NOT_REPORTED.contains(&number) {
@@ -153,6 +156,10 @@ impl Tally {
         }
         for ((kind, least), met) in MET.into_iter().zip(self.met) {
             self.cover(met >= least, || format!("only {met} {kind}"));
+        }
+        for number in PLANNED {
+            let plans = self.numbers[Asked::Planner as usize][number];
+            self.cover(plans > 0, || format!("no plan expects {number}"));
         }
         let (chains, reordered) = (self.chains.len(), self.reordered);
         self.cover(chains >= CHAINS, || format!("only {chains} chains differ"));
@@ -194,14 +201,14 @@ impl Tally {
         for failure in &self.told {
             println!("{failure}");
         }
-        println!("number   entry on chains   entry on damage   reports   writer   steps   printed");
+        println!("number   entry on chains   entry on damage   reports   writer   steps   printed   plans");
         for number in 0..NUMBERS {
             let row = self.numbers.map(|column| column[number]);
-            let [chains, damage, reports, writes, lists, texts] = row;
+            let [chains, damage, reports, writes, lists, texts, plans] = row;
             if row.iter().sum::<u64>() > 0 {
                 println!(
                     "{number:6}   {chains:15}   {damage:15}   {reports:7}   {writes:6}   \
-                     {lists:5}   {texts:7}"
+                     {lists:5}   {texts:7}   {plans:5}"
                 );
             }
         }

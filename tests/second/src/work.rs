@@ -11,6 +11,7 @@ use crate::examples::EXAMPLES;
 use crate::file;
 use crate::generate::{self, FAMILIES};
 use crate::live::Reach;
+use crate::plan::{self, Plan};
 use crate::random::Random;
 use crate::tables::Tables;
 use crate::tally::{Asked, Case, Tally};
@@ -29,7 +30,8 @@ const ORDERED: u64 = 400;
 const DAMAGED: u64 = 2_000 * DAMAGES.len() as u64;
 const LENT: u64 = 500 * LENT_DAMAGES.len() as u64;
 const GROWN: u64 = 600;
-const UNITS: u64 = CHAINS + ORDERED + DAMAGED + LENT + GROWN;
+const PLANS: u64 = 120 * plan::COPIES;
+const UNITS: u64 = CHAINS + ORDERED + DAMAGED + LENT + GROWN + PLANS;
 
 /// How many orders each chain of the ordered part is given.
 const ORDERS: usize = 8;
@@ -77,8 +79,10 @@ fn worker(next: &AtomicU64, once_in: u64) -> Tally {
             one_damage(&mut tally, seed, place, with_report);
         } else if place < CHAINS + ORDERED + DAMAGED + LENT {
             one_writing(&mut tally, seed, place);
-        } else {
+        } else if place < UNITS - PLANS {
             one_grown(&mut tally, seed);
+        } else {
+            one_plan(&mut tally, seed, place);
         }
     }
 }
@@ -107,6 +111,14 @@ fn known_answers(tally: &mut Tally) {
         let case = Case { family, seed: 0 };
         compare::report_lines(tally, case, file, lines);
         compare_steps::text(tally, case, file, text);
+    }
+    for (line, printed) in plan::KNOWN {
+        let case = Case { family: "known plans", seed: 0 };
+        let words: Vec<String> = line.split(' ').map(str::to_string).collect();
+        tally.check(case, &[], Plan::of_words(&words).line() == format!("{printed}\n"), || {
+            format!("this implementation does not say {printed} of the plan {line}")
+        });
+        compare::plan(tally, case, &words);
     }
     let zeros = Case { family: "512 zero bytes", seed: 0 };
     compare::report_lines(tally, zeros, &[0; 512], &["refused 23 at 0"]);
@@ -249,6 +261,13 @@ fn one_grown(tally: &mut Tally, seed: u64) {
 fn list_length(random: &mut Random, n: usize) -> usize {
     let more = n + random.below(MOST_STATES);
     random.pick(&[n, n, more, more, n - 1, 0])
+}
+
+/// Every number of copies in turn, with weights and words of all kinds.
+fn one_plan(tally: &mut Tally, seed: u64, place: u64) {
+    let case = Case { family: "plans", seed };
+    let words = plan::words(&mut Random::new(seed), place % plan::COPIES);
+    compare::plan(tally, case, &words);
 }
 
 /// A file's own length, one byte less, none, or more.

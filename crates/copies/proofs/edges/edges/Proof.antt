@@ -17,7 +17,7 @@ losses-requires c κs =
     (r .few, r .loss-small, omega (arith, r .few))
 
 sub-rebuilds : tie.Need-sub-rebuilds
-sub-rebuilds c = in-range (c .before .before .before .before .before .before .pre .0) .some
+sub-rebuilds c = omega (arith, in-range (c .before .before .before .before .before .before .pre .0) .some)
 
 rebuilds-requires : tie.Need-rebuilds-requires
 rebuilds-requires c κs =
