@@ -1,8 +1,13 @@
 #!/usr/bin/env python3
-"""Writes the example chain files beside this script. Each run writes the same bytes."""
+"""Writes the example chain files beside this script. Each run writes the same bytes.
+
+With four numbers, COPIES LOSS REBUILD FINISH, it writes the chain file of that plan to standard
+output instead: the chain whose chance plancopies answers.
+"""
 
 from pathlib import Path
 import struct
+import sys
 
 BLOCK = 512
 RECORDS_IN_A_BLOCK = 63
@@ -121,7 +126,32 @@ def backup():
     return chain_file(rows, goals={3}, rewards={0: 4, 1: 7})
 
 
-if __name__ == "__main__":
+def copies(count=5, loss=3, rebuild=40, finish=500):
+    """A job that begins with so many copies. With k left a loss, which counts k times, leaves one
+    less; a rebuild adds one where some are missing; the finish ends the job well. State k means k
+    copies left, the last state the finished job.
+
+    The goal is 0, so that its chance is that of a job that ends with no copy. For the example's
+    numbers it has no fit; the bounds answer.
+    """
+    done = count + 1
+    rows = [{0: 1}]
+    for left in range(1, count + 1):
+        row = {left - 1: left * loss, done: finish}
+        if left < count:
+            row[left + 1] = rebuild
+        rows.append(row)
+    return chain_file(rows + [{done: 1}], goals={0}, start=count)
+
+
+def main():
+    if len(sys.argv) > 1:
+        sys.stdout.buffer.write(copies(*map(int, sys.argv[1:])))
+        return
     here = Path(__file__).resolve().parent
-    for make in (address, dice, long, gateway, backup):
+    for make in (address, dice, long, gateway, backup, copies):
         (here / f"{make.__name__}.chain").write_bytes(make())
+
+
+if __name__ == "__main__":
+    main()

@@ -6,7 +6,7 @@ pub type Example = (&'static str, &'static [u8], &'static [&'static str], &'stat
 
 const GATEWAY: &[u8] = include_bytes!("../../../examples/gateway.chain");
 
-pub const EXAMPLES: [Example; 5] = [
+pub const EXAMPLES: [Example; 6] = [
     (
         "address.chain",
         include_bytes!("../../../examples/address.chain"),
@@ -51,6 +51,15 @@ pub const EXAMPLES: [Example; 5] = [
         include_bytes!("../../../examples/backup.chain"),
         &["live 2", "chance 59/19265", "reward infinite"],
         "state 1 rows 1 columns 3 divisor 25\nchance 59/19265\n",
+    ),
+    (
+        "copies.chain",
+        include_bytes!("../../../examples/copies.chain"),
+        &["states 7", "edges 16", "live 5", "chance refused 12 at 4"],
+        "state 1 rows 1 columns 3 divisor 3\n\
+         state 2 rows 1 columns 3 divisor 1\n\
+         state 3 rows 1 columns 3 divisor 3\n\
+         chance refused 12 at 4\n",
     ),
 ];
 

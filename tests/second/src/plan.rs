@@ -106,7 +106,8 @@ const ODD: [&str; 12] = [
     "18446744073709551615",
 ];
 
-/// The words of a plan with so many copies. Small weights mostly answer; of all others few do.
+/// The words of a plan with so many copies. Few copies and small weights answer; the others mostly
+/// outgrow M.
 pub fn words(random: &mut Random, copies: u64) -> Vec<String> {
     let most = random.pick(&[2, 3, 10, 100, 1_000, MOST_WEIGHT as usize]);
     let mut words = vec![copies.to_string()];
