@@ -31,7 +31,7 @@ pub(crate) fn beyond(limit: u64, x: u64) -> bool
     false
 }
 
-// The least place of a wrong weight.
+// The least place of a wrong weight, or 3 where none is wrong.
 pub(crate) fn wrong(plan: Plan) -> u32
     ensures { λ r. ⌜ LeastWrong (toldPlan plan) r ⌝ }
 {

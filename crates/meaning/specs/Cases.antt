@@ -141,7 +141,7 @@ full = lend 64 (2 ^ 64 - 1) (replicate 64 1) (loops 0 64) []
 abbrev pub goalless : Lent
 goalless = lend 1 0 (1 ∷ []) (loops 0 1) []
 
--- One copy, loss 1, finish 3 (request 5): no state is rebuilt to, so any rebuild gives this chain.
+-- One copy, loss 1, finish 3 (request 5): nothing is missing that could be rebuilt, so that any rebuild gives this chain.
 abbrev pub oneCopy : Lent
 oneCopy = copiesLent (planOf 1 1 1 3)
 

@@ -86,6 +86,7 @@ copiesChain j =
 abbrev pub copiesOrder : Plan → List ℕ
 copiesOrder j = tabFrom 0 (copiesStates j) (λ i. i)
 
+-- What the entry for the chance is lent of it.
 abbrev pub copiesLent : Plan → Lent
 copiesLent j = ownWork (copiesChain j) (copiesOrder j) []
 
