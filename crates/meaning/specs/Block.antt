@@ -142,7 +142,7 @@ flagIn f i = byte f (stateAt i + flagByte)
 abbrev pub orderIn : Input → ℕ → ℕ
 orderIn f i = byte f (stateAt i + orderByte)
 
--- An edge's record: from (1), to (1), two zeros, weight (4).
+-- An edge's record: from (1), to (1), reward (2), weight (4). In version 1 two zeros stand where the reward does.
 abbrev pub edgeAt : Input → ℕ → ℕ
 edgeAt f e = recordAt (1 + stateBlocks f) e
 
@@ -152,12 +152,15 @@ fromIn f e = byte f (edgeAt f e)
 abbrev pub toIn : Input → ℕ → ℕ
 toIn f e = byte f (edgeAt f e + 1)
 
--- Where an edge's two zeros begin, and its weight after them.
-abbrev pub edgeZeros : ℕ
-edgeZeros = 2
+-- Where an edge's reward begins, and its weight after it.
+abbrev pub edgeRewardByte : ℕ
+edgeRewardByte = 2
 
 abbrev pub weightByte : ℕ
 weightByte = 4
 
 abbrev pub weightIn : Input → ℕ → ℕ
 weightIn f e = numberAt f (edgeAt f e + weightByte) 4
+
+abbrev pub edgeRewardIn : Input → ℕ → ℕ
+edgeRewardIn f e = numberAt f (edgeAt f e + edgeRewardByte) 2

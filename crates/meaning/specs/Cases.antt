@@ -3,7 +3,7 @@ use Prim.Native.Nat.{ℕ, zero, suc, _+_, _-_, _^_}
 use mathlib.Core.List.{List, [], _∷_, _++_}
 use lib.ListN.{length, replicate}
 use Rattle.meaning.specs.Number.{tabFrom, filled}
-use Rattle.meaning.specs.Chain.{M, edge}
+use Rattle.meaning.specs.Chain.{M, mostReward, edge, plainEdge}
 use Rattle.meaning.specs.Figure.{Chance}
 use Rattle.meaning.specs.Refusal.{Lent, workSize}
 use Rattle.meaning.specs.Block.{Input, blockSize}
@@ -66,8 +66,8 @@ abbrev pub address : ℕ → List ℕ → Lent
 address goals rewards =
     lend 7 goals
     (8 ∷ 5 ∷ 5 ∷ 5 ∷ 5 ∷ 1 ∷ 1 ∷ [])
-    (edge 0 5 7 ++ edge 0 1 1 ++ edge 1 0 4 ++ edge 1 2 1 ++ edge 2 0 4 ++ edge 2 3 1
-    ++ edge 3 0 4 ++ edge 3 4 1 ++ edge 4 0 4 ++ edge 4 6 1 ++ edge 5 5 1 ++ edge 6 6 1)
+    (plainEdge 0 5 7 ++ plainEdge 0 1 1 ++ plainEdge 1 0 4 ++ plainEdge 1 2 1 ++ plainEdge 2 0 4 ++ plainEdge 2 3 1
+    ++ plainEdge 3 0 4 ++ plainEdge 3 4 1 ++ plainEdge 4 0 4 ++ plainEdge 4 6 1 ++ plainEdge 5 5 1 ++ plainEdge 6 6 1)
     rewards
 
 abbrev pub okay : Lent
@@ -84,15 +84,15 @@ done = address (2 ^ 5 + 2 ^ 6) (1 ∷ 0 ∷ 0 ∷ 0 ∷ 0 ∷ 0 ∷ 0 ∷ [])
 
 -- 0 to 0, to the goal 1 and to the trap 2.
 abbrev pub loop : Lent
-loop = lend 3 (2 ^ 1) (3 ∷ 1 ∷ 1 ∷ []) (edge 0 0 1 ++ edge 0 1 1 ++ edge 0 2 1 ++ edge 1 1 1 ++ edge 2 2 1) []
+loop = lend 3 (2 ^ 1) (3 ∷ 1 ∷ 1 ∷ []) (plainEdge 0 0 1 ++ plainEdge 0 1 1 ++ plainEdge 0 2 1 ++ plainEdge 1 1 1 ++ plainEdge 2 2 1) []
 
 -- 0 to 1; 1 to 1 and to the goal 2.
 abbrev pub wait : Lent
-wait = lend 3 (2 ^ 2) (1 ∷ 2 ∷ 1 ∷ []) (edge 0 1 1 ++ edge 1 1 1 ++ edge 1 2 1 ++ edge 2 2 1) (1 ∷ 1 ∷ 0 ∷ [])
+wait = lend 3 (2 ^ 2) (1 ∷ 2 ∷ 1 ∷ []) (plainEdge 0 1 1 ++ plainEdge 1 1 1 ++ plainEdge 1 2 1 ++ plainEdge 2 2 1) (1 ∷ 1 ∷ 0 ∷ [])
 
 -- 0 to 1 and to the goal 3; 1 to 2; 2 to 1. Without rewards and with them.
 abbrev pub astray : List ℕ → Lent
-astray rewards = lend 4 (2 ^ 3) (2 ∷ 1 ∷ 1 ∷ 1 ∷ []) (edge 0 1 1 ++ edge 0 3 1 ++ edge 1 2 1 ++ edge 2 1 1 ++ edge 3 3 1) rewards
+astray rewards = lend 4 (2 ^ 3) (2 ∷ 1 ∷ 1 ∷ 1 ∷ []) (plainEdge 0 1 1 ++ plainEdge 0 3 1 ++ plainEdge 1 2 1 ++ plainEdge 2 1 1 ++ plainEdge 3 3 1) rewards
 
 abbrev pub unrewarded : Lent
 unrewarded = astray []
@@ -102,37 +102,45 @@ endless = astray (0 ∷ 1 ∷ 1 ∷ 0 ∷ [])
 
 -- 0 to the goal 1, which has an edge back.
 abbrev pub back : Lent
-back = lend 2 (2 ^ 1) (1 ∷ 1 ∷ []) (edge 0 1 1 ++ edge 1 0 1) []
+back = lend 2 (2 ^ 1) (1 ∷ 1 ∷ []) (plainEdge 0 1 1 ++ plainEdge 1 0 1) []
 
 -- 0 to 1, and to the trap 3 with M - 1; 1 to the goal 2, and to the trap with 2.
 abbrev pub rare : Lent
 rare =
     lend 4 (2 ^ 2) (M ∷ 3 ∷ 1 ∷ 1 ∷ [])
-    (edge 0 1 1 ++ edge 0 3 (M - 1) ++ edge 1 2 1 ++ edge 1 3 2 ++ edge 2 2 1 ++ edge 3 3 1) []
+    (plainEdge 0 1 1 ++ plainEdge 0 3 (M - 1) ++ plainEdge 1 2 1 ++ plainEdge 1 3 2 ++ plainEdge 2 2 1 ++ plainEdge 3 3 1) []
 
 -- 0 to the goal 1, and to the trap 2 with M - 1.
 abbrev pub slim : ℕ → Lent
-slim denominator = lend 3 (2 ^ 1) (denominator ∷ 1 ∷ 1 ∷ []) (edge 0 1 1 ++ edge 0 2 (M - 1) ++ edge 1 1 1 ++ edge 2 2 1) []
+slim denominator = lend 3 (2 ^ 1) (denominator ∷ 1 ∷ 1 ∷ []) (plainEdge 0 1 1 ++ plainEdge 0 2 (M - 1) ++ plainEdge 1 1 1 ++ plainEdge 2 2 1) []
 
 -- The loops of the n states from i on.
 abbrev pub loops : ℕ → ℕ → List ℕ
 loops i zero = []
-loops i (suc n) = edge i i 1 ++ loops (suc i) n
+loops i (suc n) = plainEdge i i 1 ++ loops (suc i) n
 
 -- The dice: 0 to 6 toss a coin, 7 to 12 are the faces, and the first of them is the goal.
 abbrev pub dice : Lent
 dice =
     lend 13 (2 ^ 7)
     (replicate 7 2 ++ replicate 6 1)
-    (edge 0 1 1 ++ edge 0 2 1 ++ edge 1 3 1 ++ edge 1 4 1 ++ edge 2 5 1 ++ edge 2 6 1 ++ edge 3 1 1
-    ++ edge 3 7 1 ++ edge 4 8 1 ++ edge 4 9 1 ++ edge 5 10 1 ++ edge 5 11 1 ++ edge 6 2 1 ++ edge 6 12 1 ++ loops 7 6)
+    (plainEdge 0 1 1 ++ plainEdge 0 2 1 ++ plainEdge 1 3 1 ++ plainEdge 1 4 1 ++ plainEdge 2 5 1 ++ plainEdge 2 6 1 ++ plainEdge 3 1 1
+    ++ plainEdge 3 7 1 ++ plainEdge 4 8 1 ++ plainEdge 4 9 1 ++ plainEdge 5 10 1 ++ plainEdge 5 11 1 ++ plainEdge 6 2 1 ++ plainEdge 6 12 1 ++ loops 7 6)
     []
 
 -- 0 to 1 and 2; 1 to 0, to the goal 3 and to the trap 4; 2 to the goal, and to the trap with M - 1.
 abbrev pub grown : Lent
 grown =
     lend 5 (2 ^ 3) (2 ∷ 3 ∷ M ∷ 1 ∷ 1 ∷ [])
-    (edge 0 1 1 ++ edge 0 2 1 ++ edge 1 0 1 ++ edge 1 3 1 ++ edge 1 4 1 ++ edge 2 3 1 ++ edge 2 4 (M - 1) ++ loops 3 2) []
+    (plainEdge 0 1 1 ++ plainEdge 0 2 1 ++ plainEdge 1 0 1 ++ plainEdge 1 3 1 ++ plainEdge 1 4 1 ++ plainEdge 2 3 1 ++ plainEdge 2 4 (M - 1) ++ loops 3 2) []
+
+-- 0 to 0 with the reward 3, and to the goal 1 with the reward `won`; the goal's loop has the reward `after`.
+abbrev pub retry : ℕ → ℕ → List ℕ → Lent
+retry won after rewards = lend 2 (2 ^ 1) (2 ∷ 1 ∷ []) (edge 0 0 1 3 ++ edge 0 1 1 won ++ edge 1 1 1 after) rewards
+
+-- 0 to the goal 1 with the greatest reward, and to the trap 2.
+abbrev pub dear : Lent
+dear = lend 3 (2 ^ 1) (80001 ∷ 1 ∷ 1 ∷ []) (edge 0 1 40000 mostReward ++ plainEdge 0 2 40001 ++ loops 1 2) []
 
 -- 64 states that loop, all of them goals; and one state that loops, and no goal.
 abbrev pub full : Lent
@@ -167,6 +175,11 @@ cases =
     ∷ chance (slim 2147483648) (refusal 5 0) (slim 2147483648 .work)
     ∷ chance goalless (refusal 4 0) (goalless .work)
     ∷ chance full (fraction 1 1) (cleared full)
+    ∷ reward (retry 5 0 (0 ∷ 0 ∷ [])) (fraction 8 1) (cleared (retry 5 0 (0 ∷ 0 ∷ [])))
+    ∷ reward (retry 5 7 (0 ∷ 0 ∷ [])) (fraction 8 1) (cleared (retry 5 7 (0 ∷ 0 ∷ [])))
+    ∷ reward (retry 5 7 (1 ∷ 0 ∷ [])) (fraction 10 1) (cleared (retry 5 7 (1 ∷ 0 ∷ [])))
+    ∷ reward (retry 65536 0 (0 ∷ 0 ∷ [])) (refusal 11 65) (retry 65536 0 (0 ∷ 0 ∷ []) .work)
+    ∷ chance dear (fraction 40000 80001) (cleared dear)
     ∷ steps (lendList okay) (fraction 4375 4376) (cleared okay) (step 1 1 2 1 ∷ step 2 1 2 1 ∷ step 3 1 2 1 ∷ step 4 1 2 1 ∷ [])
     ∷ steps (lendList either) (fraction 1 1) (cleared either) (step 1 1 2 1 ∷ step 2 1 2 1 ∷ step 3 1 2 1 ∷ step 4 1 2 8 ∷ [])
     ∷ steps (lendList dice) (fraction 1 6) (cleared dice) (step 1 2 2 1 ∷ step 3 1 2 2 ∷ [])

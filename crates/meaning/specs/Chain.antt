@@ -18,7 +18,7 @@ mostEdges = 4096
 abbrev pub M : ℕ
 M = 2147483647
 
--- The greatest reward of a state.
+-- The greatest reward of a state, and of an edge.
 abbrev pub mostReward : ℕ
 mostReward = 65535
 
@@ -34,12 +34,16 @@ pub record Chain : Type 0 where
 abbrev pub denominator : Chain → ℕ → ℕ
 denominator c i = getD (c .denominators) i 0
 
--- An edge is three numbers in a row: from, to, weight.
+-- An edge is four numbers in a row: from, to, weight, reward.
 abbrev pub edgeSize : ℕ
-edgeSize = 3
+edgeSize = 4
 
-abbrev pub edge : ℕ → ℕ → ℕ → List ℕ
-edge source target weight = source ∷ target ∷ weight ∷ []
+abbrev pub edge : ℕ → ℕ → ℕ → ℕ → List ℕ
+edge source target weight reward = source ∷ target ∷ weight ∷ reward ∷ []
+
+-- An edge with no reward.
+abbrev pub plainEdge : ℕ → ℕ → ℕ → List ℕ
+plainEdge source target weight = edge source target weight 0
 
 -- Number j of the list of edges whose edge e is edges e.
 abbrev pub edgeNumber : (ℕ → List ℕ) → ℕ → ℕ
@@ -58,6 +62,9 @@ to edges e = getD edges (edgeSize * e + 1) 0
 abbrev pub weight : List ℕ → ℕ → ℕ
 weight edges e = getD edges (edgeSize * e + 2) 0
 
+abbrev pub edgeReward : List ℕ → ℕ → ℕ
+edgeReward edges e = getD edges (edgeSize * e + 3) 0
+
 -- What edge e carries from i: where e leaves i its weight times what f says of the target, else 0.
 unfoldable pub carried : List ℕ → ℕ → (ℕ → ℕ) → ℕ → ℕ
 carried edges i f e = only (eqb (from edges e) i) (weight edges e * f (to edges e))
@@ -73,6 +80,10 @@ along c i f = flow (c .edges) i f
 -- The sum of the weights of the edges that leave i.
 abbrev pub rowSum : List ℕ → ℕ → ℕ
 rowSum edges i = flow edges i (λ _. 1)
+
+-- The sum, over the edges that leave i, of weight times the edge's reward.
+unfoldable pub edgeRewards : List ℕ → ℕ → ℕ
+edgeRewards edges i = sumTo (λ e. only (eqb (from edges e) i) (weight edges e * edgeReward edges e)) (edgeCount edges)
 
 -- State i is a goal: bit i of the goal set.
 abbrev pub Goal : Chain → ℕ → Type 0

@@ -2,7 +2,7 @@
 use Prim.Native.Nat.{ℕ, _+_, _*_, _<_}
 use mathlib.Core.Path.{_≡_}
 use Rattle.meaning.specs.Number.{Lowest}
-use Rattle.meaning.specs.Chain.{Chain, denominator, along, Goal, ToGoal, FromStart}
+use Rattle.meaning.specs.Chain.{Chain, denominator, along, edgeRewards, Goal, ToGoal, FromStart}
 
 -- The chance at each state, x i over d: 1 on goals; 0 on states with no path to a goal; elsewhere denominator times x of the state equals
 -- the sum of weight times x of the target.
@@ -21,9 +21,10 @@ pub record Chance (c : Chain) (p q : ℕ) : Type 0 where
 abbrev pub Missed : Chain → Type 0
 Missed c = (i : ℕ) × FromStart c i × (ToGoal c i → ⊥)
 
--- What one turn in state i earns, times its denominator; r i is the state's reward.
+-- What one turn in state i earns, times its denominator: the state's reward r i times the denominator, plus the sum of weight times reward
+-- of the edges that leave it.
 abbrev pub earned : Chain → (ℕ → ℕ) → ℕ → ℕ
-earned c r i = r i * denominator c i
+earned c r i = r i * denominator c i + edgeRewards (c .edges) i
 
 -- The expected reward at each state that is reached from the start without passing a goal, y i over d: 0 on goals; elsewhere denominator
 -- times y equals what a turn earns, times its denominator, as pay says, plus the sum of weight times y of the target.

@@ -43,9 +43,10 @@ use Rattle.meaning.specs.Block.{
   orderIn,
   fromIn,
   toIn,
-  edgeZeros,
+  edgeRewardByte,
   weightByte,
   weightIn,
+  edgeRewardIn,
 }
 
 -- 20: the file is empty, or no multiple of 512.
@@ -100,9 +101,9 @@ HeadFault f =
 abbrev pub FlagFault : Input → ℕ → ℕ → Type 0
 FlagFault f at count = (r : ℕ) × ((r < count) × (1 < byte f (at + recordSize * r + flagByte)))
 
--- Of so many edges' records from byte `at` on, one has a reserved byte that is not 0.
+-- Of so many edges' records of version 1 from byte `at` on, one has a reserved byte that is not 0.
 abbrev pub ReservedFault : Input → ℕ → ℕ → Type 0
-ReservedFault f at count = (r : ℕ) × ((r < count) × NonZero f (at + recordSize * r + edgeZeros) (at + recordSize * r + weightByte))
+ReservedFault f at count = (r : ℕ) × ((r < count) × NonZero f (at + recordSize * r + edgeRewardByte) (at + recordSize * r + weightByte))
 
 -- 24: count, flag or reserved byte wrong; in the head also n or edges. The bytes after the last record are reserved too.
 pub data ContentFault (f : Input) (b : ℕ) : Type 0 where
@@ -110,7 +111,7 @@ pub data ContentFault (f : Input) (b : ℕ) : Type 0 where
   rest-wrong : NonZero f (recordsAt b + recordSize * countOf f b) (checkAt b) → ContentFault f b
   record-wrong : kindOf f b ≡ 1 → HeadFault f → ContentFault f b
   flag-wrong : kindOf f b ≡ 2 → FlagFault f (recordsAt b) (countOf f b) → ContentFault f b
-  reserved-wrong : kindOf f b ≡ 3 → ReservedFault f (recordsAt b) (countOf f b) → ContentFault f b
+  reserved-wrong : kindOf f b ≡ 3 → versionIn f b ≡ firstVersion → ReservedFault f (recordsAt b) (countOf f b) → ContentFault f b
 
 -- Block b is refused: 21, 22, 23 and 24 are tested in turn.
 pub data BlockRefused (f : Input) (b : ℕ) : ℕ → Type 0 where
@@ -154,7 +155,7 @@ abbrev pub ordersIn : Input → List ℕ
 ordersIn f = tabFrom 0 (headStates f) (orderIn f)
 
 abbrev pub edgeIn : Input → ℕ → List ℕ
-edgeIn f e = edge (fromIn f e) (toIn f e) (weightIn f e)
+edgeIn f e = edge (fromIn f e) (toIn f e) (weightIn f e) (edgeRewardIn f e)
 
 abbrev pub edgesIn : Input → List ℕ
 edgesIn f = tabFrom 0 (edgeSize * headEdges f) (edgeNumber (edgeIn f))

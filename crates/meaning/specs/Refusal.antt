@@ -1,5 +1,5 @@
 -- The numbers of refusal 1 to 11: when each is given, and at which place.
-use Prim.Native.Nat.{ℕ, _*_, _/_, _%_, _^_, _≤_, _<_}
+use Prim.Native.Nat.{ℕ, _+_, _*_, _/_, _%_, _^_, _≤_, _<_}
 use mathlib.Core.Path.{_≡_}
 use mathlib.Core.Logic.{_⊎_}
 use mathlib.Core.Bool.{Bool, true, false}
@@ -17,6 +17,7 @@ use Rattle.meaning.specs.Chain.{
   from,
   to,
   weight,
+  edgeReward,
   rowSum,
 }
 use Rattle.meaning.specs.Row.{width}
@@ -128,9 +129,10 @@ Earlier order p = (o : ℕ) × ((o < p) × (getD order o 0 ≡ getD order p 0))
 abbrev pub OrderFault : ℕ → List ℕ → ℕ → Type 0
 OrderFault n order p = (p < n) × ((n ≤ getD order p 0) ⊎ Earlier order p)
 
--- 11: the reward of state i is above 65,535.
-abbrev pub RewardFault : ℕ → List ℕ → ℕ → Type 0
-RewardFault n rewards i = (i < n) × (mostReward < getD rewards i 0)
+-- 11: the reward of state i is above 65,535, at place i; or that of edge e, at place 64 + e.
+pub data RewardFault (n : ℕ) (rewards edges : List ℕ) : ℕ → Type 0 where
+  of-state : (i : ℕ) → i < n → mostReward < getD rewards i 0 → RewardFault n rewards edges i
+  of-edge : (e : ℕ) → e < edgeCount edges → mostReward < edgeReward edges e → RewardFault n rewards edges (mostStates + e)
 
 -- A fault of the whole has place 0.
 abbrev pub whole : Type 0 → ℕ → Type 0
@@ -161,7 +163,7 @@ faults x l =
     ∷ PairFault (c .edges)
     ∷ SumFault (c .states) (c .denominators) (c .edges)
     ∷ lentFault (x .order) (OrderFault (c .states) (l .order))
-    ∷ lentFault (x .rewards) (RewardFault (c .states) (l .rewards))
+    ∷ lentFault (x .rewards) (RewardFault (c .states) (l .rewards) (c .edges))
     ∷ []
 
 -- Number k applies at place p.
