@@ -6,19 +6,19 @@ use Rattle.meaning.specs.Chain.{Chain, Live}
 use Rattle.meaning.specs.Figure.{Chance}
 use Rattle.meaning.specs.Row.{exact}
 use Rattle.meaning.specs.Step.{row, Sets, Right, outside, RoundedAt}
-use Rattle.meaning.specs.Refusal.{Lent, Entry, plain}
+use Rattle.meaning.specs.Refusal.{Lent, plain}
 use Rattle.meaning.specs.Stop.{earns, turn, tableAt, NoFit}
 use Rattle.meaning.specs.Outcome.{Bounds}
 
 -- In the exact engine a kept row in lowest terms does not fit, after some of the positions of the order. With the start a goal or not live
 -- no row is made.
-pub record NoFitAnywhere (x : Entry) (l : Lent) : Type 0 where
+pub record NoFitAnywhere (pay : ℕ → ℕ) (l : Lent) : Type 0 where
   pub sets : Sets
   pub right : Right (l .chain) sets
   pub alive : Live (l .chain) (l .chain .start)
   pub position : ℕ
   pub inside : position ≤ l .chain .states
-  pub large : NoFit x exact l sets position
+  pub large : NoFit pay exact l sets position
 
 -- p over q is at most s over t, by cross products.
 abbrev pub AtMost : ℕ → ℕ → ℕ → ℕ → Type 0
@@ -40,13 +40,13 @@ abbrev pub Unrounded : Lent → Type 0
 Unrounded l = (k : Sets) → Right (l .chain) k → (p : ℕ) → p ≤ l .chain .states → RoundedAt (l .chain) k (earns plain l) (l .order) p → ⊥
 
 -- A live state has, at its turn, weight outside its own loop: D is above 0.
-abbrev pub OutsideAtTurn : Entry → Bool → Lent → Type 0
-OutsideAtTurn x b l =
+abbrev pub OutsideAtTurn : (ℕ → ℕ) → Bool → Lent → Type 0
+OutsideAtTurn pay b l =
     (k : Sets) → Right (l .chain) k → (p : ℕ) → p < l .chain .states → Live (l .chain) (turn l p)
-    → 0 < outside (l .chain .states) (turn l p) (row (tableAt x b l k p) (turn l p))
+    → 0 < outside (l .chain .states) (turn l p) (row (tableAt pay b l k p) (turn l p))
 
 -- So has a live start at the end.
-abbrev pub OutsideAtEnd : Entry → Bool → Lent → Type 0
-OutsideAtEnd x b l =
+abbrev pub OutsideAtEnd : (ℕ → ℕ) → Bool → Lent → Type 0
+OutsideAtEnd pay b l =
     let c = l .chain in (k : Sets) → Right c k → Live c (c .start)
-    → 0 < outside (c .states) (c .start) (row (tableAt x b l k (c .states)) (c .start))
+    → 0 < outside (c .states) (c .start) (row (tableAt pay b l k (c .states)) (c .start))

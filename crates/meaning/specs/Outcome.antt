@@ -50,7 +50,7 @@ pub data ChanceFigure (l : Lent) (a : Answer) : Type 0 where
 
 -- The entry for the chance: 12 stops the exact engine.
 abbrev pub ChanceOutcome : Lent → Answer → List ℕ → Type 0
-ChanceOutcome l = Outcome plain l refusal (Stopped plain exact l) (ChanceFigure l)
+ChanceOutcome l = Outcome plain l refusal (Stopped (earns plain l) exact l) (ChanceFigure l)
 
 -- The expected reward, or infinite exactly where the goal may be missed.
 pub data RewardFigure (l : Lent) (a : Answer) : Type 0 where
@@ -59,7 +59,7 @@ pub data RewardFigure (l : Lent) (a : Answer) : Type 0 where
 
 -- 12 stops the exact engine where the reward is not infinite.
 abbrev pub RewardStop : Lent → ℕ → ℕ → Type 0
-RewardStop l number place = (Missed (l .chain) → ⊥) × Stopped paid exact l number place
+RewardStop l number place = (Missed (l .chain) → ⊥) × Stopped (earns paid l) exact l number place
 
 -- The entry for the expected reward.
 abbrev pub RewardOutcome : Lent → Answer → List ℕ → Type 0
@@ -100,7 +100,7 @@ between p q s t =
 
 -- The start's row once every position of the order has had its turn.
 abbrev pub lastRow : Lent → Sets → Row
-lastRow l k = row (tableAt plain rounding l k (l .chain .states)) (l .chain .start)
+lastRow l k = row (tableAt (earns plain l) rounding l k (l .chain .states)) (l .chain .start)
 
 -- The bounds: both 1/1 where the start is a goal, both 0/1 where it has no path to one; else Goal / D and (Goal + Unknown) / D, with D of
 -- the start's row at the end, each put in lowest terms.

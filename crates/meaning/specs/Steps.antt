@@ -9,8 +9,8 @@ use Rattle.meaning.specs.Number.{sumTo, choose, present, largest, filled
 use Rattle.meaning.specs.Chain.{mostStates}
 use Rattle.meaning.specs.Row.{Row, cell, divisor, exact}
 use Rattle.meaning.specs.Step.{Table, row, Sets, Right, outside, combined, goes}
-use Rattle.meaning.specs.Refusal.{Lent, plain, listing, Refused, WellFormed}
-use Rattle.meaning.specs.Stop.{turn, tableAt, Stopped}
+use Rattle.meaning.specs.Refusal.{Lent, listing, Refused, WellFormed}
+use Rattle.meaning.specs.Stop.{earns, turn, tableAt, Stopped}
 use Rattle.meaning.specs.Outcome.{Outcome, Answer, refusal, ChanceFigure}
 
 -- A record: the state; how many other kept rows had a weight to it; how many columns its row had a weight in; the largest divisor taken
@@ -51,7 +51,7 @@ recordsAlong n go o t (suc p) =
 
 -- The records of the first p positions of the order that is lent.
 abbrev pub recordsTo : Lent → Sets → ℕ → List StepRecord
-recordsTo l k p = recordsAlong (l .chain .states) (goes (l .chain .start) (k .live)) (turn l) (tableAt plain exact l k) p
+recordsTo l k p = recordsAlong (l .chain .states) (goes (l .chain .start) (k .live)) (turn l) (tableAt (earns listing l) exact l k) p
 
 -- How many positions of the order have a finished step: all where there is an answer, those before the position that 12 names, none where
 -- 12 comes before the first step.
@@ -69,5 +69,5 @@ pub data Listed (l : Lent) (a : Answer) (before : List StepRecord) (count : ℕ)
 
 -- The companion answers and refuses as the entry for the chance does, and also by 2 for the list.
 pub record StepsOutcome (l : Lent) (before : List StepRecord) (a : Answer) (count : ℕ) (work : List ℕ) (after : List StepRecord) : Type 0 where
-  pub outcome : Outcome listing l refusal (Stopped plain exact l) (ChanceFigure l) a work
+  pub outcome : Outcome listing l refusal (Stopped (earns listing l) exact l) (ChanceFigure l) a work
   pub list : Listed l a before count after

@@ -23,9 +23,9 @@ earns x l i = only (x .rewards) (earned (l .chain) (rewardOf l) i)
 abbrev pub turn : Lent → ℕ → ℕ
 turn l p = getD (l .order) p 0
 
--- The table after the first p positions of the order.
-abbrev pub tableAt : Entry → Bool → Lent → Sets → ℕ → Table
-tableAt x b l k p = stage b (l .chain) k (earns x l) (l .order) p
+-- The table after the first p positions of the order, where a turn earns what pay says.
+abbrev pub tableAt : (ℕ → ℕ) → Bool → Lent → Sets → ℕ → Table
+tableAt pay b l k p = stage b (l .chain) k pay (l .order) p
 
 -- A row has a total above M, or a Reward above M.
 abbrev pub Large : ℕ → Row → Type 0
@@ -36,21 +36,21 @@ abbrev pub Unfit : Bool → ℕ → Table → Type 0
 Unfit b n t = (b ≡ exact) × ((i : ℕ) × ((i < n) × Large n (row t i)))
 
 -- After the first p positions of the order a row does not fit.
-abbrev pub NoFit : Entry → Bool → Lent → Sets → ℕ → Type 0
-NoFit x b l k p = Unfit b (l .chain .states) (tableAt x b l k p)
+abbrev pub NoFit : (ℕ → ℕ) → Bool → Lent → Sets → ℕ → Type 0
+NoFit pay b l k p = Unfit b (l .chain .states) (tableAt pay b l k p)
 
 -- Nothing stopped the elimination up to the first p positions.
-abbrev pub Passed : Entry → Bool → Lent → Sets → ℕ → Type 0
-Passed x b l k p = (q : ℕ) → q ≤ p → NoFit x b l k q → ⊥
+abbrev pub Passed : (ℕ → ℕ) → Bool → Lent → Sets → ℕ → Type 0
+Passed pay b l k p = (q : ℕ) → q ≤ p → NoFit pay b l k q → ⊥
 
 -- What stops the elimination first: 12 where a row does not fit, at the position of the step, or at 64 before the first step.
-pub data Stops (x : Entry) (b : Bool) (l : Lent) (k : Sets) : ℕ → ℕ → Type 0 where
-  before-steps : NoFit x b l k 0 → Stops x b l k 12 mostStates
-  in-step : (p : ℕ) → p < l .chain .states → Passed x b l k p → NoFit x b l k (suc p) → Stops x b l k 12 p
+pub data Stops (pay : ℕ → ℕ) (b : Bool) (l : Lent) (k : Sets) : ℕ → ℕ → Type 0 where
+  before-steps : NoFit pay b l k 0 → Stops pay b l k 12 mostStates
+  in-step : (p : ℕ) → p < l .chain .states → Passed pay b l k p → NoFit pay b l k (suc p) → Stops pay b l k 12 p
 
 -- What stops an engine, with the chain's own sets. With the start a goal or not live no row is made, and nothing stops.
-pub record Stopped (x : Entry) (b : Bool) (l : Lent) (number place : ℕ) : Type 0 where
+pub record Stopped (pay : ℕ → ℕ) (b : Bool) (l : Lent) (number place : ℕ) : Type 0 where
   pub sets : Sets
   pub right : Right (l .chain) sets
   pub alive : Live (l .chain) (l .chain .start)
-  pub stops : Stops x b l sets number place
+  pub stops : Stops pay b l sets number place

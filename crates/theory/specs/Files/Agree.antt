@@ -2,6 +2,7 @@
 use Prim.Native.Nat.{ℕ, suc, _+_, _*_, _-_, _%_, _^_, _≤_, _<_, min}
 use mathlib.Core.Path.{_≡_, sym, ap, ap₂, subst, _∙_}
 use mathlib.Core.Logic.{_⊎_, ⊎-elim, inl, inr}
+use native.Mathlib.Nat.{zero-mul}
 use native.Mathlib.Omega.{arith}
 use lib.Dec.{eqb, leb}
 use Rattle.meaning.specs.Number.{choose}
@@ -22,6 +23,7 @@ use Rattle.meaning.specs.Block.{
   fullBlock,
   firstSum,
   secondSum,
+  firstVersion,
   versionIn,
   checkModulus,
   checkBegin,
@@ -42,7 +44,7 @@ use Rattle.meaning.specs.File.{
   ContentFault,
   BlockRight,
 }
-use Rattle.theory.specs.Numbers.Sum.{same, sum-ext}
+use Rattle.theory.specs.Numbers.Sum.{same, sum-ext, sum-zero}
 use Rattle.theory.specs.Files.Sums.{first-like, second-like}
 use Rattle.theory.specs.Files.Turn.{count-most}
 use Rattle.theory.specs.Files.Right.{right, right-laid, unchecked, unplaced, unkind, content-right}
@@ -53,6 +55,10 @@ Agree f g b = (i : ℕ) → blockAt b ≤ i → i < blockAt (suc b) → (i ≡ v
 
 pub number-agree : (f g : Input) (j width : ℕ) → ((i : ℕ) → j ≤ i → i < j + width → byte f i ≡ byte g i) → numberAt f j width ≡ numberAt g j width
 number-agree f g j width h = sum-ext _ _ width (λ i l. ap (λ z. z * 256 ^ i) (h (j + i) (omega arith) (omega arith)))
+
+-- A number whose bytes are all zero.
+pub number-zero : (f : Input) (j width : ℕ) → ((i : ℕ) → j ≤ i → i < j + width → byte f i ≡ 0) → numberAt f j width ≡ 0
+number-zero f j width h = sum-zero _ width (λ i l. ap (λ z. z * 256 ^ i) (h (j + i) (omega arith) (omega arith)) ∙ zero-mul (256 ^ i))
 
 nonzero-agree : (f g : Input) {low high : ℕ} → ((i : ℕ) → low ≤ i → i < high → byte f i ≡ byte g i) → NonZero g low high → NonZero f low high
 nonzero-agree f g h w = (w .0, (w .1 .0, (w .1 .1 .0, λ z. w .1 .1 .1 (sym (h (w .0) (w .1 .0) (w .1 .1 .0)) ∙ z))))
@@ -119,14 +125,15 @@ module _ (f g : Input) (b : ℕ) (head : Agree f g 0) (own : Agree f g b) where
       (⊎-elim (λ w. inr (inl (subst (λ n. (n ≡ 0) ⊎ (mostEdges < n)) (sym (edges-agree f g head)) w)))
       (λ w. inr (inr (nonzero-agree f g (λ i l h. head i (omega arith) (omega arith) (λ e. omega arith)) w))))
 
-  pub content-agree : ContentFault g b → ContentFault f b
-  content-agree (ContentFault.count-wrong d) =
+  -- What stands in it, where an edge block's version is the same too.
+  pub content-agree : (kindOf g b ≡ 3 → versionIn g b ≡ firstVersion → versionIn f b ≡ firstVersion) → ContentFault g b → ContentFault f b
+  content-agree v (ContentFault.count-wrong d) =
       let e = number-agree f g (countAt b) 2 (λ i l h. own i (omega arith) (omega arith) (λ e. omega arith)) in
       ContentFault.count-wrong (λ q. d (sym e ∙ q ∙ counts-agree f g head b))
-  content-agree (ContentFault.rest-wrong w) =
+  content-agree v (ContentFault.rest-wrong w) =
       ContentFault.rest-wrong (rw (counts-agree f g head b) (nonzero-agree f g (λ i l h. inner i (omega arith) h) w))
-  content-agree (ContentFault.record-wrong k w) = ContentFault.record-wrong (kinds-agree f g head b ∙ k) (head-agree w)
-  content-agree (ContentFault.flag-wrong k w) =
+  content-agree v (ContentFault.record-wrong k w) = ContentFault.record-wrong (kinds-agree f g head b ∙ k) (head-agree w)
+  content-agree v (ContentFault.flag-wrong k w) =
       let c = count-most g b in
       ContentFault.flag-wrong (kinds-agree f g head b ∙ k) (
         w .0,
@@ -135,10 +142,10 @@ module _ (f g : Input) (b : ℕ) (head : Agree f g 0) (own : Agree f g b) where
           rw (inner (recordsAt b + recordSize * w .0 + flagByte) (omega arith) (omega (arith, w .1 .0))) (w .1 .1),
         ),
       )
-  content-agree (ContentFault.reserved-wrong k w) =
+  content-agree v (ContentFault.reserved-wrong k o w) =
       let c = count-most g b in
       let l = w .1 .0 in
-      ContentFault.reserved-wrong (kinds-agree f g head b ∙ k)
+      ContentFault.reserved-wrong (kinds-agree f g head b ∙ k) (v k o)
       (w .0, (omega (arith, counts-agree f g head b), nonzero-agree f g (λ i m h. inner i (omega arith) (omega arith)) (w .1 .1)))
 
   -- The whole block, where both versions are the same too.
@@ -147,4 +154,4 @@ module _ (f g : Input) (b : ℕ) (head : Agree f g 0) (own : Agree f g b) where
       let l = right-laid r in
       right g b (λ w. unchecked r (check-agree e w)) (λ w. unplaced r (place-agree w))
       (⊎-elim (λ d. d (kind-agree (l .kind))) (λ w. unkind r (inr (rw (e, z) w))))
-      (λ w. content-right r (content-agree w))
+      (λ w. content-right r (content-agree (λ _ o. e ∙ o) w))

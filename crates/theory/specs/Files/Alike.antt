@@ -1,5 +1,5 @@
 -- Two files of one version that are accepted and read as one chain with one order and the same rewards are equal, byte for byte.
-use Prim.Native.Nat.{ℕ, zero, suc, _+_, _*_, _-_, _/_, _%_, _^_, _≤_, _<_, min}
+use Prim.Native.Nat.{ℕ, _+_, _*_, _-_, _/_, _%_, _^_, _≤_, _<_, min}
 use mathlib.Core.Path.{_≡_, refl, sym, ap, ap₂, _∙_}
 use mathlib.Core.Logic.{⊎-elim, inr}
 use mathlib.Core.List.{List}
@@ -40,7 +40,7 @@ use Rattle.meaning.specs.Block.{
   flagIn,
   orderByte,
   orderIn,
-  edgeZeros,
+  edgeRewardByte,
   weightByte,
 }
 use Rattle.meaning.specs.File.{kindOf, countOf, Accepted, edgeIn, chainIn, ordersIn, rewardsIn}
@@ -157,19 +157,22 @@ module _ (a b : List ℕ) (bytes : Bytes a) (bytes′ : Bytes b) (taken : Accept
 
     -- An edge's record.
     edge-bytes : (e p k : ℕ) → e < headEdges f → edgeAt f e ≡ p
-        → ((j : ℕ) → p + edgeZeros ≤ j → j < p + weightByte → (byte f j ≡ 0) × (byte g j ≡ 0)) → k < recordSize → byte f (p + k) ≡ byte g (p + k)
-    edge-bytes e p k h z n l =
+        → k < recordSize → byte f (p + k) ≡ byte g (p + k)
+    edge-bytes e p k h z l =
         ⊎-elim (λ (x : k < 1). ap (byte f) (omega arith) ∙ number 0 (omega arith) ∙ ap (byte g) (omega (arith, places)))
         (λ (x : 1 ≤ k).
-        ⊎-elim (λ (y : k < edgeZeros). ap (byte f) (omega arith) ∙ number 1 (omega arith) ∙ ap (byte g) (omega (arith, places)))
-        (λ (y : edgeZeros ≤ k).
-        ⊎-elim (λ (w : k < weightByte). let o = n (p + k) (omega arith) (omega arith) in o .0 ∙ sym (o .1))
+        ⊎-elim (λ (y : k < edgeRewardByte). ap (byte f) (omega arith) ∙ number 1 (omega arith) ∙ ap (byte g) (omega (arith, places)))
+        (λ (y : edgeRewardByte ≤ k).
+        ⊎-elim (λ (w : k < weightByte).
+        field (edgeAt f e + edgeRewardByte) 2 (k - edgeRewardByte) _
+        (number 3 (omega arith) ∙ ap (λ z. numberAt g (z + edgeRewardByte) 2) (sym places))
+        (omega arith) (omega arith))
         (λ (w : weightByte ≤ k).
         field (edgeAt f e + weightByte) 4 (k - weightByte) _
         (number 2 (omega arith) ∙ ap (λ z. numberAt g (z + weightByte) 4) (sym places))
         (omega arith) (omega arith))
         (below k weightByte))
-        (below k edgeZeros))
+        (below k edgeRewardByte))
         (below k 1)
       where
         places : edgeAt f e ≡ edgeAt g e
@@ -196,11 +199,7 @@ module _ (a b : List ℕ) (bytes : Bytes a) (bytes′ : Bytes b) (taken : Accept
               moved _ (recordsAt 0 + t) (omega arith) (head-bytes (right-laid (taken .blocks 0 (omega arith))) (right-laid (taken′ .blocks 0 (omega arith))) t m)
           go n (Turn.state p b o c) = state-bytes (fullBlock * (k - 1) + i) (recordsAt k + recordSize * i) t (omega arith) (omega arith) m
           go n (Turn.edge p b o c) =
-              edge-bytes (fullBlock * (k - 1 - stateBlocks f) + i) (recordsAt k + recordSize * i) t (omega arith) (omega arith)
-              (λ j x y. (
-                zeros f (λ w. l .reserved o (i, (n, w))) j x y,
-                zeros g (λ w. r .reserved (sym (kinds k) ∙ o) (i, (omega (arith, counts k), w))) j x y,
-              )) m
+              edge-bytes (fullBlock * (k - 1 - stateBlocks f) + i) (recordsAt k + recordSize * i) t (omega arith) (omega arith) m
 
       content-bytes : (j : ℕ) → j < checkedBytes → blockByte f k j ≡ blockByte g k j
       content-bytes j h =

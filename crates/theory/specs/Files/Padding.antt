@@ -1,9 +1,9 @@
 -- The two run lengths that the check does not see, in a file whose chain meets none of 3 to 11: each of its records has a byte that is not zero, so that
 -- such a run reaches into the bytes after the last record, and is 24.
-use Prim.Native.Nat.{ℕ, _+_, _*_, _-_, _/_, _%_, _^_, _≤_, _<_}
+use Prim.Native.Nat.{ℕ, _+_, _*_, _-_, _/_, _%_, _≤_, _<_}
 use mathlib.Core.Path.{_≡_, refl, sym, ap, ap₂, subst, _∙_}
 use mathlib.Core.Logic.{inl, ⊎-elim}
-use native.Mathlib.Nat.{add-zero, zero-mul}
+use native.Mathlib.Nat.{add-zero}
 use native.Mathlib.Omega.{arith}
 use lib.ListN.{getD}
 use Rattle.meaning.specs.Number.{sumTo}
@@ -42,17 +42,13 @@ use Rattle.meaning.specs.File.{
   edgesIn,
   paidIn,
 }
-use Rattle.theory.specs.Numbers.Sum.{same, below, sum-zero}
+use Rattle.theory.specs.Numbers.Sum.{same, below}
 use Rattle.theory.specs.Numbers.Tab.{tab-at, tab-length}
 use Rattle.theory.specs.Files.Turn.{Turn, turn, count-most}
 use Rattle.theory.specs.Files.Right.{right-laid, bounded}
-use Rattle.theory.specs.Files.Agree.{Agree, number-agree, kinds-agree, counts-agree}
+use Rattle.theory.specs.Files.Agree.{Agree, number-agree, number-zero, kinds-agree, counts-agree}
 use Rattle.theory.specs.Files.Damage.{refused-there}
 use Rattle.theory.specs.Files.Runs.{Overwritten, Whole, beside, there, version, run-matches}
-
--- A number whose bytes are all zero.
-number-zero : (f : Input) (j width : ℕ) → ((i : ℕ) → j ≤ i → i < j + width → byte f i ≡ 0) → numberAt f j width ≡ 0
-number-zero f j width h = sum-zero _ width (λ i l. ap (λ z. z * 256 ^ i) (h (j + i) (omega arith) (omega arith)) ∙ zero-mul (256 ^ i))
 
 weight-in : (f : Input) (e : ℕ) → e < headEdges f → weight (edgesIn f) e ≡ weightIn f e
 weight-in f e h =

@@ -86,7 +86,7 @@ pub record Laid (f : Input) (b : ℕ) : Type 0 where
   pub rest : (j : ℕ) → recordsAt b + recordSize * countOf f b ≤ j → j < checkAt b → byte f j ≡ 0
   pub head : kindOf f b ≡ 1 → HeadFault f → ⊥
   pub flags : kindOf f b ≡ 2 → FlagFault f (recordsAt b) (countOf f b) → ⊥
-  pub reserved : kindOf f b ≡ 3 → ReservedFault f (recordsAt b) (countOf f b) → ⊥
+  pub reserved : kindOf f b ≡ 3 → versionIn f b ≡ firstVersion → ReservedFault f (recordsAt b) (countOf f b) → ⊥
 
 module _ {f : Input} {b : ℕ} where
   pub laid-right : Laid f b → BlockRight f b
@@ -99,7 +99,7 @@ module _ {f : Input} {b : ℕ} where
       content (ContentFault.rest-wrong w) = nonzero f (r .rest) w
       content (ContentFault.record-wrong k w) = r .head k w
       content (ContentFault.flag-wrong k w) = r .flags k w
-      content (ContentFault.reserved-wrong k w) = r .reserved k w
+      content (ContentFault.reserved-wrong k v w) = r .reserved k v w
 
   module _ (r : BlockRight f b) where
     pub unchecked : CheckFault f b → ⊥
@@ -127,7 +127,7 @@ module _ {f : Input} {b : ℕ} where
           rest = zeros f (λ w. content-right (ContentFault.rest-wrong w));
           head = λ k w. content-right (ContentFault.record-wrong k w);
           flags = λ k w. content-right (ContentFault.flag-wrong k w);
-          reserved = λ k w. content-right (ContentFault.reserved-wrong k w);
+          reserved = λ k v w. content-right (ContentFault.reserved-wrong k v w);
         }
       where
         one-of : (versionIn f b ≡ firstVersion) ⊎ (versionIn f b ≡ firstVersion → ⊥)

@@ -77,7 +77,7 @@ module _ {f g : Input} {b : ℕ} (accepted : Accepted f) (inside : b < demanded 
           right g b c (placed b inside)
           (⊎-elim (λ d. d (kind-agree f g b (agree-all 0) (agree-all b) (right-laid (accepted .blocks b inside) .kind)))
           (⊎-elim (λ d. d .0 e) (λ d. d (ap (versionIn g) z))))
-          (λ w. content-right (accepted .blocks b inside) (content-agree f g b (agree-all 0) (agree-all b) w))
+          (λ w. content-right (accepted .blocks b inside) (content-agree f g b (agree-all 0) (agree-all b) (λ k _. absurd (let y : _≡_ {A = ℕ} 1 3 = rw z at k in omega arith)) w))
 
       unlike : versionIn g 1 ≡ versionIn g 0 → ⊥
       unlike q =

@@ -50,35 +50,35 @@ abbrev pub bottom : ℕ → ℕ → ℕ
 bottom a b = b / gcd a b
 
 -- What the engine comes to: a stop, or none.
-pub data Course (b : Bool) (l : Lent) : Type 0 where
-  halts : (number place : ℕ) → Stopped b l number place → Course b l
-  goes-on : ((number place : ℕ) → Stopped b l number place → ⊥) → Course b l
+pub data Course (pay : ℕ → ℕ) (b : Bool) (l : Lent) : Type 0 where
+  halts : (number place : ℕ) → Stopped pay b l number place → Course pay b l
+  goes-on : ((number place : ℕ) → Stopped pay b l number place → ⊥) → Course pay b l
 
 module _ (l : Lent) (k : Sets) (right : Right (l .chain) k) where
   abbrev pub c : Chain
   c = l .chain
 
-  pub passed-unstopped : (b : Bool) → Passed b l k (c .states) → (number place : ℕ) → Stopped b l number place → ⊥
-  passed-unstopped b h number place s =
-      runs-unstopped b l k h number place (rw (right-one (s .right) right) at (s .stops))
+  pub passed-unstopped : (pay : ℕ → ℕ) (b : Bool) → Passed pay b l k (c .states) → (number place : ℕ) → Stopped pay b l number place → ⊥
+  passed-unstopped pay b h number place s =
+      runs-unstopped pay b l k h number place (rw (right-one (s .right) right) at (s .stops))
 
-  unfoldable pub course : (b : Bool) → Course b l
+  unfoldable pub course : (pay : ℕ → ℕ) (b : Bool) → Course pay b l
   unfolding begins halt
-  course b =
+  course pay b =
       elim (begins c k right) [
         | won g ↦ goes-on (λ number place s. s .alive .unwon g)
         | lost h ↦ goes-on (λ number place s. h (s .alive .leads))
-        | live a ↦ elim (halt b l k) [
+        | live a ↦ elim (halt pay b l k) [
           | stops number place s ↦ halts number place (record { sets = k; right = right; alive = a; stops = s })
-          | runs h ↦ goes-on (passed-unstopped b h)
+          | runs h ↦ goes-on (passed-unstopped pay b h)
         ]
       ]
 
   abbrev pub D : Row → ℕ
   D z = outside (c .states) (c .start) z
 
-  abbrev pub exactRow : Row
-  exactRow = row (tableAt exact l k (c .states)) (c .start)
+  abbrev pub exactRow : Entry → Row
+  exactRow x = row (tableAt (earns x l) exact l k (c .states)) (c .start)
 
   -- The chance, whether or not every row fits.
   unfoldable pub chance-is : (x : Entry) → x .order ≡ true → WellFormed x l → (p : ℕ) × ((q : ℕ) × Chance c p q)
@@ -87,23 +87,23 @@ module _ (l : Lent) (k : Sets) (right : Right (l .chain) k) where
       elim (begins c k right) [
         | won g ↦ (1, (1, chance-won c (start-in x l f) g))
         | lost h ↦ (0, (1, chance-lost c (start-in x l f) h))
-        | live a ↦ let g = cell exactRow (goalColumn (c .states)) in
+        | live a ↦ let g = cell (exactRow x) (goalColumn (c .states)) in
             let ready = formed-prepared x l f lent k right in
-            let h : Reduced g (D exactRow) _ _ = fraction-reduced g (D exactRow) (exact-whole c k (l .order) ready (earns l) a) in
-            (top g (D exactRow), (bottom g (D exactRow), exact-chance c k (l .order) ready (earns l) a _ _ h))
+            let h : Reduced g (D (exactRow x)) _ _ = fraction-reduced g (D (exactRow x)) (exact-whole c k (l .order) ready (earns x l) a) in
+            (top g (D (exactRow x)), (bottom g (D (exactRow x)), exact-chance c k (l .order) ready (earns x l) a _ _ h))
       ]
 
   -- The expected reward, where it is not infinite.
-  unfoldable pub reward-is : WellFormed paid l → (Missed c → ⊥) → (p : ℕ) × ((q : ℕ) × Expected c (earns l) p q)
+  unfoldable pub reward-is : WellFormed paid l → (Missed c → ⊥) → (p : ℕ) × ((q : ℕ) × Expected c (earns paid l) p q)
   unfolding begins
   reward-is f m =
       elim (begins c k right) [
-        | won g ↦ (0, (1, reward-won c (earns l) g))
+        | won g ↦ (0, (1, reward-won c (earns paid l) g))
         | lost h ↦ absurd (m (c .start, begin, h))
-        | live a ↦ let r = reward (c .states) exactRow in
+        | live a ↦ let r = reward (c .states) (exactRow paid) in
             let ready = formed-prepared paid l f refl k right in
-            let h : Reduced r (D exactRow) _ _ = fraction-reduced r (D exactRow) (exact-whole c k (l .order) ready (earns l) a) in
-            (top r (D exactRow), (bottom r (D exactRow), exact-reward c k (l .order) ready (earns l) a m _ _ h))
+            let h : Reduced r (D (exactRow paid)) _ _ = fraction-reduced r (D (exactRow paid)) (exact-whole c k (l .order) ready (earns paid l) a) in
+            (top r (D (exactRow paid)), (bottom r (D (exactRow paid)), exact-reward c k (l .order) ready (earns paid l) a m _ _ h))
       ]
 
   -- The bounds.
@@ -116,7 +116,7 @@ module _ (l : Lent) (k : Sets) (right : Right (l .chain) k) where
         | live a ↦ let z = lastRow l k in
             let g = cell z (goalColumn (c .states)) in
             let u = g + cell z (unknownColumn (c .states)) in
-            let whole : 0 < D z = bounds-whole c k (l .order) (formed-prepared plain l f refl k right) (earns l) a (unpaid plain l f refl) in (
+            let whole : 0 < D z = bounds-whole c k (l .order) (formed-prepared plain l f refl k right) (earns plain l) a (unpaid plain l refl) in (
               between (top g (D z)) (bottom g (D z)) (top u (D z)) (bottom u (D z)),
               BoundsFigure.live k right a _ _ _ _ (fraction-reduced g (D z) whole, fraction-reduced u (D z) whole) refl,
             )
@@ -125,11 +125,11 @@ module _ (l : Lent) (k : Sets) (right : Right (l .chain) k) where
 -- The three entries, the first for its companion too; the sets need be right only where the input is well formed.
 module _ (l : Lent) (k : Sets) where
   unfoldable pub chance-computed : (x : Entry) → x .order ≡ true → (WellFormed x l → Right (l .chain) k)
-      → Computed x l refusal (Stopped exact l) (ChanceFigure l)
+      → Computed x l refusal (Stopped (earns plain l) exact l) (ChanceFigure l)
   unfolding computed course chance-is
   chance-computed x lent right =
-      computed x l refusal (Stopped exact l) (ChanceFigure l) (λ f.
-      elim (course l k (right f) exact) [
+      computed x l refusal (Stopped (earns plain l) exact l) (ChanceFigure l) (λ f.
+      elim (course l k (right f) (earns plain l) exact) [
         | halts number place s ↦ stop number place s
         | goes-on u ↦ let v = chance-is l k (right f) x lent f in
             figure u (fraction (v .0) (v .1 .0)) (chance (v .0) (v .1 .0) (v .1 .1) refl)
@@ -141,7 +141,7 @@ module _ (l : Lent) (k : Sets) where
       computed paid l refusal (RewardStop l) (RewardFigure l) (λ f.
       elim (missing (l .chain) k (right f)) [
         | yes m ↦ figure (λ number place s. s .0 m) infinite (missed m refl)
-        | no m ↦ elim (course l k (right f) exact) [
+        | no m ↦ elim (course l k (right f) (earns paid l) exact) [
           | halts number place s ↦ stop number place (m, s)
           | goes-on u ↦ let v = reward-is l k (right f) f m in
               figure (λ number place s. u number place (s .1)) (fraction (v .0) (v .1 .0)) (expected m (v .0) (v .1 .0) (v .1 .1) refl)
@@ -162,7 +162,7 @@ set-in x l t =
       | LookResult.formed f ↦ let s = right-exists (l .chain) (goals-in x l f) (from-in x l f) in t (s .0) (λ _. s .1)
     ]
 
-pub chance-outcome : (l : Lent) → Computed plain l refusal (Stopped exact l) (ChanceFigure l)
+pub chance-outcome : (l : Lent) → Computed plain l refusal (Stopped (earns plain l) exact l) (ChanceFigure l)
 chance-outcome l = set-in plain l (λ k. chance-computed l k plain refl)
 
 pub reward-outcome : (l : Lent) → Computed paid l refusal (RewardStop l) (RewardFigure l)

@@ -41,10 +41,10 @@ above-share a b p q d x s t whole above r e h =
     (omega (arith, ap (λ z. z * (d * t)) (r .same), ap (λ z. z * (b * q)) e, mul-le-mul-left (q * t) h)) (mul-pos whole above)
 
 -- Nothing stops the bounds engine, since only a row of the exact engine does not fit.
-pub rounding-unstopped : {l : Lent} {number place : ℕ} → Stopped rounding l number place → ⊥
+pub rounding-unstopped : {pay : ℕ → ℕ} {l : Lent} {number place : ℕ} → Stopped pay rounding l number place → ⊥
 rounding-unstopped s = none (s .stops)
   where
-    none : {l : Lent} {k : Sets} {number place : ℕ} → Stops rounding l k number place → ⊥
+    none : {pay : ℕ → ℕ} {l : Lent} {k : Sets} {number place : ℕ} → Stops pay rounding l k number place → ⊥
     none (before-steps f) = one-engine rounding (f .0) refl
     none (in-step p h w f) = one-engine rounding (f .0) refl
 
@@ -70,29 +70,29 @@ module _ (l : Lent) (formed : WellFormed plain l) where
     where
       whole : 0 < outside (c .states) (c .start) (lastRow l k)
       whole =
-          bounds-whole c k (l .order) (formed-prepared plain l formed refl k right) (earns l) alive (unpaid plain l formed refl)
+          bounds-whole c k (l .order) (formed-prepared plain l formed refl k right) (earns plain l) alive (unpaid plain l refl)
 
       live-holds : ChanceBetween c (between p q s t)
       live-holds =
           let ready = formed-prepared plain l formed refl k right in
-          let free = unpaid plain l formed refl in
+          let free = unpaid plain l refl in
           let (d, x, share) = shares-exist (formed-fine plain l formed) in
           record {
             lower-lowest = lowest .lowest;
             upper-lowest = highest .lowest;
             lower = λ u v h.
                 below-share _ _ p q d (x (c .start)) u v whole (share .whole) lowest (h .share d x share)
-                (lower-bound c k (l .order) ready (earns l) alive free d x share);
+                (lower-bound c k (l .order) ready (earns plain l) alive free d x share);
             upper = λ u v h.
                 above-share _ _ s t d (x (c .start)) u v whole (share .whole) highest (h .share d x share)
-                (upper-bound c k (l .order) ready (earns l) alive free d x share);
+                (upper-bound c k (l .order) ready (earns plain l) alive free d x share);
           }
 
       live-equal : Unrounded l → Chance c p q × Chance c s t
       live-equal none =
           let ready = formed-prepared plain l formed refl k right in (
-            lower-chance c k (l .order) ready (earns l) alive (none k right) p q lowest,
-            upper-chance c k (l .order) ready (earns l) alive (none k right) s t highest,
+            lower-chance c k (l .order) ready (earns plain l) alive (none k right) p q lowest,
+            upper-chance c k (l .order) ready (earns plain l) alive (none k right) s t highest,
           )
 
   -- Two fractions: what holds of every figure holds of every outcome.

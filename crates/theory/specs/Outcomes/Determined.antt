@@ -26,8 +26,8 @@ module _ {x : Entry} {l : Lent} where
       let e = refused-number r s in (e, refused-place r (subst (λ z. Refused x l z p′) (sym e) s))
 
 -- The number 12: it comes first at one place.
-module _ {b : Bool} {l : Lent} {k : Sets} where
-  pub stops-one : {n p n′ p′ : ℕ} → Stops b l k n p → Stops b l k n′ p′ → (n ≡ n′) × (p ≡ p′)
+module _ {pay : ℕ → ℕ} {b : Bool} {l : Lent} {k : Sets} where
+  pub stops-one : {n p n′ p′ : ℕ} → Stops pay b l k n p → Stops pay b l k n′ p′ → (n ≡ n′) × (p ≡ p′)
   stops-one (before-steps a) (before-steps a′) = (refl, refl)
   stops-one (before-steps a) (in-step q h′ w′ f′) = absurd (w′ 0 (omega arith) a)
   stops-one (in-step p h w f) (before-steps a′) = absurd (w 0 (omega arith) a′)

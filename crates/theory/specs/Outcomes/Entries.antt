@@ -17,9 +17,9 @@ use Rattle.theory.specs.Outcomes.Whole.{formed-prepared, bounds-whole}
 use Rattle.theory.specs.Outcomes.Determined.{stops-one, outcome-one}
 
 -- What stops an engine is one, since the sets are.
-pub stopped-one : {b : Bool} {l : Lent} (n p n′ p′ : ℕ) → Stopped b l n p → Stopped b l n′ p′ → (n ≡ n′) × (p ≡ p′)
-stopped-one {b} {l} n p n′ p′ s s′ =
-    stops-one (s .stops) (subst (λ k. Stops b l k n′ p′) (right-one (s′ .right) (s .right)) (s′ .stops))
+pub stopped-one : {pay : ℕ → ℕ} {b : Bool} {l : Lent} (n p n′ p′ : ℕ) → Stopped pay b l n p → Stopped pay b l n′ p′ → (n ≡ n′) × (p ≡ p′)
+stopped-one {pay} {b} {l} n p n′ p′ s s′ =
+    stops-one (s .stops) (subst (λ k. Stops pay b l k n′ p′) (right-one (s′ .right) (s .right)) (s′ .stops))
 
 module _ (l : Lent) where
   abbrev c : Chain
@@ -49,7 +49,7 @@ module _ (l : Lent) where
   live-one : WellFormed plain l → (k : Sets) → Right c k → Live c (c .start) → (p q s t p′ q′ s′ t′ : ℕ)
       → Between k p q s t → Between k p′ q′ s′ t′ → between p q s t ≡ between p′ q′ s′ t′
   live-one w k right alive p q s t p′ q′ s′ t′ f f′ =
-      let whole = bounds-whole c k (l .order) (formed-prepared plain l w refl k right) (earns l) alive (unpaid plain l w refl) in
+      let whole = bounds-whole c k (l .order) (formed-prepared plain l w refl k right) (earns plain l) alive (unpaid plain l refl) in
       let lower = reduced-one whole (f .0) (f′ .0) in
       let upper = reduced-one whole (f .1) (f′ .1) in
       rw (lower .0, lower .1, upper .0, upper .1)
@@ -68,10 +68,10 @@ module _ (l : Lent) where
       e ∙ live-one w k r v p q s t p′ q′ s′ t′ f g ∙ sym e′
 
   pub chance-determined : {a a′ : Answer} {w w′ : List ℕ} → ChanceOutcome l a w → ChanceOutcome l a′ w′ → (a ≡ a′) × (w ≡ w′)
-  chance-determined = outcome-one (stopped-one {b = exact} {l = l}) (chance-figure-one plain)
+  chance-determined = outcome-one (stopped-one {pay = earns plain l} {b = exact} {l = l}) (chance-figure-one plain)
 
   pub reward-determined : {a a′ : Answer} {w w′ : List ℕ} → RewardOutcome l a w → RewardOutcome l a′ w′ → (a ≡ a′) × (w ≡ w′)
-  reward-determined = outcome-one (λ n p n′ p′ s s′. stopped-one {b = exact} {l = l} n p n′ p′ (s .1) (s′ .1)) reward-figure-one
+  reward-determined = outcome-one (λ n p n′ p′ s s′. stopped-one {pay = earns paid l} {b = exact} {l = l} n p n′ p′ (s .1) (s′ .1)) reward-figure-one
 
   pub bounds-determined : {a a′ : Bounds} {w w′ : List ℕ} → BoundsOutcome l a w → BoundsOutcome l a′ w′ → (a ≡ a′) × (w ≡ w′)
   bounds-determined = outcome-one (λ n p n′ p′ s s′. absurd s) bounds-figure-one

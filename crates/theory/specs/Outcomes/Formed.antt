@@ -1,13 +1,13 @@
 -- What a well-formed input has, said positively.
-use Prim.Native.Nat.{ℕ, _%_, _^_, _≤_, _<_}
+use Prim.Native.Nat.{ℕ, _+_, _%_, _^_, _≤_, _<_}
 use mathlib.Core.Path.{_≡_, refl, sym}
 use mathlib.Core.Logic.{_⊎_, inl, inr, ⊎-elim}
 use mathlib.Core.Bool.{Bool, true, false}
 use native.Mathlib.Omega.{arith}
-use lib.ListN.{length, getD, List·getD-eq-default}
-use Rattle.meaning.specs.Chain.{mostStates, mostEdges, M, mostReward, Chain, denominator, edgeSize, edgeCount, from, to, weight, along}
-use Rattle.meaning.specs.Refusal.{Lent, Entry, Misshaped, OrderFault, RewardFault, lentFault, WellFormed}
-use Rattle.meaning.specs.Stop.{rewardOf, earns}
+use lib.ListN.{length, getD}
+use Rattle.meaning.specs.Chain.{mostStates, mostEdges, M, mostReward, Chain, denominator, edgeSize, edgeCount, from, to, weight, edgeReward, along}
+use Rattle.meaning.specs.Refusal.{Lent, Entry, Misshaped, OrderFault, RewardFault, of-state, of-edge, lentFault, WellFormed}
+use Rattle.meaning.specs.Stop.{earns}
 use Rattle.theory.specs.Numbers.Sum.{below}
 use Rattle.theory.specs.Numbers.Every.{holds-every}
 use Rattle.theory.specs.Chains.Fine.{Fine}
@@ -132,16 +132,15 @@ module _ (x : Entry) (l : Lent) (formed : WellFormed x l) where
     pub rewards-length : length (l .rewards) ≡ c .states
     rewards-length = equal _ _ (λ f. shape (Misshaped.rewards-length (λ e. f (rw lent at e))))
 
+    reward-fault : (p : ℕ) → RewardFault (c .states) (l .rewards) (c .edges) p → ⊥
+    reward-fault p f = formed .none 11 p (lends (x .rewards) (RewardFault (c .states) (l .rewards) (c .edges)) p lent f)
+
     pub reward-small : (i : ℕ) → i < c .states → getD (l .rewards) i 0 ≤ mostReward
-    reward-small i h =
-        atMost _ _ (λ k. formed .none 11 i (lends (x .rewards) (RewardFault (c .states) (l .rewards)) i lent (h, k)))
+    reward-small i h = atMost _ _ (λ k. reward-fault i (of-state i h k))
 
-  -- An entry that is not lent rewards has none.
-  pub reward-none : x .rewards ≡ false → (i : ℕ) → rewardOf l i ≡ 0
-  reward-none lent i =
-      List·getD-eq-default (l .rewards) 0 {n = i}
-      (let e : length (l .rewards) ≡ 0 = equal _ _ (λ f. shape (Misshaped.rewards-length (λ e. f (rw lent at e)))) in omega arith)
+    pub edge-reward-small : (e : ℕ) → e < edgeCount (c .edges) → edgeReward (c .edges) e ≤ mostReward
+    edge-reward-small e h = atMost _ _ (λ k. reward-fault (mostStates + e) (of-edge e h k))
 
-  -- So nothing is earned there.
-  pub unpaid : x .rewards ≡ false → (i : ℕ) → earns l i ≡ 0
-  unpaid lent i = rw (reward-none lent i) (omega arith)
+-- Nothing is earned in an entry that is lent no rewards.
+pub unpaid : (x : Entry) (l : Lent) → x .rewards ≡ false → (i : ℕ) → earns x l i ≡ 0
+unpaid x l lent i = rw lent

@@ -1,6 +1,6 @@
 -- Every number of refusal 1 to 11 is decided: an input is refused by one of them, or is well formed.
-use Prim.Native.Nat.{ℕ, zero, suc, _/_, _%_, _^_, _<_}
-use mathlib.Core.Path.{_≡_, refl}
+use Prim.Native.Nat.{ℕ, zero, suc, _+_, _-_, _/_, _%_, _^_, _≤_, _<_}
+use mathlib.Core.Path.{_≡_, refl, subst}
 use mathlib.Core.Logic.{_⊎_, inl, inr, Dec·and, Dec·not}
 use mathlib.Core.Bool.{Bool, true, false}
 use mathlib.Core.List.{List, [], _∷_}
@@ -8,9 +8,9 @@ use native.Mathlib.Omega.{arith}
 use native.Mathlib.Decide.{ℕ-discrete, decLe, decLt}
 use lib.ListN.{length, getD}
 use Rattle.meaning.specs.Number.{only}
-use Rattle.meaning.specs.Chain.{mostStates, mostEdges, M, mostReward, edgeSize, edgeCount, from, to, weight, rowSum}
-use Rattle.meaning.specs.Refusal.{Lent, Entry, Misshaped, no-states, many-states, denominators-length, edges-ragged, many-edges, few-edges, order-length, rewards-length, GoalFault, OutOfRange, Same, whole, never, lentFault, faults, Refused, WellFormed}
-use Rattle.theory.specs.Numbers.Search.{turned, either, NoneBefore, LeastPlace, at, nowhere, clear-none, ranged, anywhere}
+use Rattle.meaning.specs.Chain.{mostStates, mostEdges, M, mostReward, edgeSize, edgeCount, from, to, weight, edgeReward, rowSum}
+use Rattle.meaning.specs.Refusal.{Lent, Entry, Misshaped, no-states, many-states, denominators-length, edges-ragged, many-edges, few-edges, order-length, rewards-length, GoalFault, OutOfRange, Same, RewardFault, of-state, of-edge, whole, never, lentFault, faults, Refused, WellFormed}
+use Rattle.theory.specs.Numbers.Search.{turned, either, NoneBefore, LeastPlace, at, nowhere, clear-none, search-least, ranged, anywhere}
 
 module _ (x : Entry) (states denominators edges order rewards : ℕ) where
   abbrev pub Shapes : Type 0
@@ -65,6 +65,40 @@ unfoldable pub sames : (edges : List ℕ) (d e : ℕ) → Dec (Same edges d e)
 unfolding Dec·and ℕ-discrete
 sames edges d e = Dec·and (ℕ-discrete (from edges d) (from edges e)) (ℕ-discrete (to edges d) (to edges e))
 
+-- The places of 11: those of the states, and those of the edges from 64 on.
+module _ (n : ℕ) (rewards edges : List ℕ) where
+  abbrev pub Overpaid : ℕ → Type 0
+  Overpaid p =
+      ((p < n) × (mostReward < getD rewards p 0))
+      ⊎ ((mostStates ≤ p) × ((p - mostStates < edgeCount edges) × (mostReward < edgeReward edges (p - mostStates))))
+
+  pub overpaid-in : (p : ℕ) → Overpaid p → RewardFault n rewards edges p
+  overpaid-in p (inl h) = of-state p (h .0) (h .1)
+  overpaid-in p (inr h) =
+      let e : mostStates + (p - mostStates) ≡ p = omega (arith, h .0) in
+      subst (RewardFault n rewards edges) e (of-edge (p - mostStates) (h .1 .0) (h .1 .1))
+
+  pub overpaid-out : (p : ℕ) → RewardFault n rewards edges p → Overpaid p
+  overpaid-out _ (of-state i h k) = inl (h, k)
+  overpaid-out _ (of-edge e h k) =
+      let z : mostStates + e - mostStates ≡ e = omega arith in
+      inr (omega arith, (omega (arith, h), rw z k))
+
+  pub overpaid-inside : (p : ℕ) → RewardFault n rewards edges p → p < n + mostStates + edgeCount edges
+  overpaid-inside _ (of-state i h k) = omega (arith, h)
+  overpaid-inside _ (of-edge e h k) = omega (arith, h)
+
+  unfoldable pub overpaid : LeastPlace (RewardFault n rewards edges)
+  unfolding search-least turned either Dec·and decLt decLe
+  overpaid =
+      search-least (RewardFault n rewards edges) (n + mostStates + edgeCount edges)
+      (λ p.
+      turned (overpaid-in p) (overpaid-out p)
+      (either (Dec·and (decLt p n) (decLt mostReward (getD rewards p 0)))
+      (Dec·and (decLe mostStates p)
+      (Dec·and (decLt (p - mostStates) (edgeCount edges)) (decLt mostReward (edgeReward edges (p - mostStates)))))))
+      overpaid-inside
+
 -- A fault of the whole, and one of a table that the entry may not be lent.
 unfoldable pub wholly : (F : Type 0) → Dec F → LeastPlace (whole F)
 wholly F (yes f) = at 0 (refl, f) (clear-none (whole F))
@@ -80,7 +114,7 @@ pub data Each : List (ℕ → Type 0) → Type 1 where
   more : {F : ℕ → Type 0} {fs : List (ℕ → Type 0)} → LeastPlace F → Each fs → Each (F ∷ fs)
 
 unfoldable pub sought : (x : Entry) (l : Lent) → Each (faults x l)
-unfolding wholly lently misshaped out-of-range sames ranged anywhere either decLt decLe ℕ-discrete Dec·not
+unfolding wholly lently misshaped out-of-range sames overpaid ranged anywhere either decLt decLe ℕ-discrete Dec·not
 sought x l =
     let c = l .chain in
     more (nowhere (λ q z. z))
@@ -98,7 +132,7 @@ sought x l =
     (ranged _ (c .states) (λ p.
     either (decLe (c .states) (getD (l .order) p 0))
     (anywhere _ p (λ o. ℕ-discrete (getD (l .order) o 0) (getD (l .order) p 0))))))
-    (more (lently (x .rewards) _ (ranged _ (c .states) (λ i. decLt mostReward (getD (l .rewards) i 0))))
+    (more (lently (x .rewards) _ (overpaid (c .states) (l .rewards) (c .edges)))
     none)))))))))))
 
 -- The least number of a list of faults that applies, with its least place; or that none does.

@@ -12,31 +12,31 @@ use Rattle.theory.specs.Outcomes.Formed.{unpaid}
 use Rattle.theory.specs.Outcomes.Whole.{formed-prepared}
 
 -- The engine that rounds earns nothing.
-module _ (b : Bool) (x : Entry) (l : Lent) (formed : WellFormed x l) (ordered : x .order ≡ true) (free : b ≡ rounding → (i : ℕ) → earns l i ≡ 0) where
-  turn-outside : OutsideAtTurn b l
-  turn-outside k right = turn-loose (l .chain) k (l .order) (formed-prepared x l formed ordered k right) b (earns l) free
+module _ (b : Bool) (x : Entry) (l : Lent) (formed : WellFormed x l) (ordered : x .order ≡ true) (free : b ≡ rounding → (i : ℕ) → earns x l i ≡ 0) where
+  turn-outside : OutsideAtTurn (earns x l) b l
+  turn-outside k right = turn-loose (l .chain) k (l .order) (formed-prepared x l formed ordered k right) b (earns x l) free
 
-  end-outside : OutsideAtEnd b l
-  end-outside k right = last-loose (l .chain) k (l .order) (formed-prepared x l formed ordered k right) b (earns l) free
+  end-outside : OutsideAtEnd (earns x l) b l
+  end-outside k right = last-loose (l .chain) k (l .order) (formed-prepared x l formed ordered k right) b (earns x l) free
 
 module _ (l : Lent) where
   -- The chance.
-  pub chance-turn-outside : WellFormed plain l → OutsideAtTurn exact l
+  pub chance-turn-outside : WellFormed plain l → OutsideAtTurn (earns plain l) exact l
   chance-turn-outside formed = turn-outside exact plain l formed refl (one-engine exact refl)
 
-  pub chance-end-outside : WellFormed plain l → OutsideAtEnd exact l
+  pub chance-end-outside : WellFormed plain l → OutsideAtEnd (earns plain l) exact l
   chance-end-outside formed = end-outside exact plain l formed refl (one-engine exact refl)
 
   -- The expected reward.
-  pub reward-turn-outside : WellFormed paid l → OutsideAtTurn exact l
+  pub reward-turn-outside : WellFormed paid l → OutsideAtTurn (earns paid l) exact l
   reward-turn-outside formed = turn-outside exact paid l formed refl (one-engine exact refl)
 
-  pub reward-end-outside : WellFormed paid l → OutsideAtEnd exact l
+  pub reward-end-outside : WellFormed paid l → OutsideAtEnd (earns paid l) exact l
   reward-end-outside formed = end-outside exact paid l formed refl (one-engine exact refl)
 
   -- The bounds, whose rows may be rounded.
-  pub bounds-turn-outside : WellFormed plain l → OutsideAtTurn rounding l
-  bounds-turn-outside formed = turn-outside rounding plain l formed refl (λ _. unpaid plain l formed refl)
+  pub bounds-turn-outside : WellFormed plain l → OutsideAtTurn (earns plain l) rounding l
+  bounds-turn-outside formed = turn-outside rounding plain l formed refl (λ _. unpaid plain l refl)
 
-  pub bounds-end-outside : WellFormed plain l → OutsideAtEnd rounding l
-  bounds-end-outside formed = end-outside rounding plain l formed refl (λ _. unpaid plain l formed refl)
+  pub bounds-end-outside : WellFormed plain l → OutsideAtEnd (earns plain l) rounding l
+  bounds-end-outside formed = end-outside rounding plain l formed refl (λ _. unpaid plain l refl)

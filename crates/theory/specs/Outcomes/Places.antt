@@ -1,12 +1,12 @@
 -- The numbers 1 to 11 and their places are small.
-use Prim.Native.Nat.{ℕ, zero, suc, _≤_, _<_}
+use Prim.Native.Nat.{ℕ, zero, suc, _+_, _≤_, _<_}
 use native.Mathlib.Omega.{arith}
 use mathlib.Core.Path.{refl}
 use mathlib.Core.Bool.{Bool, true, false}
 use mathlib.Core.List.{List, [], _∷_}
 use lib.ListN.{length, getD}
 use Rattle.meaning.specs.Chain.{mostStates, mostEdges, edgeCount}
-use Rattle.meaning.specs.Refusal.{Lent, Entry, Misshaped, never, lentFault, faults, Refused}
+use Rattle.meaning.specs.Refusal.{Lent, Entry, Misshaped, RewardFault, of-state, of-edge, never, lentFault, faults, Refused}
 
 atMost : (x y : ℕ) → (y < x → ⊥) → x ≤ y
 atMost x y f = omega arith
@@ -26,7 +26,7 @@ lent-within true F w p h = w p h
 lent-within false F w p h = absurd h
 
 faults-within : (x : Entry) (l : Lent) → l .chain .states ≤ mostStates → edgeCount (l .chain .edges) ≤ mostEdges
-    → Within mostEdges (faults x l)
+    → Within (mostStates + mostEdges) (faults x l)
 faults-within x l states edges = (
   (λ p h. absurd h),
   (
@@ -50,7 +50,7 @@ faults-within x l states edges = (
                     (
                       lent-within (x .order) _ (λ p h. omega (arith, h .0)),
                       (
-                        lent-within (x .rewards) _ (λ p h. omega (arith, h .0)),
+                        lent-within (x .rewards) _ paid-within,
                         tt,
                       ),
                     ),
@@ -64,9 +64,13 @@ faults-within x l states edges = (
     ),
   ),
 )
+  where
+    paid-within : (p : ℕ) → RewardFault (l .chain .states) (l .rewards) (l .chain .edges) p → p ≤ mostStates + mostEdges
+    paid-within _ (of-state i h k) = omega (arith, h)
+    paid-within _ (of-edge e h k) = omega (arith, h)
 
--- A refusal's number is 1 to 11, and its place is at most the greatest number of edges.
-pub refused-places : {x : Entry} {l : Lent} (number place : ℕ) → Refused x l number place → (1 ≤ number) × (number ≤ 11) × (place ≤ mostEdges)
+-- A refusal's number is 1 to 11, and its place is at most the greatest numbers of states and edges together.
+pub refused-places : {x : Entry} {l : Lent} (number place : ℕ) → Refused x l number place → (1 ≤ number) × (number ≤ 11) × (place ≤ mostStates + mostEdges)
 refused-places zero place r = absurd (r .applies)
 refused-places (suc zero) place r = (omega arith, omega arith, omega (arith, r .applies .0))
 refused-places {x} {l} (suc (suc k)) place r =

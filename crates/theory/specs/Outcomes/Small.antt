@@ -56,7 +56,7 @@ small e s = record { numerator = omega (arith, e .0, s .numerator); denominator 
 one-small : (p : ℕ) → p ≤ 1 → Small p 1
 one-small p h = record { numerator = omega arith; denominator = omega arith }
 
-module _ (x : Entry) (l : Lent) (formed : WellFormed x l) (none : (number place : ℕ) → Stopped exact l number place → ⊥) where
+module _ (x : Entry) (l : Lent) (formed : WellFormed x l) (none : (number place : ℕ) → Stopped (earns x l) exact l number place → ⊥) where
   abbrev c : Chain
   c = l .chain
 
@@ -66,12 +66,12 @@ module _ (x : Entry) (l : Lent) (formed : WellFormed x l) (none : (number place 
   -- Where nothing stops the exact engine, the start's row fits at the end.
   module _ (k : Sets) (right : Right c k) (alive : Live c (c .start)) where
     abbrev last : Row
-    last = row (tableAt exact l k n) (c .start)
+    last = row (tableAt (earns x l) exact l k n) (c .start)
 
     fits : Large n last → ⊥
-    fits large = go (halt exact l k)
+    fits large = go (halt (earns x l) exact l k)
       where
-        go : Halted exact l k → ⊥
+        go : Halted (earns x l) exact l k → ⊥
         go (stops number place s) = none number place (record { sets = k; right = right; alive = alive; stops = s })
         go (runs w) = w n (omega arith) (refl, (c .start, (start-in x l formed, large)))
 
@@ -92,22 +92,22 @@ module _ (x : Entry) (l : Lent) (formed : WellFormed x l) (none : (number place 
       live-chance : (p q : ℕ) → Chance c p q → Small p q
       live-chance p q h =
           let ready = formed-prepared x l formed ordered k right in
-          let whole = exact-whole c k (l .order) ready (earns l) alive in
+          let whole = exact-whole c k (l .order) ready (earns x l) alive in
           let r = fraction-reduced (cell last (goalColumn n)) (outside n (c .start) last) whole in
-          small (chance-one (formed-fine x l formed) (exact-chance c k (l .order) ready (earns l) alive _ _ r) h)
+          small (chance-one (formed-fine x l formed) (exact-chance c k (l .order) ready (earns x l) alive _ _ r) h)
           (reduced-small _ _ _ _ whole last-goal last-outside r)
 
-      live-reward : (Missed c → ⊥) → (p q : ℕ) → Expected c (earns l) p q → Small p q
+      live-reward : (Missed c → ⊥) → (p q : ℕ) → Expected c (earns x l) p q → Small p q
       live-reward sure p q h =
           let ready = formed-prepared x l formed ordered k right in
-          let whole = exact-whole c k (l .order) ready (earns l) alive in
+          let whole = exact-whole c k (l .order) ready (earns x l) alive in
           let r = fraction-reduced (reward n last) (outside n (c .start) last) whole in
           small
-          (expected-one (formed-fine x l formed) (start-in x l formed) sure (exact-reward c k (l .order) ready (earns l) alive sure _ _ r) h)
+          (expected-one (formed-fine x l formed) (start-in x l formed) sure (exact-reward c k (l .order) ready (earns x l) alive sure _ _ r) h)
           (reduced-small _ _ _ _ whole last-reward last-outside r)
 
 -- The three entries.
-chance-figure : (l : Lent) → WellFormed plain l → ((number place : ℕ) → Stopped exact l number place → ⊥) → (p q : ℕ) → Chance (l .chain) p q → Small p q
+chance-figure : (l : Lent) → WellFormed plain l → ((number place : ℕ) → Stopped (earns plain l) exact l number place → ⊥) → (p q : ℕ) → Chance (l .chain) p q → Small p q
 chance-figure l formed none p q h = go (right-exists (l .chain) (goals-in plain l formed) (from-in plain l formed))
   where
     at : (k : Sets) → Right (l .chain) k → Begins (l .chain) → Small p q
@@ -120,13 +120,13 @@ chance-figure l formed none p q h = go (right-exists (l .chain) (goals-in plain 
     go : (k : Sets) × Right (l .chain) k → Small p q
     go s = at (s .0) (s .1) (begins (l .chain) (s .0) (s .1))
 
-reward-figure : (l : Lent) → WellFormed paid l → ((number place : ℕ) → Stopped exact l number place → ⊥) → (Missed (l .chain) → ⊥) → (p q : ℕ)
-    → Expected (l .chain) (earns l) p q → Small p q
+reward-figure : (l : Lent) → WellFormed paid l → ((number place : ℕ) → Stopped (earns paid l) exact l number place → ⊥) → (Missed (l .chain) → ⊥) → (p q : ℕ)
+    → Expected (l .chain) (earns paid l) p q → Small p q
 reward-figure l formed none sure p q h = go (right-exists (l .chain) (goals-in paid l formed) (from-in paid l formed))
   where
     at : (k : Sets) → Right (l .chain) k → Begins (l .chain) → Small p q
     at k right (won g) =
-        small (expected-one (formed-fine paid l formed) (start-in paid l formed) sure (reward-won (l .chain) (earns l) g) h)
+        small (expected-one (formed-fine paid l formed) (start-in paid l formed) sure (reward-won (l .chain) (earns paid l) g) h)
         (one-small 0 (omega arith))
     at k right (lost g) = absurd (sure (l .chain .start, FromStart.begin, g))
     at k right (live v) = live-reward paid l formed none k right v refl sure p q h
@@ -161,8 +161,8 @@ bounds-figure l formed a (BoundsFigure.live k right v p q s t f e) =
     let c = l .chain in
     let m = c .states in
     let z = lastRow l k in
-    let whole = bounds-whole c k (l .order) (formed-prepared plain l formed refl k right) (earns l) v (unpaid plain l formed refl) in
-    let all : total m z ≤ M = bounds-fit c k (earns l) (l .order) m (c .start) (start-in plain l formed) in
+    let whole = bounds-whole c k (l .order) (formed-prepared plain l formed refl k right) (earns plain l) v (unpaid plain l refl) in
+    let all : total m z ≤ M = bounds-fit c k (earns plain l) (l .order) m (c .start) (start-in plain l formed) in
     let two : cell z m + cell z (m + 2) ≤ total m z = sum-two (cell z) (m + 3) m (m + 2) (omega arith) (omega arith) (omega arith) in
     rw e
     (reduced-small _ _ p q whole (omega arith) (omega arith) (f .0), reduced-small _ _ s t whole (omega arith) (omega arith) (f .1))
