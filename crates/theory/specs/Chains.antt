@@ -1,5 +1,6 @@
 -- Edges, paths and sets of states: what is decided and counted of a chain.
 pub mod Fine
+pub mod Rewards
 pub mod Flow
 pub mod Joined
 pub mod Path

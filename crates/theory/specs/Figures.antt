@@ -6,3 +6,4 @@ pub mod Earnings
 pub mod Unique
 pub mod Below
 pub mod Existence
+pub mod Rewards

@@ -17,4 +17,6 @@ pub mod Steps
 pub mod StepsComputed
 pub mod StepsChance
 pub mod StepsStates
+pub mod EdgeRewards
+pub mod OldRewards
 pub mod Listed

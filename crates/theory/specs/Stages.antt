@@ -8,3 +8,4 @@ pub mod Fits
 pub mod Unrounded
 pub mod Last
 pub mod Records
+pub mod Rewards

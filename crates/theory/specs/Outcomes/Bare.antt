@@ -26,6 +26,19 @@ entails-at none k p h = absurd h
 entails-at (more f w) zero p h = f p h
 entails-at (more f w) (suc k) p h = entails-at w k p h
 
+-- Two inputs with the same faults are refused, or well formed, alike.
+module _ {x y : Entry} {l m : Lent} (there : Entails (faults x l) (faults y m)) (back : Entails (faults y m) (faults x l)) where
+  pub same-refused : {number place : ℕ} → Refused x l number place → Refused y m number place
+  same-refused {number} {place} r =
+      record {
+        applies = entails-at there number place (r .applies);
+        number-least = λ k p h a. r .number-least k p h (entails-at back k p a);
+        place-least = λ p h a. r .place-least p h (entails-at back number p a);
+      }
+
+  pub same-formed : WellFormed x l → WellFormed y m
+  same-formed w = record { none = λ k p a. w .none k p (entails-at back k p a) }
+
 -- 1 for one entry is 1 for another that asks no less.
 pub reshaped : {x y : Entry} {n d e o w o′ w′ : ℕ} → (e / edgeSize < x .fewest → e / edgeSize < y .fewest)
     → ((o ≡ only (x .order) n → ⊥) → o′ ≡ only (y .order) n → ⊥) → ((w ≡ only (x .rewards) n → ⊥) → w′ ≡ only (y .rewards) n → ⊥)

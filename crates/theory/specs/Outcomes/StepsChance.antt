@@ -6,26 +6,13 @@ use mathlib.Core.List.{List, [], _∷_}
 use native.Mathlib.Omega.{arith}
 use Rattle.meaning.specs.Row.{exact}
 use Rattle.meaning.specs.Step.{Sets}
-use Rattle.meaning.specs.Refusal.{Lent, withList, Entry, plain, listing, never, whole, faults, Refused, WellFormed}
+use Rattle.meaning.specs.Refusal.{Lent, withList, Entry, plain, listing, never, whole, faults}
 use Rattle.meaning.specs.Stop.{earns, Stopped, Stops, before-steps, in-step}
 use Rattle.meaning.specs.Outcome.{Outcome, refused, stopped, answered, Answer, refusal, ChanceFigure, chance, ChanceOutcome}
 use Rattle.meaning.specs.Steps.{StepRecord, StepsOutcome}
 use Rattle.theory.specs.Outcomes.Computed.{set-in}
 use Rattle.theory.specs.Outcomes.StepsComputed.{Written, written}
-use Rattle.theory.specs.Outcomes.Bare.{reshaped, Entails, none, more, entails-at}
-
--- Two inputs with the same faults are refused, or well formed, alike.
-module _ {x y : Entry} {l m : Lent} (there : Entails (faults x l) (faults y m)) (back : Entails (faults y m) (faults x l)) where
-  same-refused : {number place : ℕ} → Refused x l number place → Refused y m number place
-  same-refused {number} {place} r =
-      record {
-        applies = entails-at there number place (r .applies);
-        number-least = λ k p h a. r .number-least k p h (entails-at back k p a);
-        place-least = λ p h a. r .place-least p h (entails-at back number p a);
-      }
-
-  same-formed : WellFormed x l → WellFormed y m
-  same-formed w = record { none = λ k p a. w .none k p (entails-at back k p a) }
+use Rattle.theory.specs.Outcomes.Bare.{reshaped, Entails, none, more, same-refused, same-formed}
 
 -- Two lists of faults that differ in 1 and 2 alone.
 every-own : (fs : List (ℕ → Type 0)) → Entails fs fs
