@@ -4,10 +4,10 @@ ghost use Prim.Native.Nat.{_+_, _*_, _%_};
 ghost use lib.ListN.{length, getD};
 ghost use Rattle.chain.specs.Edge.{placed};
 ghost use Rattle.chain.specs.Decide.{decides};
-ghost use Rattle.meaning.specs.Chain.{edgeSize, edge, edgeCount, from, to, weight};
+ghost use Rattle.meaning.specs.Chain.{edgeSize, edge, edgeCount, from, to, weight, edgeReward};
 use crate::Chain;
 
-pub const SIZE: usize = 3;
+pub const SIZE: usize = 4;
 
 // The numbers of the longest list of edges.
 pub const MOST: usize = SIZE * Chain::EDGES;
@@ -51,9 +51,15 @@ pub fn weight(edges: &[u64], e: usize) -> u64
     part(edges, e, 2)
 }
 
+pub fn reward(edges: &[u64], e: usize) -> u64
+    ensures { λ r. ⌜ r ≡ edgeReward (now (edges .entry)) e ⌝ }
+{
+    part(edges, e, 3)
+}
+
 // Sets edge e, in a list that has it.
-pub fn put(edges: &mut [u64], e: usize, from: u64, to: u64, weight: u64)
-    ensures { λ _. ⌜ now (edges .exit) ≡ placed (now (edges .entry)) e (edge from to weight) ⌝ }
+pub fn put(edges: &mut [u64], e: usize, from: u64, to: u64, weight: u64, reward: u64)
+    ensures { λ _. ⌜ now (edges .exit) ≡ placed (now (edges .entry)) e (edge from to weight reward) ⌝ }
 {
     if count(edges) <= e {
         return;
@@ -62,6 +68,7 @@ pub fn put(edges: &mut [u64], e: usize, from: u64, to: u64, weight: u64)
     edges[begin] = from;
     edges[begin + 1] = to;
     edges[begin + 2] = weight;
+    edges[begin + 3] = reward;
 }
 
 // Numbers are left over past the last whole edge.

@@ -22,7 +22,7 @@ impl Chain {
     // The greatest denominator, weight, row total and Reward.
     pub const LIMIT: u64 = 2147483647;
 
-    // The greatest reward of a state.
+    // The greatest reward of a state, and of an edge.
     pub const REWARD: u64 = 65535;
 
     // The columns of a row beside its states: Goal, Trap, Unknown and Reward.

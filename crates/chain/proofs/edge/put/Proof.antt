@@ -21,7 +21,7 @@ unfolding placed
 past l e numbers h = rw (le-ltb e (edgeCount l) h)
 
 -- A list in which the numbers from p on, where edge e begins, are set one by one.
-module _ (l : List ℕ) (e p source target weight : ℕ) (begins : p ≡ edgeSize * e) (h : e < edgeCount l) where
+module _ (l : List ℕ) (e p source target weight reward : ℕ) (begins : p ≡ edgeSize * e) (h : e < edgeCount l) where
   abbrev l₁ : List ℕ
   l₁ = set l p source
 
@@ -31,15 +31,27 @@ module _ (l : List ℕ) (e p source target weight : ℕ) (begins : p ≡ edgeSiz
   abbrev l₃ : List ℕ
   l₃ = set l₂ (p + 2) weight
 
+  abbrev l₄ : List ℕ
+  l₄ = set l₃ (p + 3) reward
+
   length₁ : length l₁ ≡ length l
   length₁ = length-set l p source
 
   length₂ : length l₂ ≡ length l
   length₂ = length-set l₁ (p + 1) target ∙ length₁
 
-  number : (j : ℕ) → getD l₃ j 0 ≡ choose (eqb (j / edgeSize) e) (getD (edge source target weight) (j % edgeSize) 0) (getD l j 0)
+  length₃ : length l₃ ≡ length l
+  length₃ = length-set l₂ (p + 2) weight ∙ length₂
+
+  number : (j : ℕ) → getD l₄ j 0 ≡ choose (eqb (j / edgeSize) e) (getD (edge source target weight reward) (j % edgeSize) 0) (getD l j 0)
   number j =
       ⊎-elim
+      (λ (q : j ≡ p + 3).
+      let m : j % edgeSize ≡ 3 = omega arith in
+      rw (eq-eqb (j / edgeSize) e (omega arith), m, q) (getD-set-same l₃ (p + 3) reward 0 (omega (arith, length₃))))
+      (λ (d₃ : j ≡ p + 3 → ⊥).
+      getD-set-other l₃ (p + 3) j reward 0 d₃
+      ∙ ⊎-elim
       (λ (q : j ≡ p + 2).
       let m : j % edgeSize ≡ 2 = omega arith in
       rw (eq-eqb (j / edgeSize) e (omega arith), m, q) (getD-set-same l₂ (p + 2) weight 0 (omega (arith, length₂))))
@@ -58,15 +70,16 @@ module _ (l : List ℕ) (e p source target weight : ℕ) (begins : p ≡ edgeSiz
       (λ (d₀ : j ≡ p → ⊥). getD-set-other l p j source 0 d₀ ∙ rw (ne-eqb (j / edgeSize) e (omega arith)))
       (same j p))
       (same j (p + 1)))
-      (same j (p + 2))
+      (same j (p + 2)))
+      (same j (p + 3))
 
-  set-placed : l₃ ≡ placed l e (edge source target weight)
+  set-placed : l₄ ≡ placed l e (edge source target weight reward)
   unfolding placed
   set-placed =
-      rw (lt-ltb e (edgeCount l) h) (tab-of 0 (length l) _ l₃ (length-set l₂ (p + 2) weight ∙ length₂) (λ j _. number j))
+      rw (lt-ltb e (edgeCount l) h) (tab-of 0 (length l) _ l₄ (length-set l₃ (p + 3) reward ∙ length₃) (λ j _. number j))
 
 returns : tie.Need-returns
-returns c = let a = c .before .before .before .before .args in past (a .edges .now) (a .e) (edge (a .from) (a .to) (a .weight)) (search needs)
+returns c = let a = c .before .before .before .before .args in past (a .edges .now) (a .e) (edge (a .from) (a .to) (a .weight) (a .reward)) (search needs)
 
 slice-write-edges-2 : tie.Need-slice-write-edges-2
 slice-write-edges-2 c = simp length-set (search needs)
@@ -74,10 +87,13 @@ slice-write-edges-2 c = simp length-set (search needs)
 slice-write-edges-3 : tie.Need-slice-write-edges-3
 slice-write-edges-3 c = simp length-set (search needs)
 
+slice-write-edges-4 : tie.Need-slice-write-edges-4
+slice-write-edges-4 c = simp length-set (search needs)
+
 returns-2 : tie.Need-returns-2
 returns-2 c =
     let a = c .before .before .before .before .args in
-    set-placed (a .edges .now) (a .e) _ (a .from) (a .to) (a .weight) refl (search needs)
+    set-placed (a .edges .now) (a .e) _ (a .from) (a .to) (a .weight) (a .reward) refl (search needs)
 
 pub put-spec : {M : Type 1} → statement M
 put-spec =
@@ -95,5 +111,8 @@ put-spec =
     (λ c. search needs)
     (λ c. search needs)
     slice-write-edges-3
+    (λ c. search needs)
+    (λ c. search needs)
+    slice-write-edges-4
     (λ c. search needs)
     returns-2)
