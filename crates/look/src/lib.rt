@@ -7,6 +7,7 @@ ghost use Rattle.look.specs.Says.{Looks, own, Shaped};
 use chain::Chain;
 
 mod pairs;
+pub mod rewards;
 pub mod scan;
 pub mod shape;
 mod sums;

@@ -3,7 +3,7 @@ ghost use mathlib.Core.Path.{_≡_};
 ghost use lib.ListN.{length};
 ghost use Rattle.look.specs.Least.{least};
 ghost use Rattle.chain.specs.Decide.{decides};
-ghost use Rattle.meaning.specs.Refusal.{OutOfRange, DenominatorFault, EndFault, WeightFault, Earlier, OrderFault, RewardFault};
+ghost use Rattle.meaning.specs.Refusal.{OutOfRange, DenominatorFault, EndFault, WeightFault, Earlier, OrderFault};
 use chain::Chain;
 use chain::edge;
 use chain::table::at;
@@ -97,20 +97,6 @@ pub fn order(n: usize, order: &[u64]) -> Place
             return Place::At(p);
         }
         p += 1;
-    }
-    Place::Nowhere
-}
-
-// The first of the rewards of n states that is too large.
-pub fn rewards(n: usize, rewards: &[u64]) -> Place
-    ensures { λ r. ⌜ least (RewardFault n (now (rewards .entry))) r ⌝ }
-{
-    let mut i = 0;
-    while i < n {
-        if Chain::REWARD < at(rewards, i) {
-            return Place::At(i);
-        }
-        i += 1;
     }
     Place::Nowhere
 }

@@ -129,10 +129,17 @@ Earlier order p = (o : ℕ) × ((o < p) × (getD order o 0 ≡ getD order p 0))
 abbrev pub OrderFault : ℕ → List ℕ → ℕ → Type 0
 OrderFault n order p = (p < n) × ((n ≤ getD order p 0) ⊎ Earlier order p)
 
--- 11: the reward of state i is above 65,535, at place i; or that of edge e, at place 64 + e.
+-- The reward of state i is above 65,535; that of edge e is.
+abbrev pub StateRewardFault : ℕ → List ℕ → ℕ → Type 0
+StateRewardFault n rewards i = (i < n) × (mostReward < getD rewards i 0)
+
+abbrev pub EdgeRewardFault : List ℕ → ℕ → Type 0
+EdgeRewardFault edges e = (e < edgeCount edges) × (mostReward < edgeReward edges e)
+
+-- 11: the reward of a state is too large, at the state; or that of an edge, at 64 plus its index.
 pub data RewardFault (n : ℕ) (rewards edges : List ℕ) : ℕ → Type 0 where
-  of-state : (i : ℕ) → i < n → mostReward < getD rewards i 0 → RewardFault n rewards edges i
-  of-edge : (e : ℕ) → e < edgeCount edges → mostReward < edgeReward edges e → RewardFault n rewards edges (mostStates + e)
+  of-state : (i : ℕ) → StateRewardFault n rewards i → RewardFault n rewards edges i
+  of-edge : (e : ℕ) → EdgeRewardFault edges e → RewardFault n rewards edges (mostStates + e)
 
 -- A fault of the whole has place 0.
 abbrev pub whole : Type 0 → ℕ → Type 0

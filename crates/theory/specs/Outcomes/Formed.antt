@@ -136,10 +136,10 @@ module _ (x : Entry) (l : Lent) (formed : WellFormed x l) where
     reward-fault p f = formed .none 11 p (lends (x .rewards) (RewardFault (c .states) (l .rewards) (c .edges)) p lent f)
 
     pub reward-small : (i : ℕ) → i < c .states → getD (l .rewards) i 0 ≤ mostReward
-    reward-small i h = atMost _ _ (λ k. reward-fault i (of-state i h k))
+    reward-small i h = atMost _ _ (λ k. reward-fault i (of-state i (h, k)))
 
     pub edge-reward-small : (e : ℕ) → e < edgeCount (c .edges) → edgeReward (c .edges) e ≤ mostReward
-    edge-reward-small e h = atMost _ _ (λ k. reward-fault (mostStates + e) (of-edge e h k))
+    edge-reward-small e h = atMost _ _ (λ k. reward-fault (mostStates + e) (of-edge e (h, k)))
 
 -- Nothing is earned in an entry that is lent no rewards.
 pub unpaid : (x : Entry) (l : Lent) → x .rewards ≡ false → (i : ℕ) → earns x l i ≡ 0

@@ -9,7 +9,7 @@ use native.Mathlib.Decide.{ℕ-discrete, decLe, decLt}
 use lib.ListN.{length, getD}
 use Rattle.meaning.specs.Number.{only}
 use Rattle.meaning.specs.Chain.{mostStates, mostEdges, M, mostReward, edgeSize, edgeCount, from, to, weight, edgeReward, rowSum}
-use Rattle.meaning.specs.Refusal.{Lent, Entry, Misshaped, no-states, many-states, denominators-length, edges-ragged, many-edges, few-edges, order-length, rewards-length, GoalFault, OutOfRange, Same, RewardFault, of-state, of-edge, whole, never, lentFault, faults, Refused, WellFormed}
+use Rattle.meaning.specs.Refusal.{Lent, Entry, Misshaped, no-states, many-states, denominators-length, edges-ragged, many-edges, few-edges, order-length, rewards-length, GoalFault, OutOfRange, Same, StateRewardFault, EdgeRewardFault, RewardFault, of-state, of-edge, whole, never, lentFault, faults, Refused, WellFormed}
 use Rattle.theory.specs.Numbers.Search.{turned, either, NoneBefore, LeastPlace, at, nowhere, clear-none, search-least, ranged, anywhere}
 
 module _ (x : Entry) (states denominators edges order rewards : ℕ) where
@@ -68,25 +68,23 @@ sames edges d e = Dec·and (ℕ-discrete (from edges d) (from edges e)) (ℕ-dis
 -- The places of 11: those of the states, and those of the edges from 64 on.
 module _ (n : ℕ) (rewards edges : List ℕ) where
   abbrev pub Overpaid : ℕ → Type 0
-  Overpaid p =
-      ((p < n) × (mostReward < getD rewards p 0))
-      ⊎ ((mostStates ≤ p) × ((p - mostStates < edgeCount edges) × (mostReward < edgeReward edges (p - mostStates))))
+  Overpaid p = StateRewardFault n rewards p ⊎ ((mostStates ≤ p) × EdgeRewardFault edges (p - mostStates))
 
   pub overpaid-in : (p : ℕ) → Overpaid p → RewardFault n rewards edges p
-  overpaid-in p (inl h) = of-state p (h .0) (h .1)
+  overpaid-in p (inl h) = of-state p h
   overpaid-in p (inr h) =
       let e : mostStates + (p - mostStates) ≡ p = omega (arith, h .0) in
-      subst (RewardFault n rewards edges) e (of-edge (p - mostStates) (h .1 .0) (h .1 .1))
+      subst (RewardFault n rewards edges) e (of-edge (p - mostStates) (h .1))
 
   pub overpaid-out : (p : ℕ) → RewardFault n rewards edges p → Overpaid p
-  overpaid-out _ (of-state i h k) = inl (h, k)
-  overpaid-out _ (of-edge e h k) =
+  overpaid-out _ (of-state i h) = inl h
+  overpaid-out _ (of-edge e h) =
       let z : mostStates + e - mostStates ≡ e = omega arith in
-      inr (omega arith, (omega (arith, h), rw z k))
+      inr (omega arith, rw z h)
 
   pub overpaid-inside : (p : ℕ) → RewardFault n rewards edges p → p < n + mostStates + edgeCount edges
-  overpaid-inside _ (of-state i h k) = omega (arith, h)
-  overpaid-inside _ (of-edge e h k) = omega (arith, h)
+  overpaid-inside _ (of-state i h) = omega (arith, h .0)
+  overpaid-inside _ (of-edge e h) = omega (arith, h .0)
 
   unfoldable pub overpaid : LeastPlace (RewardFault n rewards edges)
   unfolding search-least turned either Dec·and decLt decLe

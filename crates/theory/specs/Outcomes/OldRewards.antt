@@ -5,20 +5,15 @@ use mathlib.Core.Logic.{_↔_}
 use mathlib.Core.List.{List}
 use native.Mathlib.Omega.{arith}
 use native.Mathlib.Nat.{mul-le-mul}
-use lib.ListN.{getD}
 use Rattle.meaning.specs.Chain.{M, mostReward, denominator, edgeCount, edgeReward, edgeRewards}
 use Rattle.meaning.specs.Figure.{Missed}
 use Rattle.meaning.specs.Row.{exact}
-use Rattle.meaning.specs.Refusal.{Lent, paid, RewardFault, of-state, of-edge, WellFormed}
+use Rattle.meaning.specs.Refusal.{Lent, paid, StateRewardFault, RewardFault, of-state, of-edge, WellFormed}
 use Rattle.meaning.specs.Stop.{rewardOf, earns, Stopped}
 use Rattle.meaning.specs.Outcome.{Outcome, refused, stopped, answered, Answer, refusal, fraction, infinite, RewardFigure, RewardOutcome}
 use Rattle.theory.specs.Chains.Rewards.{edge-rewards-most}
 use Rattle.theory.specs.Figures.Rewards.{oldEarned, OldExpected, earned-old, expected-old}
 use Rattle.theory.specs.Outcomes.Formed.{row-sum, denominator-small, reward-small, edge-reward-small}
-
--- 11 as it was: the reward of state i is above 65,535.
-abbrev pub OldRewardFault : ℕ → List ℕ → ℕ → Type 0
-OldRewardFault n rewards i = (i < n) × (mostReward < getD rewards i 0)
 
 -- The first rows as they were: the state's reward times the row total.
 abbrev pub oldEarns : Lent → ℕ → ℕ
@@ -36,13 +31,13 @@ abbrev pub OldRewardOutcome : Lent → Answer → List ℕ → Type 0
 OldRewardOutcome l = Outcome paid l refusal (OldRewardStop l) (OldRewardFigure l)
 
 module _ (l : Lent) (none : (e : ℕ) → e < edgeCount (l .chain .edges) → edgeReward (l .chain .edges) e ≡ 0) where
-  -- 11 is what it was.
-  pub fault-old : (p : ℕ) → RewardFault (l .chain .states) (l .rewards) (l .chain .edges) p ↔ OldRewardFault (l .chain .states) (l .rewards) p
-  fault-old p = (go, λ h. of-state p (h .0) (h .1))
+  -- 11 is what it was: a state's.
+  pub fault-old : (p : ℕ) → RewardFault (l .chain .states) (l .rewards) (l .chain .edges) p ↔ StateRewardFault (l .chain .states) (l .rewards) p
+  fault-old p = (go, of-state p)
     where
-      go : {p : ℕ} → RewardFault (l .chain .states) (l .rewards) (l .chain .edges) p → OldRewardFault (l .chain .states) (l .rewards) p
-      go (of-state i h k) = (h, k)
-      go (of-edge e h k) = absurd (omega (arith, k, none e h))
+      go : {p : ℕ} → RewardFault (l .chain .states) (l .rewards) (l .chain .edges) p → StateRewardFault (l .chain .states) (l .rewards) p
+      go (of-state i h) = h
+      go (of-edge e h) = absurd (omega (arith, h .1, none e (h .0)))
 
   -- So is every first row, and with it every table.
   pub earns-old : earns paid l ≡ oldEarns l

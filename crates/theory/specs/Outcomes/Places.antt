@@ -66,8 +66,8 @@ faults-within x l states edges = (
 )
   where
     paid-within : (p : ℕ) → RewardFault (l .chain .states) (l .rewards) (l .chain .edges) p → p ≤ mostStates + mostEdges
-    paid-within _ (of-state i h k) = omega (arith, h)
-    paid-within _ (of-edge e h k) = omega (arith, h)
+    paid-within _ (of-state i h) = omega (arith, h .0)
+    paid-within _ (of-edge e h) = omega (arith, h .0)
 
 -- A refusal's number is 1 to 11, and its place is at most the greatest numbers of states and edges together.
 pub refused-places : {x : Entry} {l : Lent} (number place : ℕ) → Refused x l number place → (1 ≤ number) × (number ≤ 11) × (place ≤ mostStates + mostEdges)

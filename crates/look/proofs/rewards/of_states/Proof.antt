@@ -1,14 +1,14 @@
 use Prim.Native.Nat.{_-_}
 use native.Mathlib.Omega.{arith}
 use borrow.Author.Needs.{needs}
-use Rattle.meaning.specs.Refusal.{RewardFault}
+use Rattle.meaning.specs.Refusal.{StateRewardFault}
 use Rattle.chain.proofs.Passing.{NoneBelow, pass, done}
 use Rattle.look.proofs.Found.{stop}
-use Rattle.look.proofs.scan.rewards.Statement.{statement}
-use Rattle.look.proofs.scan.rewards.Tie as tie
+use Rattle.look.proofs.rewards.of_states.Statement.{statement}
+use Rattle.look.proofs.rewards.of_states.Tie as tie
 
 abbrev Inv-loop : tie.InvT-loop
-Inv-loop n rewards i₀ i = NoneBelow (RewardFault n rewards) n i
+Inv-loop n rewards i₀ i = NoneBelow (StateRewardFault n rewards) n i
 
 abbrev μ-loop : tie.MeasureT-loop
 μ-loop n rewards i₀ i = n - i
@@ -23,8 +23,8 @@ loop-again c =
 returns-2 : tie.Need-returns-2 Inv-loop μ-loop
 returns-2 c = done (c .before .loop .inv) (search needs) (λ k bad. bad .0)
 
-pub rewards-spec : {M : Type 1} → statement M
-rewards-spec =
+pub of-states-spec : {M : Type 1} → statement M
+of-states-spec =
     tie.close
     (tie.spec
     Inv-loop
