@@ -6,7 +6,7 @@ use mathlib.Core.Logic.{⊎-elim}
 use mathlib.Core.List.{List}
 use native.Mathlib.Omega.{arith}
 use Rattle.meaning.specs.Chain.{mostStates, mostEdges}
-use Rattle.meaning.specs.Block.{Input, numberAt, countAt, recordsAt, checkAt, recordSize, headStates, headEdges, headZeros}
+use Rattle.meaning.specs.Block.{Input, numberAt, countAt, recordsAt, checkAt, recordSize, firstVersion, versionIn, headStates, headEdges, headZeros}
 use Rattle.meaning.specs.File.{NonZero, HeadFault, FlagFault, ReservedFault, ContentFault, kindOf, countOf}
 use Rattle.chain.specs.Decide.{decides}
 use Rattle.chainfile.specs.Input.{input}
@@ -48,21 +48,21 @@ module _ {kept : List ℕ} {b count : ℕ} (fr : Framed kept b count) (more : �
   content-head k (ContentFault.rest-wrong w) = absurd (rest-right w)
   content-head k (ContentFault.record-wrong k′ w) = w
   content-head k (ContentFault.flag-wrong k′ w) = absurd (omega arith)
-  content-head k (ContentFault.reserved-wrong k′ w) = absurd (omega arith)
+  content-head k (ContentFault.reserved-wrong k′ v w) = absurd (omega arith)
 
   content-flag : kindOf f b ≡ 2 → ContentFault f b → FlagFault f (recordsAt b) count
   content-flag k (ContentFault.count-wrong w) = absurd (counts-right w)
   content-flag k (ContentFault.rest-wrong w) = absurd (rest-right w)
   content-flag k (ContentFault.record-wrong k′ w) = absurd (omega arith)
   content-flag k (ContentFault.flag-wrong k′ w) = subst (FlagFault f (recordsAt b)) (sym (fr .counted)) w
-  content-flag k (ContentFault.reserved-wrong k′ w) = absurd (omega arith)
+  content-flag k (ContentFault.reserved-wrong k′ v w) = absurd (omega arith)
 
-  content-reserved : kindOf f b ≡ 3 → ContentFault f b → ReservedFault f (recordsAt b) count
+  content-reserved : kindOf f b ≡ 3 → ContentFault f b → (versionIn f b ≡ firstVersion) × ReservedFault f (recordsAt b) count
   content-reserved k (ContentFault.count-wrong w) = absurd (counts-right w)
   content-reserved k (ContentFault.rest-wrong w) = absurd (rest-right w)
   content-reserved k (ContentFault.record-wrong k′ w) = absurd (omega arith)
   content-reserved k (ContentFault.flag-wrong k′ w) = absurd (omega arith)
-  content-reserved k (ContentFault.reserved-wrong k′ w) = subst (ReservedFault f (recordsAt b)) (sym (fr .counted)) w
+  content-reserved k (ContentFault.reserved-wrong k′ v w) = (v, subst (ReservedFault f (recordsAt b)) (sym (fr .counted)) w)
 
   pub head-decides : kindOf f b ≡ 1 → (r : Bool) → decides (HeadFault f) r → decides (ContentFault f b) r
   head-decides k r d = carry _ _ r d (ContentFault.record-wrong k) (content-head k)
@@ -71,6 +71,7 @@ module _ {kept : List ℕ} {b count : ℕ} (fr : Framed kept b count) (more : �
   flag-decides k r d =
       carry _ _ r d (λ w. ContentFault.flag-wrong k (subst (FlagFault f (recordsAt b)) (fr .counted) w)) (content-flag k)
 
-  pub reserved-decides : kindOf f b ≡ 3 → (r : Bool) → decides (ReservedFault f (recordsAt b) count) r → decides (ContentFault f b) r
+  pub reserved-decides : kindOf f b ≡ 3 → (r : Bool) → decides ((versionIn f b ≡ firstVersion) × ReservedFault f (recordsAt b) count) r
+      → decides (ContentFault f b) r
   reserved-decides k r d =
-      carry _ _ r d (λ w. ContentFault.reserved-wrong k (subst (ReservedFault f (recordsAt b)) (fr .counted) w)) (content-reserved k)
+      carry _ _ r d (λ w. ContentFault.reserved-wrong k (w .0) (subst (ReservedFault f (recordsAt b)) (fr .counted) (w .1))) (content-reserved k)

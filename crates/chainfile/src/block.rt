@@ -1,8 +1,8 @@
 // The test of one block: 21 to 24 in turn.
 ghost use mathlib.Core.Path.{_≡_};
 ghost use Prim.Native.Nat.{ℕ, _*_, _-_, _≤_, _<_, min};
-ghost use Rattle.meaning.specs.Block.{fullBlock};
-ghost use Rattle.meaning.specs.File.{CheckFault, BlockNumberFault, VersionFault, KindFault, ContentFault, kindOf, countOf};
+ghost use Rattle.meaning.specs.Block.{recordsAt, fullBlock, firstVersion, versionIn};
+ghost use Rattle.meaning.specs.File.{CheckFault, BlockNumberFault, VersionFault, KindFault, ReservedFault, ContentFault, kindOf, countOf};
 ghost use Rattle.chain.specs.Decide.{decides};
 ghost use Rattle.chainfile.specs.Input.{input, mostBlocks};
 ghost use Rattle.chainfile.specs.Tells.{tested};
@@ -113,6 +113,20 @@ pub fn count(kept: &[u8], b: usize) -> usize
     }
 }
 
+// In version 1 an edge has a reserved byte that is not 0; in version 2 its reward stands there.
+fn edges_wrong(kept: &[u8], b: usize, count: usize) -> bool
+    requires { ⌜ (b < mostBlocks) × (count ≤ fullBlock) ⌝ }
+    ensures { λ r.
+        let f = input (now (kept .entry)) 0 in
+        ⌜ decides ((versionIn f b ≡ firstVersion) × ReservedFault f (recordsAt b) count) r ⌝ }
+{
+    let at = layout::BLOCK * b;
+    if bytes::byte(kept, at + layout::VERSION) != layout::FIRST {
+        return false;
+    }
+    records::reserved_wrong(kept, at + layout::RECORDS, count)
+}
+
 // 24: count, flag or reserved byte wrong.
 fn content_wrong(kept: &[u8], b: usize) -> bool
     requires { ⌜ b < mostBlocks ⌝ }
@@ -131,7 +145,7 @@ fn content_wrong(kept: &[u8], b: usize) -> bool
     match kind {
         layout::HEAD => records::head_wrong(kept),
         layout::STATE => records::flag_wrong(kept, begin, count),
-        _ => records::reserved_wrong(kept, begin, count),
+        _ => edges_wrong(kept, b, count),
     }
 }
 

@@ -87,7 +87,8 @@ fn edge_numbers(kept: &[u8], table: &mut [u64])
         let from = bytes::byte(kept, at + layout::FROM);
         let to = bytes::byte(kept, at + layout::TO);
         let weight = bytes::number(kept, at + layout::WEIGHT, layout::QUAD);
-        edge::put(table, e, from, to, weight);
+        let reward = bytes::number(kept, at + layout::EDGE_REWARD, layout::PAIR);
+        edge::put(table, e, from, to, weight, reward);
         e += 1;
     }
 }

@@ -63,11 +63,11 @@ pub const FLAG: usize = 6;
 
 pub const ORDER: usize = 7;
 
-// An edge's record, and where its reserved bytes begin.
+// An edge's record. In version 1 two zeros stand where the reward does.
 pub const FROM: usize = 0;
 
 pub const TO: usize = 1;
 
-pub const EDGE_REST: usize = 2;
+pub const EDGE_REWARD: usize = 2;
 
 pub const WEIGHT: usize = 4;

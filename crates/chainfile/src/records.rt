@@ -49,7 +49,7 @@ pub(crate) fn flag_wrong(kept: &[u8], at: usize, count: usize) -> bool
     false
 }
 
-// Of `count` edges' records from byte `at` on, one has a reserved byte that is not 0.
+// Of `count` edges' records of version 1 from byte `at` on, one has a reserved byte that is not 0.
 pub(crate) fn reserved_wrong(kept: &[u8], at: usize, count: usize) -> bool
     requires { ⌜ at + recordSize * count ≤ end ⌝ }
     ensures { λ r. ⌜ decides (ReservedFault (input (now (kept .entry)) 0) at count) r ⌝ }
@@ -57,7 +57,7 @@ pub(crate) fn reserved_wrong(kept: &[u8], at: usize, count: usize) -> bool
     let mut i = 0;
     while i < count {
         let begin = at + layout::RECORD * i;
-        if bytes::written(kept, begin + layout::EDGE_REST, begin + layout::WEIGHT) {
+        if bytes::written(kept, begin + layout::EDGE_REWARD, begin + layout::WEIGHT) {
             return true;
         }
         i += 1;

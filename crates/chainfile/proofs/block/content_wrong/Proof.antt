@@ -43,8 +43,9 @@ inside c = let n = c .before .before .before .before .before in omega (arith, n 
 flag-wrong-requires : tie.Need-flag-wrong-requires
 flag-wrong-requires c κs = inside (c .before)
 
-reserved-wrong-requires : tie.Need-reserved-wrong-requires
-reserved-wrong-requires c κs = inside (c .before)
+edges-wrong-requires : tie.Need-edges-wrong-requires
+edges-wrong-requires c κs =
+    let n = c .before .before .before .before .before .before in (n .before .before .pre, n .count .ensures .1)
 
 returns-3 : tie.Need-returns-3
 returns-3 c = λ more.
@@ -63,7 +64,7 @@ returns-5 c = λ more.
     let e = t .kind .ensures in
     let rest = c .before .match .rest in
     let k = third (input (a .kept .now) more) (a .b) (λ k. rest .0 .1 (e ∙ k)) (λ k. rest .1 (e ∙ k)) in
-    reserved-decides (framed t) more k (c .reserved-wrong .result) (c .reserved-wrong .ensures)
+    reserved-decides (framed t) more k (c .edges-wrong .result) (c .edges-wrong .ensures)
 
 pub content-wrong-spec : {M : Type 1} → statement M
 content-wrong-spec =
@@ -83,7 +84,7 @@ content-wrong-spec =
     (λ c κs. search needs)
     (λ c κs. search needs)
     flag-wrong-requires
-    reserved-wrong-requires
+    edges-wrong-requires
     returns-3
     returns-4
     returns-5)

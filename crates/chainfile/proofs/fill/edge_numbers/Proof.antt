@@ -32,7 +32,8 @@ place c =
 loop-again : tie.Need-loop-again Inv-loop μ-loop
 loop-again c =
     let put = c .before .before in
-    let number = put .before .before in
+    let reward = put .before .before in
+    let number = reward .before in
     let n = number .before .before .before in
     let at = n .before .before in
     let s = at .before .before .before .before .before in
@@ -41,7 +42,8 @@ loop-again c =
     let v₁ = number .before .before .byte .ensures .0 ∙ ap (λ z. getD (a .kept .now) z 0) (add-zero _ ∙ place n) in
     let v₂ = number .before .byte2 .ensures .0 ∙ ap (λ z. getD (a .kept .now) (z + 1) 0) (place n) in
     let v₃ = number .number .ensures .0 ∙ ap (λ z. numberAt f (z + 4) 4) (place n) in
-    let new = put .put .ensures ∙ ap (placed _ (at .loop .e)) (λ i. edge (v₁ i) (v₂ i) (v₃ i)) in
+    let v₄ = reward .number2 .ensures .0 ∙ ap (λ z. numberAt f (z + 2) 2) (place n) in
+    let new = put .put .ensures ∙ ap (placed _ (at .loop .e)) (λ i. edge (v₁ i) (v₂ i) (v₃ i) (v₄ i)) in
     let room : edgeSize * (at .loop .e + 1) ≤ length (a .table .now) = omega (arith, at .before .before .edges .ensures .0, s .pre .1) in
     (search needs, subst (Filled _ _ _) (sym new) (more-edge (edgeIn f) (at .loop .e) {before = a .table .now} (at .loop .inv .1) room))
 
@@ -61,6 +63,8 @@ edge-numbers-spec =
     (λ c κs. search needs)
     (λ c. search needs)
     loop-holds
+    (λ c κs. search needs)
+    (λ c. search needs)
     (λ c κs. search needs)
     (λ c. search needs)
     (λ c κs. search needs)

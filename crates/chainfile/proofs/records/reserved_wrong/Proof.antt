@@ -1,7 +1,7 @@
 use Prim.Native.Nat.{_+_, _*_, _-_}
 use native.Mathlib.Omega.{arith}
 use borrow.Author.Needs.{needs}
-use Rattle.meaning.specs.Block.{recordSize, edgeZeros, weightByte}
+use Rattle.meaning.specs.Block.{recordSize, edgeRewardByte, weightByte}
 use Rattle.meaning.specs.File.{NonZero}
 use Rattle.chain.proofs.Law.{holds, fails}
 use Rattle.chain.proofs.Passing.{NoneBelow, pass}
@@ -10,7 +10,7 @@ use Rattle.chainfile.proofs.records.reserved_wrong.Statement.{statement
 use Rattle.chainfile.proofs.records.reserved_wrong.Tie as tie
 
 abbrev Inv-loop : tie.InvT-loop
-Inv-loop kept at count i₀ i = NoneBelow (λ k. NonZero (input kept 0) (at + recordSize * k + edgeZeros) (at + recordSize * k + weightByte)) count i
+Inv-loop kept at count i₀ i = NoneBelow (λ k. NonZero (input kept 0) (at + recordSize * k + edgeRewardByte) (at + recordSize * k + weightByte)) count i
 
 abbrev μ-loop : tie.MeasureT-loop
 μ-loop kept at count i₀ i = count - i
