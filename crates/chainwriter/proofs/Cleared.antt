@@ -29,6 +29,7 @@ use Rattle.theory.specs.Outcomes.Formed.{
   order-in,
   rewards-length,
   reward-small,
+  edge-reward-small,
 }
 use Rattle.chainwriter.specs.Packed.{Fitting}
 use Rattle.chainwriter.specs.Made.{Block, Filed}
@@ -64,6 +65,8 @@ module _ (l : Lent) (formed : WellFormed filing l) (w : List ℕ) where
         from = λ e. past (l .chain .edges) (edgeSize * e) (omega arith) (λ k. omega (arith, from-in filing l formed e (omega arith)));
         to = λ e. past (l .chain .edges) (edgeSize * e + 1) (omega arith) (λ k. omega (arith, to-in filing l formed e (omega arith)));
         weight = λ e. past (l .chain .edges) (edgeSize * e + 2) (omega arith) (λ k. omega (arith, weight-small filing l formed e (omega arith)));
+        edge-rewards = λ e.
+            past (l .chain .edges) (edgeSize * e + 3) (omega arith) (λ k. omega (arith, edge-reward-small filing l formed refl e (omega arith)));
       }
 
 -- The file is the front of the buffer, and the rest of the buffer is as it was.

@@ -7,7 +7,7 @@ use native.Mathlib.Omega.{arith}
 use lib.ListN.{getD}
 use borrow.Author.Tests.{eq-eqb, ne-eqb, lt-ltb, le-ltb, le-leb, lt-leb}
 use Rattle.meaning.specs.Number.{bit}
-use Rattle.meaning.specs.Chain.{edgeCount, from, to, weight}
+use Rattle.meaning.specs.Chain.{edgeCount, from, to, weight, edgeReward}
 use Rattle.meaning.specs.Refusal.{Lent}
 use Rattle.meaning.specs.Block.{Input, numberAt, recordSize, fullBlock, stateBlocks}
 use Rattle.theory.specs.Numbers.Sum.{sum-ext}
@@ -37,22 +37,15 @@ pub record StateFields (x d r g o : ℕ) : Type 0 where
 pub state-fields : (d r g o : ℕ) → d < 4294967296 → r < 65536 → g < 2 → o < 256 → StateFields (stateRecord d r g o) d r g o
 state-fields d r g o h k m q = record { denominator = omega arith; reward = omega arith; flag = omega arith; order = omega arith }
 
-pub record EdgeFields (x s t w : ℕ) : Type 0 where
+pub record EdgeFields (x s t w r : ℕ) : Type 0 where
   pub source : x / 256 ^ 0 % 256 ≡ s
   pub target : x / 256 ^ 1 % 256 ≡ t
-  pub low : x / 256 ^ 2 % 256 ≡ 0
-  pub high : x / 256 ^ 3 % 256 ≡ 0
+  pub pays : x / 256 ^ 2 % 256 ^ 2 ≡ r
   pub weighs : x / 256 ^ 4 % 256 ^ 4 ≡ w
 
-pub edge-fields : (s t w : ℕ) → s < 256 → t < 256 → w < 4294967296 → EdgeFields (edgeRecord s t w) s t w
-edge-fields s t w h k m =
-    record {
-      source = omega (arith, div-one (edgeRecord s t w));
-      target = omega arith;
-      low = omega arith;
-      high = omega arith;
-      weighs = omega arith;
-    }
+pub edge-fields : (s t w r : ℕ) → s < 256 → t < 256 → w < 4294967296 → r < 65536 → EdgeFields (edgeRecord s t w r) s t w r
+edge-fields s t w r h k m q =
+    record { source = omega (arith, div-one (edgeRecord s t w r)); target = omega arith; pays = omega arith; weighs = omega arith }
 
 pub head-zeros : (n s e k : ℕ) → n < 256 → s < 256 → e < 65536 → 4 ≤ k → headRecord n s e / 256 ^ k % 256 ≡ 0
 head-zeros n s e k h l m q =
@@ -80,7 +73,7 @@ module _ (l : Lent) (kind count begin i : ℕ) (h : i < count) where
   slot-state e k z = slot-some ∙ rw (ne-eqb kind 1 (λ q. omega arith), eq-eqb kind 2 e, z)
 
   pub slot-edge : kind ≡ 3 → (k : ℕ) → begin + i ≡ k
-      → slotOf l kind count begin i ≡ edgeRecord (from (l .chain .edges) k) (to (l .chain .edges) k) (weight (l .chain .edges) k)
+      → slotOf l kind count begin i ≡ edgeRecord (from (l .chain .edges) k) (to (l .chain .edges) k) (weight (l .chain .edges) k) (edgeReward (l .chain .edges) k)
   unfolding recordOf
   slot-edge e k z = slot-some ∙ rw (ne-eqb kind 1 (λ q. omega arith), ne-eqb kind 2 (λ q. omega arith), z)
 

@@ -7,7 +7,7 @@ use native.Mathlib.Nat.{div-one}
 use native.Mathlib.Omega.{arith}
 use lib.ListN.{length, getD}
 use Rattle.meaning.specs.Number.{sumTo, bit}
-use Rattle.meaning.specs.Chain.{edgeSize, edgeNumber, edgeCount, from, to, weight}
+use Rattle.meaning.specs.Chain.{edgeSize, edgeNumber, edgeCount, from, to, weight, edgeReward}
 use Rattle.meaning.specs.Refusal.{Lent}
 use Rattle.meaning.specs.Block.{
   Input,
@@ -34,7 +34,7 @@ use Rattle.meaning.specs.Block.{
   flagIn,
   orderIn,
 }
-use Rattle.meaning.specs.File.{kindOf, countOf, HeadFault, FlagFault, ReservedFault, edgeIn, chainIn, ordersIn, rewardsIn}
+use Rattle.meaning.specs.File.{kindOf, countOf, HeadFault, FlagFault, edgeIn, chainIn, ordersIn, rewardsIn}
 use Rattle.meaning.specs.Write.{Bytes, FileOf}
 use Rattle.theory.specs.Numbers.Sum.{below, sum-ext}
 use Rattle.theory.specs.Numbers.Tab.{tab-of}
@@ -94,10 +94,11 @@ module _ (l : Lent) (file : List ℕ) (fits : Fitting l)
   state-at i = state-fields _ _ _ _ (fits .denominators i) (fits .rewards i) (omega arith) (fits .order i)
 
   abbrev edgeOf : ℕ → ℕ
-  edgeOf e = edgeRecord (from (l .chain .edges) e) (to (l .chain .edges) e) (weight (l .chain .edges) e)
+  edgeOf e = edgeRecord (from (l .chain .edges) e) (to (l .chain .edges) e) (weight (l .chain .edges) e) (edgeReward (l .chain .edges) e)
 
-  edge-of : (e : ℕ) → EdgeFields (edgeOf e) (from (l .chain .edges) e) (to (l .chain .edges) e) (weight (l .chain .edges) e)
-  edge-of e = edge-fields _ _ _ (fits .from e) (fits .to e) (fits .weight e)
+  edge-of : (e : ℕ)
+      → EdgeFields (edgeOf e) (from (l .chain .edges) e) (to (l .chain .edges) e) (weight (l .chain .edges) e) (edgeReward (l .chain .edges) e)
+  edge-of e = edge-fields _ _ _ _ (fits .from e) (fits .to e) (fits .weight e) (fits .edge-rewards e)
 
   -- Every block is of version 2.
   version-of : (b : ℕ) → b < demanded f → versionIn f b ≡ secondVersion
@@ -134,20 +135,6 @@ module _ (l : Lent) (file : List ℕ) (fits : Fitting l)
         let e = block .slots r (omega (arith, w .1 .0, count-most f b)) 6 (omega arith) ∙ ap (λ x. x / 256 ^ 6 % 256) s in
         omega (arith, e, w .1 .1, state-at (beginOf f b + r) .flag)
 
-    reserved-right : kindOf f b ≡ 3 → ReservedFault f (recordsAt b) (countOf f b) → ⊥
-    reserved-right k w =
-        let r = w .0 in
-        let h = w .1 .0 in
-        let s = slot-edge l (kindOf f b) (countOf f b) (beginOf f b) r h k _ refl in
-        let stands : Stands file (recordsAt b + recordSize * r) recordSize _ =
-        λ t q. block .slots r (omega (arith, h, count-most f b)) t q ∙ ap (λ x. x / 256 ^ t % 256) s in
-        let e = edge-of (beginOf f b + r) in
-        nonzero f
-        (λ j p q.
-        ⊎-elim (λ (z : j < recordsAt b + recordSize * r + 3). ap (byte f) (omega arith) ∙ stands 2 (omega arith) ∙ e .low)
-        (λ (z : recordsAt b + recordSize * r + 3 ≤ j). ap (byte f) (omega arith) ∙ stands 3 (omega arith) ∙ e .high)
-        (below j (recordsAt b + recordSize * r + 3))) (w .1 .1)
-
     head-right : HeadFault f → ⊥
     head-right =
         ⊎-elim
@@ -172,7 +159,7 @@ module _ (l : Lent) (file : List ℕ) (fits : Fitting l)
           rest = rest;
           head = λ k. head-right;
           flags = flag-right;
-          reserved = reserved-right;
+          reserved = λ k v. absurd (omega (arith, v, version-of b here));
         }
 
   -- A state's record, and an edge's.
@@ -236,7 +223,12 @@ module _ (l : Lent) (file : List ℕ) (fits : Fitting l)
       ⊎-elim
       (λ (y : t < 2). let o : t ≡ 1 = omega arith in rw o (edge-stands e h 1 (omega arith) ∙ edge-of e .target))
       (λ (y : 2 ≤ t).
+      ⊎-elim
+      (λ (x : t < 3).
       let o : t ≡ 2 = omega arith in rw o (field file (edgeAt f e) _ (edge-stands e h) 4 4 (omega arith) ∙ edge-of e .weighs))
+      (λ (x : 3 ≤ t).
+      let o : t ≡ 3 = omega arith in rw o (field file (edgeAt f e) _ (edge-stands e h) 2 2 (omega arith) ∙ edge-of e .pays))
+      (below t 3))
       (below t 2))
       (below t 1)
 

@@ -4,7 +4,7 @@ use mathlib.Core.Path.{_≡_}
 use lib.ListN.{length, getD}
 use lib.Dec.{eqb, leb, ltb}
 use Rattle.meaning.specs.Number.{choose, bit}
-use Rattle.meaning.specs.Chain.{mostStates, mostEdges, edgeSize, edgeCount, from, to, weight}
+use Rattle.meaning.specs.Chain.{mostStates, mostEdges, edgeSize, edgeCount, from, to, weight, edgeReward}
 use Rattle.meaning.specs.Refusal.{Lent}
 use Rattle.meaning.specs.Block.{
   Input,
@@ -16,6 +16,7 @@ use Rattle.meaning.specs.Block.{
   countAt,
   flagByte,
   orderByte,
+  edgeRewardByte,
   weightByte,
   secondVersion,
 }
@@ -38,6 +39,7 @@ pub record Fitting (l : Lent) : Type 0 where
   pub from : (e : ℕ) → from (l .chain .edges) e < 256
   pub to : (e : ℕ) → to (l .chain .edges) e < 256
   pub weight : (e : ℕ) → weight (l .chain .edges) e < 4294967296
+  pub edge-rewards : (e : ℕ) → edgeReward (l .chain .edges) e < 65536
 
 abbrev pub headRecord : ℕ → ℕ → ℕ → ℕ
 headRecord states start edges = states * 256 ^ 0 + start * 256 ^ 1 + edges * 256 ^ 2
@@ -45,8 +47,9 @@ headRecord states start edges = states * 256 ^ 0 + start * 256 ^ 1 + edges * 256
 abbrev pub stateRecord : ℕ → ℕ → ℕ → ℕ → ℕ
 stateRecord denominator reward flag order = denominator * 256 ^ 0 + reward * 256 ^ 4 + flag * 256 ^ flagByte + order * 256 ^ orderByte
 
-abbrev pub edgeRecord : ℕ → ℕ → ℕ → ℕ
-edgeRecord source target weight = source * 256 ^ 0 + target * 256 ^ 1 + weight * 256 ^ weightByte
+abbrev pub edgeRecord : ℕ → ℕ → ℕ → ℕ → ℕ
+edgeRecord source target weight reward =
+    source * 256 ^ 0 + target * 256 ^ 1 + reward * 256 ^ edgeRewardByte + weight * 256 ^ weightByte
 
 -- Record k of a kind.
 unfoldable pub recordOf : Lent → ℕ → ℕ → ℕ
@@ -54,7 +57,7 @@ recordOf l kind k =
     let c = l .chain in
     choose (eqb kind 1) (headRecord (c .states) (c .start) (edgeCount (c .edges)))
     (choose (eqb kind 2) (stateRecord (getD (c .denominators) k 0) (getD (l .rewards) k 0) (bit (c .goals) k) (getD (l .order) k 0))
-    (edgeRecord (from (c .edges) k) (to (c .edges) k) (weight (c .edges) k)))
+    (edgeRecord (from (c .edges) k) (to (c .edges) k) (weight (c .edges) k) (edgeReward (c .edges) k)))
 
 -- Record i of a block that holds so many records, the first of them record `begin` of its kind.
 unfoldable pub slotOf : Lent → ℕ → ℕ → ℕ → ℕ → ℕ

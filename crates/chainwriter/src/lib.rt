@@ -17,6 +17,7 @@ use chain::edge;
 use chainfile::head;
 use chainfile::layout;
 use look::Finding;
+use look::rewards;
 use look::scan;
 use look::scan::Place;
 use look::shape;
@@ -80,7 +81,7 @@ fn look(
         let number = 10;
         return Finding::Refused { number, place };
     }
-    if let Place::At(place) = scan::rewards(n, rewards) {
+    if let Place::At(place) = rewards::too_large(n, rewards, edges) {
         let number = 11;
         return Finding::Refused { number, place };
     }

@@ -49,11 +49,14 @@ fn state(denominator: u64, reward: u64, flag: u64, order: u64) -> u64
         + lifted(order, layout::ORDER)
 }
 
-fn edge(from: u64, to: u64, weight: u64) -> u64
-    requires { ⌜ (from < 256) × (to < 256) × (weight < 4294967296) ⌝ }
-    ensures { λ r. ⌜ r ≡ edgeRecord from to weight ⌝ }
+fn edge(from: u64, to: u64, weight: u64, reward: u64) -> u64
+    requires { ⌜ (from < 256) × (to < 256) × (weight < 4294967296) × (reward < 65536) ⌝ }
+    ensures { λ r. ⌜ r ≡ edgeRecord from to weight reward ⌝ }
 {
-    lifted(from, layout::FROM) + lifted(to, layout::TO) + lifted(weight, layout::WEIGHT)
+    lifted(from, layout::FROM)
+        + lifted(to, layout::TO)
+        + lifted(reward, layout::EDGE_REWARD)
+        + lifted(weight, layout::WEIGHT)
 }
 
 // Record k of a kind.
@@ -86,6 +89,7 @@ fn record(
         edge::from(edges, k),
         edge::to(edges, k),
         edge::weight(edges, k),
+        edge::reward(edges, k),
     )
 }
 

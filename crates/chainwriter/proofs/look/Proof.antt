@@ -73,12 +73,12 @@ up-11 c w e = let at = c .before .before in next (up-10 (at .before) w e) (none 
 returns-5 : tie.Need-returns-5
 returns-5 c w e =
     let at = c .before .before .before in
-    say refl (refuse (up-11 (at .before) w e) (found _ (at .rewards .ensures) (c .before .place2 .given .1)))
+    say refl (refuse (up-11 (at .before) w e) (found _ (at .too-large .ensures) (c .before .place2 .given .1)))
 
 returns-6 : tie.Need-returns-6
 returns-6 c w e =
     let at = c .before .before in
-    record { outcome = formed (well (next (up-11 (at .before) w e) (none _ (at .rewards .ensures) (c .enum-told3 .given .1)))) refl; proper = tt }
+    record { outcome = formed (well (next (up-11 (at .before) w e) (none _ (at .too-large .ensures) (c .enum-told3 .given .1)))) refl; proper = tt }
 
 pub look-spec : {M : Type 1} → statement M
 look-spec =

@@ -38,21 +38,22 @@ returns-2 c =
 
 edge-requires : tie.Need-edge-requires
 edge-requires c κs =
-    let f = c .before .before in
+    let f = c .before .before .before in
     let s = f .before .before .before .before .before .before .before in
     let k = s .args .k in (
       omega (arith, f .from .ensures, s .pre .from k),
-      omega (arith, c .before .to .ensures, s .pre .to k),
-      omega (arith, c .weight .ensures, s .pre .weight k),
+      omega (arith, c .before .before .to .ensures, s .pre .to k),
+      omega (arith, c .before .weight .ensures, s .pre .weight k),
+      omega (arith, c .reward .ensures, s .pre .edge-rewards k),
     )
 
 returns-3 : tie.Need-returns-3
 unfolding recordOf
 returns-3 c =
-    let f = c .before .before .before in
+    let f = c .before .before .before .before in
     let a = f .before .before .before .before .before .before .before .args in
     rw (ne-eqb (a .kind) 1 (f .before .before .if1 .left), ne-eqb (a .kind) 2 (f .before .if2 .left))
-    (c .edge .ensures ∙ (λ i. edgeRecord (f .from .ensures i) (c .before .before .to .ensures i) (c .before .weight .ensures i)))
+    (c .edge .ensures ∙ (λ i. edgeRecord (f .from .ensures i) (c .before .before .before .to .ensures i) (c .before .before .weight .ensures i) (c .before .reward .ensures i)))
 
 pub record-spec : {M : Type 1} → statement M
 record-spec =
@@ -67,6 +68,7 @@ record-spec =
     (λ c κs. search needs)
     state-requires
     returns-2
+    (λ c κs. search needs)
     (λ c κs. search needs)
     (λ c κs. search needs)
     (λ c κs. search needs)
