@@ -1,20 +1,25 @@
-use Prim.Native.Nat.{_-_, _<_}
+use Prim.Native.Nat.{ℕ, _*_, _-_, _<_}
+use mathlib.Core.List.{List}
 use native.Mathlib.Omega.{arith}
-use Rattle.meaning.specs.Chain.{M, mostStates, edgeCount, from, weight}
+use Rattle.meaning.specs.Chain.{M, mostStates, edgeCount, from, weight, carried, flow}
 use Rattle.look.proofs.Gather.{Summed, none, more, all, weight-small}
 use Rattle.look.proofs.Ends.{from-below}
 use borrow.Author.Needs.{needs}
 use Rattle.look.proofs.sums.row_sums.Statement.{statement}
 use Rattle.look.proofs.sums.row_sums.Tie as tie
 
+-- An edge brings its weight.
+abbrev worth : List ℕ → ℕ → ℕ
+worth edges e = weight edges e * 1
+
 abbrev Inv-loop : tie.InvT-loop
-Inv-loop edges count sums₀ e₀ sums e = Summed edges sums e
+Inv-loop edges count sums₀ e₀ sums e = Summed edges (worth edges) M sums e
 
 abbrev μ-loop : tie.MeasureT-loop
 μ-loop edges count sums₀ e₀ sums e = edgeCount edges - e
 
 loop-holds : tie.Need-loop-holds Inv-loop μ-loop
-loop-holds c = none _
+loop-holds c = none _ _ _
 
 -- The edge leaves a state of the table.
 small : (c : tie.After-weight Inv-loop μ-loop) → c .before .from .result < mostStates
@@ -42,10 +47,13 @@ loop-again : tie.Need-loop-again Inv-loop μ-loop
 loop-again c =
     let at = c .before .before .before in
     let start = at .before .before .before in
-    more _ (start .pre .1 .1) (at .loop .e) (search needs) _ (at .loop .inv) _ _ (c .before .from .ensures) (c .weight .ensures)
+    let edges = start .args .edges .now in
+    let small = weight-small edges (start .pre .1 .1) (at .loop .e) (omega arith) in
+    more edges (worth edges) M (at .loop .e) (search needs) (omega (arith, small)) _ (at .loop .inv) _ _ (c .before .from .ensures) (omega (arith, c .weight .ensures))
 
 returns : tie.Need-returns Inv-loop μ-loop
-returns c = all _ (c .before .loop .inv) (search needs)
+unfolding flow carried
+returns c = all _ _ _ (c .before .loop .inv) (search needs)
 
 pub row-sums-spec : {M : Type 1} → statement M
 row-sums-spec =
