@@ -10,8 +10,7 @@ use lib.ListN.{length, getD, set, length-set}
 use lib.Seq.{ext-getD, getD-set-same, getD-set-other}
 use borrow.Author.Tests.{eq-eqb, ne-eqb, eqb-true, eqb-false}
 use Rattle.meaning.specs.Number.{sumTo, only, choose, bit}
-use Rattle.meaning.specs.Chain.{mostReward, Chain, denominator, edgeCount, from, to, carried, flow, along}
-use Rattle.meaning.specs.Figure.{earned}
+use Rattle.meaning.specs.Chain.{Chain, denominator, edgeCount, from, to, carried, flow, along}
 use Rattle.meaning.specs.Row.{cell, trapColumn, unknownColumn, total, rounding}
 use Rattle.meaning.specs.Step.{row, Sets, Right, given, firstRow, noRow, first}
 use Rattle.meaning.specs.Refusal.{Lent, Entry, workSize, WellFormed}
@@ -20,7 +19,8 @@ use Rattle.theory.specs.Numbers.Tab.{tab-ext}
 use Rattle.theory.specs.Chains.Flow.{flow-ext}
 use Rattle.theory.specs.Stages.Given.{Fate, live, won, lost, LiveRow, goes-to, given-state, given-goal, given-trap, given-unknown, given-reward, given-length, given-total}
 use Rattle.theory.specs.Stages.First.{first-row}
-use Rattle.theory.specs.Outcomes.Formed.{few-states, formed-fine, from-in, denominators-length, denominator-small, reward-small, reward-none}
+use Rattle.theory.specs.Outcomes.Formed.{few-states, few-edges, formed-fine, from-in, weight-small, denominator-small, reward-small, edge-reward-small}
+use Rattle.engines.specs.Pay.{pays}
 use Rattle.engines.specs.Table.{rowAt, Renewed}
 use Rattle.engines.specs.First.{columnOf, share, Held, Gatherable, finished, finishedAt, Finishable, Makeable}
 use Rattle.engines.specs.Turn.{Made}
@@ -82,9 +82,9 @@ module _ (c : Chain) (k : Sets) where
     in-unknown h (won a b d) = rw (column-won a d, ne-eqb n (unknownColumn n) (omega arith))
     in-unknown h (lost a b d) = rw (column-lost a d, ne-eqb (trapColumn n) (unknownColumn n) (omega arith))
 
-  module _ (b : Bool) (rewards work : List ℕ) (a : Makeable b c k rewards work) where
+  module _ (b p : Bool) (rewards work : List ℕ) (a : Makeable b p c k rewards work) where
     abbrev pay : ℕ → ℕ
-    pay = earned c (λ i. getD rewards i 0)
+    pay = pays p c rewards
 
     pub makeable-gatherable : Gatherable n (c .edges) work
     makeable-gatherable =
@@ -131,7 +131,8 @@ module _ (c : Chain) (k : Sets) where
           (below j n)
 
     -- The table once all edges are gathered.
-    module _ (v : List ℕ) (z : Held n (λ i j. sumTo (share n k (c .edges) i j) (edgeCount (c .edges))) work v) where
+    module _ (v : List ℕ) (z : Held n (λ i j. sumTo (share n k (c .edges) i j) (edgeCount (c .edges))) work v) (earnings : List ℕ)
+        (earn : (i : ℕ) → i < n → getD earnings i 0 ≡ pay i) where
       space : n * (n + 4) ≤ length v
       space = omega (arith, z .kept .len, a .room)
 
@@ -168,35 +169,32 @@ module _ (c : Chain) (k : Sets) where
           zero-row n v space i h
           (λ j l. z .cells i j h l ∙ sum-zero (share n k (c .edges) i j) (edgeCount (c .edges)) (λ e _. share-dead n k (c .edges) e i j d))
 
-      pub makeable-finishable : Finishable b n (k .live) (c .denominators) rewards v
+      pub makeable-finishable : Finishable b n (k .live) earnings v
       makeable-finishable =
           record {
             few = a .few;
             room = space;
-            size = a .size;
-            small = a .small;
-            paid = a .paid;
             gathered = λ i h.
                 record {
                   bound = λ e. omega (arith, live-total i (h, eqb-true (bit (k .live) i) 1 e), a .small i h);
                   fit = λ e. rw (dead-row i h (eqb-false (bit (k .live) i) 1 e)) (noRow-fit b n);
-                  unpaid = λ e. rw (a .unpaid e i) (omega arith);
+                  unpaid = λ e. earn i h ∙ rw (a .unpaid e);
                 };
           }
 
       first-at : (i : ℕ) → i < n
-          → finishedAt b n (k .live) (c .denominators) rewards v i ≡ choose (eqb (bit (k .live) i) 1) (firstRow b c k pay 0 i) (noRow n)
+          → finishedAt b n (k .live) earnings v i ≡ choose (eqb (bit (k .live) i) 1) (firstRow b c k pay 0 i) (noRow n)
       unfolding finished
       first-at i h =
           ⊎-elim
-          (λ (l : bit (k .live) i ≡ 1). rw (eq-eqb (bit (k .live) i) 1 l, live-row i (h, l)))
+          (λ (l : bit (k .live) i ≡ 1). rw (eq-eqb (bit (k .live) i) 1 l, earn i h, live-row i (h, l)))
           (λ (d : bit (k .live) i ≡ 1 → ⊥). rw (ne-eqb (bit (k .live) i) 1 d) (dead-row i h d))
           (same (bit (k .live) i) 1)
 
-      first-is : (i : ℕ) → i < n → finishedAt b n (k .live) (c .denominators) rewards v i ≡ row (first b c k pay (λ _. 0)) i
+      first-is : (i : ℕ) → i < n → finishedAt b n (k .live) earnings v i ≡ row (first b c k pay (λ _. 0)) i
       first-is i h = first-at i h ∙ sym (first-row b c k pay i h)
 
-      pub first-made : {u : List ℕ} {answer : Bool} → Renewed b (finishedAt b n (k .live) (c .denominators) rewards v) n v u answer
+      pub first-made : {u : List ℕ} {answer : Bool} → Renewed b (finishedAt b n (k .live) earnings v) n v u answer
           → Made b n (first b c k pay (λ _. 0)) work u answer
       unfolding first
       first-made {u} y =
@@ -216,20 +214,26 @@ module _ (c : Chain) (k : Sets) where
 
 -- What a well-formed input has. The bounds engine is lent no rewards.
 pub first-given : (b : Bool) (x : Entry) (l : Lent) (k : Sets) → WellFormed x l → workSize (l .chain .states) ≤ length (l .work) → (b ≡ rounding → x .rewards ≡ false) → Right (l .chain) k
-    → Makeable b (l .chain) k (l .rewards) (l .work)
+    → Makeable b (x .rewards) (l .chain) k (l .rewards) (l .work)
 first-given b x l k formed enough free right =
     record {
       few = few-states x l formed;
       room = enough;
       fine = formed-fine x l formed;
       sources = from-in x l formed;
-      size = denominators-length x l formed;
       small = denominator-small x l formed;
       right = right;
-      paid = λ i h. go (x .rewards) refl i h;
-      unpaid = λ e i. reward-none x l formed (free e) i;
+      paid = λ e.
+          record {
+            few = few-states x l formed;
+            small = denominator-small x l formed;
+            states = reward-small x l formed e;
+            paying = record {
+              few = few-edges x l formed;
+              sources = λ d h. omega (arith, from-in x l formed d h, few-states x l formed);
+              weights = weight-small x l formed;
+              rewards = edge-reward-small x l formed e;
+            };
+          };
+      unpaid = free;
     }
-  where
-    go : (p : Bool) → x .rewards ≡ p → (i : ℕ) → i < l .chain .states → getD (l .rewards) i 0 ≤ mostReward
-    go true e i h = reward-small x l formed e i h
-    go false e i h = omega (arith, reward-none x l formed e i)

@@ -10,6 +10,7 @@ use Rattle.meaning.specs.Step.{Sets, Right}
 use Rattle.meaning.specs.Refusal.{Lent, withList, Entry, workSize, Refused, WellFormed}
 use mathlib.Core.List.{List}
 use mathlib.Core.Logic.{_⊎_, inl, inr}
+use Rattle.meaning.specs.Stop.{earns}
 use Rattle.meaning.specs.Outcome.{cleared}
 use Rattle.meaning.specs.Survey.{SurveyOutcome}
 use Rattle.theory.specs.Outcomes.Bare.{alone, bare-refuses, bare-clears}
@@ -76,7 +77,7 @@ module _ {x : Entry} {l : Lent} {f : Looked} (s : looked x l f) where
 
 -- What an elimination asks for.
 pub begun : (x : Entry) (l : Lent) → WellFormed x l → (b : Bool) (k : Sets) → x .order ≡ true → workSize (l .chain .states) ≤ length (l .work)
-    → (b ≡ rounding → x .rewards ≡ false) → Right (l .chain) k → Begun b l k
+    → (b ≡ rounding → x .rewards ≡ false) → Right (l .chain) k → Begun b (x .rewards) l k
 begun x l formed b k ordered room free right =
     record {
       asked = first-given b x l k formed room free right;
@@ -86,17 +87,17 @@ begun x l formed b k ordered room free right =
     }
 
 -- An elimination does not ask for the step list.
-pub begun-unlisted : {b : Bool} {l : Lent} {k : Sets} (list : ℕ) → Begun b (withList list l) k → Begun b l k
+pub begun-unlisted : {b p : Bool} {l : Lent} {k : Sets} (list : ℕ) → Begun b p (withList list l) k → Begun b p l k
 begun-unlisted list h = record { asked = h .asked; orders = h .orders; inside = h .inside; start = h .start }
 
-read-listed : {b : Bool} {l : Lent} {g u e d : ℕ} (list : ℕ) → Read b l g u e d → Read b (withList list l) g u e d
+read-listed : {pay : ℕ → ℕ} {b : Bool} {l : Lent} {g u e d : ℕ} (list : ℕ) → Read pay b l g u e d → Read pay b (withList list l) g u e d
 read-listed list (won h q) = won h q
 read-listed list (lost h q) = lost h q
 read-listed list (live k right alive z) = live k right alive (record { passed = z .passed; read = z .read })
 
 -- What a run comes to, once the looking has cleared the input.
 pub ran : {x : Entry} (b : Bool) (l : Lent) {w log : List ℕ} (list : ℕ) → WellFormed x (withList list l) → w ≡ cleared l → {k : Sets} → Right (l .chain) k
-    → (r : Course) → runs b l r × Logged log (recordsRun b l k (finishedIn (l .chain .states) r)) → entered x b (withList list l) w log r
+    → (r : Course) → runs (earns x l) b l r × Logged log (recordsRun (earns x l) b l k (finishedIn (l .chain .states) r)) → entered x b (withList list l) w log r
 ran b l list formed s right (Ends g u e d) z = (formed, s, read-listed list (z .0), record { sets = _; right = right; logged = z .1 })
 ran b l list formed s right (Stops number place) z =
     inr (formed, s, stopped-relisted list number place (z .0), record { sets = _; right = right; logged = z .1 })

@@ -40,10 +40,10 @@ abbrev over : ℕ → ℕ → Fraction
 over a b = record { numerator = a; denominator = b }
 
 -- Where something can be read off nothing stopped the engine.
-read-unstopped : (l : Lent) {g u e d : ℕ} → Read exact l g u e d → (number place : ℕ) → Stopped exact l number place → ⊥
-read-unstopped l (won h q) number place s = s .alive .unwon h
-read-unstopped l (lost h q) number place s = h (s .alive .leads)
-read-unstopped l (live k right alive z) number place s = passed-unstopped l k right exact (z .passed) number place s
+read-unstopped : (pay : ℕ → ℕ) (l : Lent) {g u e d : ℕ} → Read pay exact l g u e d → (number place : ℕ) → Stopped pay exact l number place → ⊥
+read-unstopped pay l (won h q) number place s = s .alive .unwon h
+read-unstopped pay l (lost h q) number place s = h (s .alive .leads)
+read-unstopped pay l (live k right alive z) number place s = passed-unstopped l k right pay exact (z .passed) number place s
 
 -- A chance, and an expected reward, in lowest terms.
 lowest-chance : (c : Chain) (a b p q : ℕ) → Chance c a b → Reduced a b p q → Chance c p q
@@ -55,23 +55,23 @@ lowest-reward c r a b p q h t =
     record { lowest = t .lowest; share = λ d x s. reduced-share a b p q d (x (c .start)) t (h .lowest .whole) (h .share d x s) }
 
 -- The numbers that were read.
-module _ {b : Bool} {l : Lent} {k : Sets} {g u e d : ℕ} (z : Ended b l k g u e d) where
+module _ {pay : ℕ → ℕ} {b : Bool} {l : Lent} {k : Sets} {g u e d : ℕ} (z : Ended pay b l k g u e d) where
   abbrev n : ℕ
   n = l .chain .states
 
-  read-goal : g ≡ cell (row (tableAt b l k n) (l .chain .start)) (goalColumn n)
+  read-goal : g ≡ cell (row (tableAt pay b l k n) (l .chain .start)) (goalColumn n)
   read-goal = let q = z .read in cc
 
-  read-unknown : u ≡ cell (row (tableAt b l k n) (l .chain .start)) (unknownColumn n)
+  read-unknown : u ≡ cell (row (tableAt pay b l k n) (l .chain .start)) (unknownColumn n)
   read-unknown = let q = z .read in cc
 
-  read-reward : e ≡ rewardIn n (row (tableAt b l k n) (l .chain .start))
+  read-reward : e ≡ rewardIn n (row (tableAt pay b l k n) (l .chain .start))
   read-reward = let q = z .read in cc
 
-  read-outside : d ≡ outside n (l .chain .start) (row (tableAt b l k n) (l .chain .start))
+  read-outside : d ≡ outside n (l .chain .start) (row (tableAt pay b l k n) (l .chain .start))
   read-outside = let q = z .read in cc
 
-chance-read : (x : Entry) → x .order ≡ true → (l : Lent) → WellFormed x l → {g u e d : ℕ} → Read exact l g u e d
+chance-read : (x : Entry) → x .order ≡ true → (l : Lent) → WellFormed x l → {g u e d : ℕ} → Read (earns x l) exact l g u e d
     → Chance (l .chain) (reduced (over g d) .numerator) (reduced (over g d) .denominator)
 chance-read x o l formed {g} {u} {e} {d} (won h q) =
     let eg : g ≡ 1 = cc in
@@ -83,24 +83,24 @@ chance-read x o l formed {g} {u} {e} {d} (lost h q) =
     rw (eg, ed) (lowest-chance (l .chain) 0 1 _ _ (chance-lost (l .chain) (start-in x l formed) h) (terms (over 0 1) (omega arith)))
 chance-read x o l formed {g} {u} {e} {d} (live k right alive z) =
     let ready = formed-prepared x l formed o k right in
-    let whole = exact-whole (l .chain) k (l .order) ready (earns l) alive in
+    let whole = exact-whole (l .chain) k (l .order) ready (earns x l) alive in
     rw (read-goal z, read-outside z)
-    (exact-chance (l .chain) k (l .order) ready (earns l) alive _ _ (terms (over _ _) whole))
+    (exact-chance (l .chain) k (l .order) ready (earns x l) alive _ _ (terms (over _ _) whole))
 
-reward-read : (l : Lent) → WellFormed paid l → (Missed (l .chain) → ⊥) → {g u e d : ℕ} → Read exact l g u e d
-    → Expected (l .chain) (earns l) (reduced (over e d) .numerator) (reduced (over e d) .denominator)
+reward-read : (l : Lent) → WellFormed paid l → (Missed (l .chain) → ⊥) → {g u e d : ℕ} → Read (earns paid l) exact l g u e d
+    → Expected (l .chain) (earns paid l) (reduced (over e d) .numerator) (reduced (over e d) .denominator)
 reward-read l formed sure {g} {u} {e} {d} (won h q) =
     let ee : e ≡ 0 = cc in
     let ed : d ≡ 1 = cc in
-    rw (ee, ed) (lowest-reward (l .chain) (earns l) 0 1 _ _ (reward-won (l .chain) (earns l) h) (terms (over 0 1) (omega arith)))
+    rw (ee, ed) (lowest-reward (l .chain) (earns paid l) 0 1 _ _ (reward-won (l .chain) (earns paid l) h) (terms (over 0 1) (omega arith)))
 reward-read l formed sure (lost h q) = absurd (sure (l .chain .start, FromStart.begin, h))
 reward-read l formed sure (live k right alive z) =
     let ready = formed-prepared paid l formed refl k right in
-    let whole = exact-whole (l .chain) k (l .order) ready (earns l) alive in
+    let whole = exact-whole (l .chain) k (l .order) ready (earns paid l) alive in
     rw (read-reward z, read-outside z)
-    (exact-reward (l .chain) k (l .order) ready (earns l) alive sure _ _ (terms (over _ _) whole))
+    (exact-reward (l .chain) k (l .order) ready (earns paid l) alive sure _ _ (terms (over _ _) whole))
 
-bounds-read : (l : Lent) → WellFormed plain l → {g u e d : ℕ} → Read rounding l g u e d
+bounds-read : (l : Lent) → WellFormed plain l → {g u e d : ℕ} → Read (earns plain l) rounding l g u e d
     → let lower = reduced (over g d) in
     let upper = reduced (over (g + u) d) in
     BoundsFigure l (between (lower .numerator) (lower .denominator) (upper .numerator) (upper .denominator))
@@ -116,23 +116,23 @@ bounds-read l formed {g} {u} {e} {d} (lost h q) =
     let ed : d ≡ 1 = cc in
     rw (eg, eu, ed) (BoundsFigure.lost h refl)
 bounds-read l formed (live k right alive z) =
-    let whole = bounds-whole (l .chain) k (l .order) (formed-prepared plain l formed refl k right) (earns l) alive (unpaid plain l formed refl) in
+    let whole = bounds-whole (l .chain) k (l .order) (formed-prepared plain l formed refl k right) (earns plain l) alive (unpaid plain l refl) in
     rw (read-goal z, read-unknown z, read-outside z)
     (BoundsFigure.live k right alive _ _ _ _ (terms (over _ _) whole, terms (over _ _) whole) refl)
 
 -- Goal and Unknown can be added: together they are no more than the row's total.
-read-sum : (l : Lent) → WellFormed plain l → {g u e d : ℕ} → Read rounding l g u e d → g + u ≤ M
+read-sum : (l : Lent) → WellFormed plain l → {g u e d : ℕ} → Read (earns plain l) rounding l g u e d → g + u ≤ M
 read-sum l formed {g} {u} (won h q) = let eg : g ≡ 1 = cc in let eu : u ≡ 0 = cc in omega arith
 read-sum l formed {g} {u} (lost h q) = let eg : g ≡ 0 = cc in let eu : u ≡ 0 = cc in omega arith
 read-sum l formed (live k right alive z) =
     let n = l .chain .states in
-    let r = row (tableAt rounding l k n) (l .chain .start) in
+    let r = row (tableAt (earns plain l) rounding l k n) (l .chain .start) in
     omega (
       arith,
       read-goal z,
       read-unknown z,
       sum-two (cell r) (rewardColumn n) n (unknownColumn n) (omega arith) (omega arith) (omega arith),
-      bounds-fit (l .chain) k (earns l) (l .order) n (l .chain .start) (start-in plain l formed),
+      bounds-fit (l .chain) k (earns plain l) (l .order) n (l .chain .start) (start-in plain l formed),
     )
 
 -- A fraction that was made of two numbers and reduced.
@@ -148,9 +148,9 @@ chance-stops q = sym (ap chanceOf q)
 
 -- The outcomes, by what the entry's looking and elimination come to.
 pub outcome-chance : (x : Entry) → x .order ≡ true → (l : Lent) (w log : List ℕ) (r : Course) → entered x exact l w log r
-    → Outcome x l refusal (Stopped exact l) (ChanceFigure l) (toldChance (chanceOf r)) w
+    → Outcome x l refusal (Stopped (earns x l) exact l) (ChanceFigure l) (toldChance (chanceOf r)) w
 outcome-chance x o l w log (Ends g u e d) y =
-    answered (y .0) (read-unstopped l (y .2)) (ChanceFigure.chance _ _ (chance-read x o l (y .0) (y .2)) refl) (y .1)
+    answered (y .0) (read-unstopped (earns x l) l (y .2)) (ChanceFigure.chance _ _ (chance-read x o l (y .0) (y .2)) refl) (y .1)
 outcome-chance x o l w log (Stops number place) y =
     ⊎-elim (λ y. refused _ _ (y .0) refl (y .1)) (λ y. stopped _ _ (y .0) (y .2) refl (y .1)) y
 
@@ -178,17 +178,17 @@ module _ (l : Lent) (formed : WellFormed paid l) {w : List ℕ} (s : w ≡ clear
   misses-reward m = record { outcome = answered formed (λ number place z. z .0 m) (RewardFigure.missed m refl) s; proper = tt }
 
   module _ (sure : Missed (l .chain) → ⊥) {r : Course} where
-    pub answers-reward : {g u e d : ℕ} → r ≡ Ends g u e d → runs exact l r → {f : Fraction} → f ≡ reduced (over e d) → Rewarded l (reward.Is f) w
+    pub answers-reward : {g u e d : ℕ} → r ≡ Ends g u e d → runs (earns paid l) exact l r → {f : Fraction} → f ≡ reduced (over e d) → Rewarded l (reward.Is f) w
     answers-reward q z t =
-        let y = subst (runs exact l) q z in
+        let y = subst (runs (earns paid l) exact l) q z in
         let h = reward-read l formed sure y in
         subst (λ f. Rewarded l (reward.Is f) w) (sym t)
         (record {
-          outcome = answered formed (λ number place s. read-unstopped l y number place (s .1)) (RewardFigure.expected sure _ _ h refl) s;
+          outcome = answered formed (λ number place s. read-unstopped (earns paid l) l y number place (s .1)) (RewardFigure.expected sure _ _ h refl) s;
           proper = h .lowest .whole;
         })
 
-    pub stops-reward : {number place : ℕ} → r ≡ Stops number place → runs exact l r → Rewarded l (reward.Refused number place) w
+    pub stops-reward : {number place : ℕ} → r ≡ Stops number place → runs (earns paid l) exact l r → Rewarded l (reward.Refused number place) w
     stops-reward q z =
-        let y = subst (runs exact l) q z in
+        let y = subst (runs (earns paid l) exact l) q z in
         record { outcome = stopped _ _ formed (sure, y) refl s; proper = omega (arith, stopped-twelve y) }

@@ -12,7 +12,7 @@ use Rattle.meaning.specs.Chain.{mostStates}
 use Rattle.meaning.specs.Row.{exact}
 use Rattle.meaning.specs.Step.{Sets, Right, goes}
 use Rattle.meaning.specs.Refusal.{Lent, listing, WellFormed}
-use Rattle.meaning.specs.Stop.{turn, tableAt, Stops, before-steps, in-step}
+use Rattle.meaning.specs.Stop.{earns, turn, tableAt, Stops, before-steps, in-step}
 use Rattle.meaning.specs.Outcome.{Answer, refusal}
 use Rattle.meaning.specs.Steps.{StepRecord, recordsTo, FinishedTo, through, before-steps as none-finished, in-step as finished-before, Listed, untouched, listed}
 use Rattle.theory.specs.Outcomes.Formed.{few-states, list-room}
@@ -61,7 +61,7 @@ module _ {log : List ℕ} {rs : List StepRecord} (h : Holds log rs) where
   past-held j l = h .cells j ∙ List·getD-eq-default (length rs ∷ numbersOf rs) 0 {n = j} (omega (arith, count-held, numbers-length rs))
 
 -- The steps that are finished where 12 stops the elimination.
-finished-to : {l : Lent} {k : Sets} {number place : ℕ} → l .chain .states ≤ mostStates → Stops exact l k number place
+finished-to : {pay : ℕ → ℕ} {l : Lent} {k : Sets} {number place : ℕ} → l .chain .states ≤ mostStates → Stops pay exact l k number place
     → FinishedTo l (refusal number place) (finishedIn (l .chain .states) (Stopping number place))
 finished-to {l} few (before-steps u) = rw (le-ltb mostStates (l .chain .states) few) (none-finished refl refl)
 finished-to {l} few (in-step p h c u) = rw (lt-ltb p (l .chain .states) h) (finished-before refl h)
@@ -93,7 +93,7 @@ module _ (l : Lent) (w log : List ℕ) (size : length log ≡ logSize) where
     run-told formed k right f h =
         let p = finishedIn (l .chain .states) r in
         let rs = recordsTo l k p in
-        let few = records-few (l .chain .states) (goes (l .chain .start) (k .live)) (turn l) (tableAt exact l k) p in
+        let few = records-few (l .chain .states) (goes (l .chain .start) (k .live)) (turn l) (tableAt (earns listing l) exact l k) p in
         let inside = finished-in f in
         told rs (holds size h) (omega (arith, few, inside, few-states listing l formed)) (omega (arith, few, inside, list-room listing l formed))
         (listed formed k right p f refl (sym (filled-none rs)))

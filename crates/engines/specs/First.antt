@@ -6,12 +6,12 @@ use Prim.Native.Nat.{ℕ, _+_, _^_, _≤_, _<_}
 use lib.Dec.{eqb}
 use lib.ListN.{length, getD, set}
 use Rattle.meaning.specs.Number.{only, choose, bit}
-use Rattle.meaning.specs.Chain.{mostStates, M, mostReward, Chain, denominator, edgeCount, from, to, weight, carried, rowSum}
-use Rattle.meaning.specs.Figure.{earned}
+use Rattle.meaning.specs.Chain.{mostStates, M, Chain, denominator, edgeCount, from, to, weight, carried, rowSum}
 use Rattle.meaning.specs.Row.{Row, cell, width, total, goalColumn, trapColumn, rewardColumn, divisor, settled, rounding}
 use Rattle.meaning.specs.Step.{Sets, Right}
 use Rattle.meaning.specs.Refusal.{workSize}
 use Rattle.theory.specs.Chains.Fine.{Fine}
+use Rattle.engines.specs.Pay.{Earnable}
 use Rattle.engines.specs.Row.{Fit}
 use Rattle.engines.specs.Table.{rowAt, Kept}
 
@@ -65,36 +65,24 @@ pub record Unfinished (b : Bool) (n : ℕ) (alive : Bool) (earns : ℕ) (r : Row
   pub fit : alive ≡ false → Fit b n r
   pub unpaid : b ≡ rounding → earns ≡ 0
 
--- A chain with these denominators: of a chain nothing else counts for what a state earns.
-abbrev earning : List ℕ → Chain
-earning denominators = record { states = length denominators; start = 0; goals = 0; denominators = denominators; edges = [] }
-
--- What one turn in state i earns, times its denominator.
-abbrev pub earnedAt : List ℕ → List ℕ → ℕ → ℕ
-earnedAt denominators rewards i = earned (earning denominators) (λ s. getD rewards s 0) i
-
--- Row i of the table in w, finished.
-abbrev pub finishedAt : Bool → ℕ → ℕ → List ℕ → List ℕ → List ℕ → ℕ → Row
-finishedAt b n live denominators rewards w i =
-    finished b n (eqb (bit live i) 1) (earnedAt denominators rewards i) (rowAt n w i)
+-- Row i of the table in w, finished; pay says what its state earns.
+abbrev pub finishedAt : Bool → ℕ → ℕ → List ℕ → List ℕ → ℕ → Row
+finishedAt b n live pay w i = finished b n (eqb (bit live i) 1) (getD pay i 0) (rowAt n w i)
 
 -- Each row of the table in w can be finished.
-pub record Finishable (b : Bool) (n live : ℕ) (denominators rewards w : List ℕ) : Type 0 where
+pub record Finishable (b : Bool) (n live : ℕ) (pay w : List ℕ) : Type 0 where
   pub few : n ≤ mostStates
   pub room : workSize n ≤ length w
-  pub size : length denominators ≡ n
-  pub small : (i : ℕ) → i < n → getD denominators i 0 ≤ M
-  pub paid : (i : ℕ) → i < n → getD rewards i 0 ≤ mostReward
-  pub gathered : (i : ℕ) → i < n → Unfinished b n (eqb (bit live i) 1) (earnedAt denominators rewards i) (rowAt n w i)
+  pub gathered : (i : ℕ) → i < n → Unfinished b n (eqb (bit live i) 1) (getD pay i 0) (rowAt n w i)
 
--- What the first rows are made from: a chain whose denominators fit, its own sets, rewards that fit, in the bounds engine none, and room.
-pub record Makeable (b : Bool) (c : Chain) (k : Sets) (rewards work : List ℕ) : Type 0 where
+-- What the first rows are made from: a chain whose denominators fit, its own sets, room, and where a turn earns, rewards that fit; in the
+-- bounds engine it does not.
+pub record Makeable (b p : Bool) (c : Chain) (k : Sets) (rewards work : List ℕ) : Type 0 where
   pub few : c .states ≤ mostStates
   pub room : workSize (c .states) ≤ length work
   pub fine : Fine c
   pub sources : (e : ℕ) → e < edgeCount (c .edges) → from (c .edges) e < c .states
-  pub size : length (c .denominators) ≡ c .states
   pub small : (i : ℕ) → i < c .states → denominator c i ≤ M
   pub right : Right c k
-  pub paid : (i : ℕ) → i < c .states → getD rewards i 0 ≤ mostReward
-  pub unpaid : b ≡ rounding → (i : ℕ) → getD rewards i 0 ≡ 0
+  pub paid : p ≡ true → Earnable (c .states) (c .denominators) (c .edges) rewards
+  pub unpaid : b ≡ rounding → p ≡ false

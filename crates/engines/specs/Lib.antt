@@ -6,6 +6,7 @@ pub mod Order
 pub mod Answer
 pub mod Looking
 pub mod Told
+pub mod Pay
 pub mod First
 pub mod Run
 pub mod Trace

@@ -52,6 +52,7 @@ fn unpaid(
                 chain: c,
                 sets,
                 rounding,
+                paid: false,
             };
             let none = [0u64; 0];
             run(e, denominators, edges, order, &none, work, log)
@@ -154,6 +155,7 @@ pub fn reward(
         chain: c,
         sets,
         rounding: false,
+        paid: true,
     };
     let mut none = [0u64; 0];
     match run(e, denominators, edges, order, rewards, work, &mut none) {

@@ -2,10 +2,9 @@
 ghost use mathlib.Core.Path.{_≡_};
 ghost use Prim.Native.Nat.{_+_, _<_, _≤_};
 ghost use lib.Dec.{eqb};
-ghost use lib.ListN.{length, getD, set};
+ghost use lib.ListN.{length, set};
 ghost use Rattle.meaning.specs.Number.{sumTo, bit};
 ghost use Rattle.meaning.specs.Chain.{mostStates, M, edgeCount};
-ghost use Rattle.meaning.specs.Figure.{earned};
 ghost use Rattle.meaning.specs.Row.{cell, width};
 ghost use Rattle.meaning.specs.Refusal.{workSize};
 ghost use Rattle.meaning.specs.Step.{first};
@@ -13,7 +12,9 @@ ghost use Rattle.engines.specs.Row.{Became};
 ghost use Rattle.engines.specs.Table.{rowAt, Put, Placed, Renewed};
 ghost use Rattle.survey.specs.Sets.{chainOf, setsOf};
 ghost use Rattle.engines.specs.First.{columnOf, share, Added, Held, Addable, Gatherable, finished, finishedDivisor, Unfinished, finishedAt, Finishable, Makeable};
+ghost use Rattle.engines.specs.Pay.{pays};
 ghost use Rattle.engines.specs.Turn.{Made};
+use crate::pay::earnings;
 use crate::row::REWARD;
 use crate::row::Settled;
 use crate::row::TRAP;
@@ -120,24 +121,17 @@ fn finish_row(
     finish(&mut work[a..e], n, holds(live, i), earns, rounding)
 }
 
-// Finishes each row, up to the first that does not fit. Answers whether all fit; no record is of a first row, so the divisors end here.
-fn finish_all(
-    work: &mut [u64],
-    n: usize,
-    live: u64,
-    denominators: &[u64],
-    rewards: &[u64],
-    rounding: bool,
-) -> bool
-    requires { ⌜ Finishable rounding n live (now denominators) (now rewards) (now work) ⌝ }
+// Finishes each row with what its state earns, up to the first that does not fit. Answers whether all fit; no record is of a first row, so the
+// divisors end here.
+fn finish_all(work: &mut [u64], n: usize, live: u64, pay: &[u64], rounding: bool) -> bool
+    requires { ⌜ Finishable rounding n live (now pay) (now work) ⌝ }
     ensures { λ r.
         let w = now (work .entry) in
-        ⌜ Renewed rounding (finishedAt rounding n live (now (denominators .entry)) (now (rewards .entry)) w) n w (now (work .exit)) r ⌝ }
+        ⌜ Renewed rounding (finishedAt rounding n live (now (pay .entry)) w) n w (now (work .exit)) r ⌝ }
 {
     let mut i = 0;
     while i < n {
-        let earns = at(rewards, i) * denominators[i];
-        let r = finish_row(work, i, n, live, earns, rounding);
+        let r = finish_row(work, i, n, live, at(pay, i), rounding);
         if !r.fits {
             return false;
         }
@@ -154,15 +148,16 @@ pub(crate) fn first_rows(
     edges: &[u64],
     rewards: &[u64],
 ) -> bool
-    requires { ⌜ Makeable (e .rounding) (chainOf (e .chain) (now denominators) (now edges)) (setsOf (e .sets)) (now rewards) (now work) ⌝ }
+    requires { ⌜ Makeable (e .rounding) (e .paid) (chainOf (e .chain) (now denominators) (now edges)) (setsOf (e .sets)) (now rewards) (now work) ⌝ }
     ensures { λ r.
         let c = chainOf (e .chain) (now (denominators .entry)) (now (edges .entry)) in
-        let t = first (e .rounding) c (setsOf (e .sets)) (earned c (λ i. getD (now (rewards .entry)) i 0)) (λ _. 0) in
+        let t = first (e .rounding) c (setsOf (e .sets)) (pays (e .paid) c (now (rewards .entry))) (λ _. 0) in
         ⌜ Made (e .rounding) (c .states) t (now (work .entry)) (now (work .exit)) r ⌝ }
 {
     let c = e.chain;
     let sets = e.sets;
     let n = c.states;
+    let pay = earnings(e.paid, n, denominators, edges, rewards);
     gather(work, n, sets, edges);
-    finish_all(work, n, sets.live, denominators, rewards, e.rounding)
+    finish_all(work, n, sets.live, &pay, e.rounding)
 }

@@ -4,6 +4,7 @@ pub mod entry;
 mod first;
 mod log;
 mod looking;
+mod pay;
 mod row;
 mod run;
 mod step;

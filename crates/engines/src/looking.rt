@@ -11,6 +11,7 @@ ghost use Rattle.chain.specs.Lent.{lent};
 ghost use Rattle.look.specs.Says.{counted};
 ghost use Rattle.engines.specs.Looking.{ordered, soFar, looked};
 use chain::Chain;
+use look::rewards;
 use look::scan;
 use look::scan::Place;
 use look::shape::misshaped;
@@ -116,7 +117,7 @@ pub(crate) fn look_paid(
     match tables(c, denominators, edges, order, rewards.len(), work, c.states) {
         Looked::Refused { number, place } => Looked::Refused { number, place },
         Looked::Clear(sets) => {
-            if let Place::At(i) = scan::rewards(c.states, rewards) {
+            if let Place::At(i) = rewards::too_large(c.states, rewards, edges) {
                 return Looked::Refused {
                     number: 11,
                     place: i,

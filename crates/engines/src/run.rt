@@ -9,6 +9,7 @@ ghost use Rattle.chain.specs.Lent.{lent};
 ghost use Rattle.engines.specs.Row.{Fit};
 ghost use Rattle.engines.specs.Table.{rowAt, Kept, Fitting};
 ghost use Rattle.survey.specs.Sets.{setsOf};
+ghost use Rattle.engines.specs.Pay.{pays};
 ghost use Rattle.engines.specs.Log.{Logged};
 ghost use Rattle.engines.specs.Run.{endOf, Begun, runs, finishedIn, recordsRun};
 use crate::first::first_rows;
@@ -23,11 +24,12 @@ use chain::Chain;
 use chain::set::holds;
 use survey::Sets;
 
-// An elimination: its chain with its sets, and whether rows are rounded.
+// An elimination: its chain with its sets, whether rows are rounded, and whether a turn earns anything.
 pub(crate) struct Elimination {
     pub chain: Chain,
     pub sets: Sets,
     pub rounding: bool,
+    pub paid: bool,
 }
 
 // What the elimination comes to: what the start's row holds at the end, with its D; or what stops it.
@@ -91,11 +93,12 @@ fn follow(
     log: &mut [u64],
 ) -> Course
     requires { let l = lent (e .chain) (now denominators) (now edges) (now order) (now rewards) (now work) in
-        ⌜ Begun (e .rounding) l (setsOf (e .sets)) × Logged (now log) [] ⌝ }
+        ⌜ Begun (e .rounding) (e .paid) l (setsOf (e .sets)) × Logged (now log) [] ⌝ }
     ensures { λ r.
         let l = lent (e .chain) (now (denominators .entry)) (now (edges .entry)) (now (order .entry)) (now (rewards .entry)) (now (work .entry)) in
-        ⌜ Kept (e .chain .states) (now (work .entry)) (now (work .exit)) × runs (e .rounding) l r
-        × Logged (now (log .exit)) (recordsRun (e .rounding) l (setsOf (e .sets)) (finishedIn (e .chain .states) r)) ⌝ }
+        let pay = pays (e .paid) (l .chain) (l .rewards) in
+        ⌜ Kept (e .chain .states) (now (work .entry)) (now (work .exit)) × runs pay (e .rounding) l r
+        × Logged (now (log .exit)) (recordsRun pay (e .rounding) l (setsOf (e .sets)) (finishedIn (e .chain .states) r)) ⌝ }
 {
     let c = e.chain;
     let sets = e.sets;
@@ -134,11 +137,12 @@ pub(crate) fn run(
     log: &mut [u64],
 ) -> Course
     requires { let l = lent (e .chain) (now denominators) (now edges) (now order) (now rewards) (now work) in
-        ⌜ Begun (e .rounding) l (setsOf (e .sets)) × Logged (now log) [] ⌝ }
+        ⌜ Begun (e .rounding) (e .paid) l (setsOf (e .sets)) × Logged (now log) [] ⌝ }
     ensures { λ r.
         let l = lent (e .chain) (now (denominators .entry)) (now (edges .entry)) (now (order .entry)) (now (rewards .entry)) (now (work .entry)) in
-        ⌜ (now (work .exit) ≡ cleared l) × runs (e .rounding) l r
-        × Logged (now (log .exit)) (recordsRun (e .rounding) l (setsOf (e .sets)) (finishedIn (e .chain .states) r)) ⌝ }
+        let pay = pays (e .paid) (l .chain) (l .rewards) in
+        ⌜ (now (work .exit) ≡ cleared l) × runs pay (e .rounding) l r
+        × Logged (now (log .exit)) (recordsRun pay (e .rounding) l (setsOf (e .sets)) (finishedIn (e .chain .states) r)) ⌝ }
 {
     let r = follow(e, denominators, edges, order, rewards, work, log);
     let c = e.chain;

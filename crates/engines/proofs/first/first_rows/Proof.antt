@@ -13,26 +13,37 @@ chain s = let a = s .args in chainOf (a .e .chain) (a .denominators .now) (a .ed
 abbrev k : tie.Start → Sets
 k s = setsOf (s .args .e .sets)
 
+abbrev start-of : tie.After-sets → tie.Start
+start-of c = c .before .before .before .before .before .before
+
+earnings-requires : tie.Need-earnings-requires
+earnings-requires c κs = let s = start-of c in (s .pre .paid, s .pre .few)
+
 gather-requires : tie.Need-gather-requires
 gather-requires c κs =
-    let s = c .before .before .before .before .before .before .before in
+    let s = start-of (c .before .before) in
     let a = s .args in
-    makeable-gatherable (chain s) (k s) (a .e .rounding) (a .rewards .now) (a .work .now) (s .pre)
+    makeable-gatherable (chain s) (k s) (a .e .rounding) (a .e .paid) (a .rewards .now) (a .work .now) (s .pre)
 
 finish-all-requires : tie.Need-finish-all-requires
 finish-all-requires c κs =
-    let g = c .before .before .before in
-    let s = g .before .before .before .before .before .before .before .before in
+    let g = c .before .before .before .before in
+    let earnings = g .before .before in
+    let s = start-of (earnings .before) in
     let a = s .args in
-    makeable-finishable (chain s) (k s) (a .e .rounding) (a .rewards .now) (a .work .now) (s .pre) _ (g .gather .ensures)
+    makeable-finishable (chain s) (k s) (a .e .rounding) (a .e .paid) (a .rewards .now) (a .work .now) (s .pre) _ (g .gather .ensures) (earnings .earnings .result) (earnings .earnings .ensures)
 
 returns : tie.Need-returns
 returns c =
     let f = c .before .before in
-    let g = f .before .before .before .before in
-    let s = g .before .before .before .before .before .before .before .before in
+    let g = f .before .before .before .before .before in
+    let earnings = g .before .before in
+    let s = start-of (earnings .before) in
     let a = s .args in
-    first-made (chain s) (k s) (a .e .rounding) (a .rewards .now) (a .work .now) (s .pre) _ (g .gather .ensures) (f .finish-all .ensures)
+    first-made (chain s) (k s) (a .e .rounding) (a .e .paid) (a .rewards .now) (a .work .now) (s .pre) _ (g .gather .ensures) (earnings .earnings .result) (earnings .earnings .ensures)
+    (f .finish-all .ensures)
 
 pub first-rows-spec : {M : Type 1} → statement M
-first-rows-spec = tie.close (tie.spec gather-requires finish-all-requires (λ c. search needs) returns)
+first-rows-spec =
+    tie.close
+    (tie.spec earnings-requires gather-requires (λ c. search needs) finish-all-requires (λ c. search needs) returns)

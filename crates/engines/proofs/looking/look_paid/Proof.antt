@@ -23,7 +23,7 @@ returns c =
     let at = c .before .before .before in
     let sets = at .before .before in
     let u = upto-clear paid _ 11 (said (sets .before .before)) (sets .sets .given .1) in
-    refuse (u .0) (found _ (at .rewards .ensures) (c .before .i .given .1))
+    refuse (u .0) (found _ (at .too-large .ensures) (c .before .i .given .1))
 
 returns-2 : tie.Need-returns-2
 returns-2 c = upto-refused paid _ 11 (said (c .before .before .before)) (c .before .number .given .1)
@@ -33,7 +33,7 @@ returns-3 c =
     let at = c .before .before in
     let sets = at .before .before in
     let u = upto-clear paid _ 11 (said (sets .before .before)) (sets .sets .given .1) in
-    (well (next (u .0) (none _ (at .rewards .ensures) (c .enum-told .given .1))), u .1)
+    (well (next (u .0) (none _ (at .too-large .ensures) (c .enum-told .given .1))), u .1)
 
 pub look-paid-spec : {M : Type 1} → statement M
 look-paid-spec =

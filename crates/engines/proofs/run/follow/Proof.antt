@@ -1,3 +1,4 @@
+use Prim.Native.Nat.{ℕ}
 use mathlib.Core.Path.{_≡_, sym, _∙_}
 use native.Mathlib.Omega.{arith}
 use borrow.Author.Needs.{needs}
@@ -5,10 +6,10 @@ use borrow.Author.Tests.{not-true, not-false, eqb-true, eqb-false}
 use Rattle.meaning.specs.Number.{bit}
 use Rattle.meaning.specs.Chain.{Live}
 use Rattle.meaning.specs.Step.{Sets, first, after}
-use Rattle.meaning.specs.Stop.{earns}
 use Rattle.meaning.specs.Refusal.{Lent}
 use Rattle.chain.specs.Lent.{lent as lentTo}
 use Rattle.survey.specs.Sets.{setsOf}
+use Rattle.engines.specs.Pay.{pays}
 use Rattle.engines.specs.Run.{Begun}
 use Rattle.engines.specs.Table.{rowAt, tableOf, Kept}
 use Rattle.engines.specs.Order.{going, Finished}
@@ -27,7 +28,11 @@ l c = let a = c .args in lentTo (a .e .chain) (a .denominators .now) (a .edges .
 abbrev k : tie.Start → Sets
 k c = setsOf (c .args .e .sets)
 
-begun : (c : tie.Start) → Begun (c .args .e .rounding) (l c) (k c)
+-- What a turn earns.
+abbrev pay : tie.Start → ℕ → ℕ
+pay c = pays (c .args .e .paid) (l c .chain) (l c .rewards)
+
+begun : (c : tie.Start) → Begun (c .args .e .rounding) (c .args .e .paid) (l c) (k c)
 begun c = c .pre .0
 
 -- The start is a goal, or has no path to one.
@@ -42,8 +47,8 @@ returns c =
     let h = c .before .before in
     let s = h .before .before .before .before .before .before .before .before .before in (
       kept-same (s .args .e .chain .states) (s .args .work .now),
-      runs-won (s .args .e .rounding) (l s) (k s) (begun s .asked .right) (won-by c) (c .no-row .ensures),
-      unlogged (s .args .e .rounding) (l s) (k s) (begun s .asked .right) (λ a. a .unwon (won-by c)) (s .pre .1) _,
+      runs-won (pay s) (s .args .e .rounding) (l s) (k s) (begun s .asked .right) (won-by c) (c .no-row .ensures),
+      unlogged (pay s) (s .args .e .rounding) (l s) (k s) (begun s .asked .right) (λ a. a .unwon (won-by c)) (s .pre .1) _,
     )
 
 returns-2 : tie.Need-returns-2
@@ -51,8 +56,8 @@ returns-2 c =
     let h = c .before .before in
     let s = h .before .before .before .before .before .before .before .before .before .before .before in (
       kept-same (s .args .e .chain .states) (s .args .work .now),
-      runs-lost (s .args .e .rounding) (l s) (k s) (begun s .asked .right) (lost-by c) (c .no-row2 .ensures),
-      unlogged (s .args .e .rounding) (l s) (k s) (begun s .asked .right) (λ a. lost-by c (begun s .asked .right .good _ .1 (a .leads))) (s .pre .1) _,
+      runs-lost (pay s) (s .args .e .rounding) (l s) (k s) (begun s .asked .right) (lost-by c) (c .no-row2 .ensures),
+      unlogged (pay s) (s .args .e .rounding) (l s) (k s) (begun s .asked .right) (λ a. lost-by c (begun s .asked .right .good _ .1 (a .leads))) (s .pre .1) _,
     )
 
 -- The elimination is begun where the start is live.
@@ -62,7 +67,7 @@ start-of c = c .before .before .before .before .before .before .before .before .
 alive : (c : tie.Else2) → Live (l (start-of c) .chain) (l (start-of c) .chain .start)
 alive c =
     let s = start-of c in
-    start-live (s .args .e .rounding) (l s) (k s) (begun s .asked .right) (eqb-false _ _ (sym (c .before .before .before .holds .ensures) ∙ c .before .before .if1 .left))
+    start-live (pay s) (s .args .e .rounding) (l s) (k s) (begun s .asked .right) (eqb-false _ _ (sym (c .before .before .before .holds .ensures) ∙ c .before .before .if1 .left))
     (eqb-true _ _ (sym (c .before .holds2 .ensures) ∙ not-false _ (c .if2 .left)))
 
 first-rows-requires : tie.Need-first-rows-requires
@@ -78,8 +83,8 @@ returns-3 c =
     let s = start-of y in
     let m = at .first-rows .ensures in (
       m .kept,
-      stops-first (s .args .e .rounding) (l s) (k s) (begun s .asked .right) (alive y) (m .unfit (not-true _ (c .if3 .taken))),
-      logged-first (s .args .e .rounding) (l s) (k s) (begun s .asked .right) (begun s .asked .few) (s .pre .1),
+      stops-first (pay s) (s .args .e .rounding) (l s) (k s) (begun s .asked .right) (alive y) (m .unfit (not-true _ (c .if3 .taken))),
+      logged-first (pay s) (s .args .e .rounding) (l s) (k s) (begun s .asked .right) (begun s .asked .few) (s .pre .1),
     )
 
 eliminate-requires : tie.Need-eliminate-requires
@@ -99,7 +104,7 @@ from c = start-of (begun-at c)
 begins : (c : tie.After-eliminate)
     → let s = from c in
     let b = s .args .e .rounding in
-    Reached b (s .args .e .chain .states) (first b (l s .chain) (k s) (earns (l s)) (λ _. 0)) (s .args .work .now) (c .before .before .before .before .before .before .first-rows .last .0)
+    Reached b (s .args .e .chain .states) (first b (l s .chain) (k s) (pay s) (λ _. 0)) (s .args .work .now) (c .before .before .before .before .before .before .first-rows .last .0)
 begins c = c .before .before .before .before .before .before .first-rows .ensures .reached (not-false _ (c .before .before .before .if3 .left))
 
 kept : (c : tie.After-eliminate) → Kept (from c .args .e .chain .states) (from c .args .work .now) (c .eliminate .last .0)
@@ -127,9 +132,9 @@ returns-4 c =
     let at = c .before .before .before .before .before .before .before in
     let s = from at in (
       kept at,
-      stops-unfit (s .args .e .rounding) (l s) (k s) (begun s .asked .right) (alive (begun-at at)) _ _ (begins at .same) (at .eliminate .result)
+      stops-unfit (pay s) (s .args .e .rounding) (l s) (k s) (begun s .asked .right) (alive (begun-at at)) _ _ (begins at .same) (at .eliminate .result)
           (at .eliminate .ensures .0) _ (c .before .p .given .1),
-      logged-unfit (s .args .e .rounding) (l s) (k s) (begun s .asked .right) (alive (begun-at at)) _ (begins at .same) (at .eliminate .result) (at .eliminate .ensures .1) _ (c .before .p .given .1)
+      logged-unfit (pay s) (s .args .e .rounding) (l s) (k s) (begun s .asked .right) (alive (begun-at at)) _ (begins at .same) (at .eliminate .result) (at .eliminate .ensures .1) _ (c .before .p .given .1)
           (walk-inside (s .args .e .rounding) (s .args .e .chain .states) (going (s .args .e)) (s .args .order .now) _ _ (at .eliminate .result) (at .eliminate .ensures .0) (c .before .p .given .1)),
     )
 
@@ -148,9 +153,9 @@ returns-5 c =
     let at = c .before .before .before .before .before .before .before .before in
     let s = from at in (
       kept at,
-      reads (s .args .e .rounding) (l s) (k s) (begun s .asked .right) (alive (begun-at at)) _ _ (begins at .same) (at .eliminate .result)
+      reads (pay s) (s .args .e .rounding) (l s) (k s) (begun s .asked .right) (alive (begun-at at)) _ _ (begins at .same) (at .eliminate .result)
           (at .eliminate .ensures .0) (begun s .start) (c .before .before .enum-told .given .1) (c .last-of .result) (c .last-of .ensures),
-      logged-through (s .args .e .rounding) (l s) (k s) (begun s .asked .right) (alive (begun-at at)) _ (begins at .same) (at .eliminate .result) (at .eliminate .ensures .1) (c .before .before .enum-told .given .1)
+      logged-through (pay s) (s .args .e .rounding) (l s) (k s) (begun s .asked .right) (alive (begun-at at)) _ (begins at .same) (at .eliminate .result) (at .eliminate .ensures .1) (c .before .before .enum-told .given .1)
           (rowAt (s .args .e .chain .states) (at .eliminate .last .0) (s .args .e .chain .start)) (c .last-of .ensures),
     )
 
