@@ -1,9 +1,9 @@
 -- From what the writer answers to what its face for C answers.
-use Prim.Native.Nat.{ℕ, _≤_}
+use Prim.Native.Nat.{ℕ, _+_, _≤_}
 use mathlib.Core.Path.{_≡_, ap, subst}
 use mathlib.Core.List.{List}
 use native.Mathlib.Omega.{arith}
-use Rattle.meaning.specs.Chain.{mostEdges}
+use Rattle.meaning.specs.Chain.{mostStates, mostEdges}
 use Rattle.meaning.specs.Refusal.{Lent}
 use Rattle.meaning.specs.Buffer.{Writing, noWriting}
 use Rattle.meaning.specs.Write.{WriteOutcome, refused, written}
@@ -17,7 +17,7 @@ use Rattle.egorstream.specs.declared.write.Written.{Written}
 use Rattle.egorstream.specs.Told.{lent, told}
 
 -- A refusal's place is small. No file is empty, so that none is mistaken for a refusal.
-pub place-small : {l : Lent} {number place : ℕ} {after : List ℕ} → WriteOutcome l (noWriting number place) after → place ≤ mostEdges
+pub place-small : {l : Lent} {number place : ℕ} {after : List ℕ} → WriteOutcome l (noWriting number place) after → place ≤ mostStates + mostEdges
 place-small (refused k p r e d) =
     let z = ap (λ (a : Writing). a .place) e in let n = refused-places k p r in omega (arith, n .2)
 place-small (written w f x e d) = let z = ap (λ (a : Writing). a .written) e in absurd (omega (arith, file-of-size x))

@@ -20,8 +20,8 @@ refused-near number place r =
     (chain some most, record { two = omega arith; four = omega arith })
 
 -- The number 12.
-pub stopped-near : {x : Entry} {b : Bool} {l : Lent} {number place : ℕ} → WellFormed x l → Stopped b l number place → Near number place
-stopped-near {x} {b} {l} formed s =
+pub stopped-near : {x : Entry} {pay : ℕ → ℕ} {b : Bool} {l : Lent} {number place : ℕ} → WellFormed x l → Stopped pay b l number place → Near number place
+stopped-near formed s =
     record { two = omega (arith, stopped-twelve s); four = omega (arith, stopped-place formed s) }
 
 -- The numbers 20 to 24.
