@@ -1,5 +1,6 @@
 // The dice chain of Knuth and Yao: prints the chance of each face.
 use chain::Chain;
+use chain::edge;
 use engines::entry::chance;
 use libc::STDOUT_FILENO;
 use report::Printed;
@@ -12,7 +13,7 @@ const FACES: u64 = 6;
 
 const FIRST: u64 = 7;
 
-// The twenty edges: from, to, weight.
+// The twenty edges, as the scope has them: from, to, weight.
 const EDGES: [u64; 60] = [
     0,
     1,
@@ -80,13 +81,34 @@ const DENOMINATORS: [u64; STATES] = [2, 2, 2, 2, 2, 2, 2, 1, 1, 1, 1, 1, 1];
 
 const ORDER: [u64; STATES] = [0, 1, 2, 3, 4, 5, 6, 7, 8, 9, 10, 11, 12];
 
+const COUNT: usize = EDGES.len() / 3;
+
+// The edges as an entry takes them: each with the reward 0.
+fn widened() -> [u64; edge::SIZE * COUNT] {
+    let mut edges = [0u64; edge::SIZE * COUNT];
+    let mut e = 0;
+    while e < COUNT {
+        edge::put(
+            &mut edges,
+            e,
+            EDGES[3 * e],
+            EDGES[3 * e + 1],
+            EDGES[3 * e + 2],
+            0,
+        );
+        e += 1;
+    }
+    edges
+}
+
 // Prints the line of the face whose state is the only goal.
 fn print(number: u64, goals: u64) {
+    let edges = widened();
     let mut work = [0u64; Chain::WORK];
     let found = chance(
         Chain::new(STATES, 0, goals),
         &DENOMINATORS,
-        &EDGES,
+        &edges,
         &ORDER,
         &mut work,
     );

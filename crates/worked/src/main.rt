@@ -11,7 +11,7 @@ use run::case;
 // The scope's third chain: state 0 goes to itself, to the goal 1 and to the trap 2.
 const D: [u64; 3] = [3, 1, 1];
 
-const E: [u64; 15] = [0, 0, 1, 0, 1, 1, 0, 2, 1, 1, 1, 1, 2, 2, 1];
+const E: [u64; 20] = [0, 0, 1, 0, 0, 1, 1, 0, 0, 2, 1, 0, 1, 1, 1, 0, 2, 2, 1, 0];
 
 const O: [u64; 3] = [0, 1, 2];
 
@@ -43,7 +43,7 @@ fn lent(name: &[u8], work: usize)
 
 // The scope's chain for the first visit, with a finite reward.
 fn visits(name: &[u8]) {
-    let edges = [0, 1, 1, 1, 1, 1, 1, 2, 1, 2, 2, 1];
+    let edges = [0, 1, 1, 0, 1, 1, 1, 0, 1, 2, 1, 0, 2, 2, 1, 0];
     case(
         name,
         Chain::new(3, 0, 4),
@@ -57,25 +57,31 @@ fn visits(name: &[u8]) {
 // The scope's chain with a weight of M - 1, which does not fit.
 const DENOMINATORS: [u64; 4] = [Chain::LIMIT, 3, 1, 1];
 
-const EDGES: [u64; 18] = [
+const EDGES: [u64; 24] = [
     0,
     1,
     1,
+    0,
     0,
     3,
     2147483646,
+    0,
     1,
     2,
     1,
+    0,
     1,
     3,
     2,
+    0,
     2,
     2,
     1,
+    0,
     3,
     3,
     1,
+    0,
 ];
 
 fn no_fit(name: &[u8]) {
@@ -89,16 +95,50 @@ fn no_fit(name: &[u8]) {
     );
 }
 
+// Rewards on edges: 0 to itself with 3 and to the goal with 5, whose loop has 7, and the state's own reward.
+fn retries(name: &[u8]) {
+    let edges = [0, 0, 1, 3, 0, 1, 1, 5, 1, 1, 1, 7];
+    case(name, Chain::new(2, 0, 2), &[2, 1], &edges, &[0, 1], &[1, 0]);
+}
+
+// A reward too large, on the edge to the goal and on the trap's loop: only the reward entry looks at it.
+fn overpaid(name: &[u8]) {
+    let edges = [
+        0,
+        0,
+        1,
+        0,
+        0,
+        1,
+        1,
+        65536,
+        0,
+        2,
+        1,
+        65535,
+        1,
+        1,
+        1,
+        0,
+        2,
+        2,
+        1,
+        65536,
+    ];
+    with_edges(name, &edges);
+}
+
 // Each way in which an entry ends that makes the work table zero: infinite, an answer without rows, one with rows, and no fit.
 fn cleared() {
     from(b"itself, goal and trap", 0);
     from(b"started on the goal", 1);
     visits(b"first visit and loop");
     no_fit(b"M - 1 chain");
+    retries(b"rewards on edges");
 }
 
 fn many_edges(name: &[u8]) {
-    let many = [0u64; 12291];
+    let many = [0u64; 16388];
     with_edges(name, &many);
 }
 
@@ -108,7 +148,7 @@ fn many_states(name: &[u8]) {
 }
 
 fn misshaped() {
-    with_edges(b"refusal 1, edges not in threes", &E[..14]);
+    with_edges(b"refusal 1, edges not in fours", &E[..18]);
     many_edges(b"refusal 1, 4097 edges");
     with_order(b"refusal 1, an order too short", &O[..2]);
     with_rewards(b"refusal 1, a reward too many", &[1, 1, 1, 1]);
@@ -121,4 +161,5 @@ fn main() {
     misshaped();
     lent(b"refusal 2", 20);
     with_rewards(b"refusal 11", &[1, 65536, 1]);
+    overpaid(b"refusal 11, of an edge");
 }
