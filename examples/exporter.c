@@ -21,15 +21,15 @@ enum { STATES = 7, OKAY = 5, FAILED = 6 };
 
 static const uint64_t denominators[] = {8, 5, 5, 5, 5, 1, 1};
 
-/* From, to, weight. */
+/* From, to, weight, reward. */
 static const uint64_t edges[] = {
-    0, OKAY, 7, 0, 1, 1,
-    1, 0, 4, 1, 2, 1,
-    2, 0, 4, 2, 3, 1,
-    3, 0, 4, 3, 4, 1,
-    4, 0, 4, 4, FAILED, 1,
-    OKAY, OKAY, 1,
-    FAILED, FAILED, 1,
+    0, OKAY, 7, 0, 0, 1, 1, 0,
+    1, 0, 4, 0, 1, 2, 1, 0,
+    2, 0, 4, 0, 2, 3, 1, 0,
+    3, 0, 4, 0, 3, 4, 1, 0,
+    4, 0, 4, 0, 4, FAILED, 1, 0,
+    OKAY, OKAY, 1, 0,
+    FAILED, FAILED, 1, 0,
 };
 
 static const uint64_t order[] = {0, 1, 2, 3, 4, 5, 6};

@@ -28,17 +28,19 @@ def block(version, kind, number, records):
     return body + bytes([first, second])
 
 
-def chain_file(rows, goals, rewards=None, start=0, order=None, version=2):
+def chain_file(rows, goals, rewards=None, paid=None, start=0, order=None, version=2):
     """The bytes of a chain file.
 
     rows     for each state, a dictionary of the weight to each target; a row's sum is its
              denominator
     goals    the goal states
     rewards  the reward of each state that has one
+    paid     the reward of each edge, a pair of states, that has one: not in version 1
     order    the order in which states are removed, that of their numbers unless given
     version  of all its blocks; version 1, whose check is weaker, is still read
     """
     rewards = rewards or {}
+    paid = paid or {}
     order = order or list(range(len(rows)))
     edges = [(source, to, weight) for source, row in enumerate(rows) for to, weight in row.items()]
     states = [
@@ -48,7 +50,7 @@ def chain_file(rows, goals, rewards=None, start=0, order=None, version=2):
     kinds = [
         (1, [struct.pack("<BBHI", len(rows), start, len(edges), 0)]),
         (2, states),
-        (3, [struct.pack("<BBHI", source, to, 0, weight) for source, to, weight in edges]),
+        (3, [struct.pack("<BBHI", *edge[:2], paid.get(edge[:2], 0), edge[2]) for edge in edges]),
     ]
     blocks = []
     for kind, records in kinds:
@@ -144,12 +146,27 @@ def copies(count=5, loss=3, rebuild=40, finish=500):
     return chain_file(rows + [{done: 1}], goals={0}, start=count)
 
 
+def retries():
+    """A backup over a shaky line, in thousandths. The minutes are on the edges: a retry costs what its
+    waiting costs, and what goes well costs what it takes.
+
+    0 fetching   990 go on after 4 minutes, 10 wait 15 minutes and fetch again
+    1 writing    970 end after 7 minutes, 20 wait 30 minutes and write on, 10 fetch again after 12
+    2 done       the goal
+
+    Chance 1/1; the expected minutes of a night are 38209/3201, a little under 12.
+    """
+    rows = [{1: 990, 0: 10}, {2: 970, 1: 20, 0: 10}, {2: 1}]
+    minutes = {(0, 1): 4, (0, 0): 15, (1, 2): 7, (1, 1): 30, (1, 0): 12}
+    return chain_file(rows, goals={2}, paid=minutes)
+
+
 def main():
     if len(sys.argv) > 1:
         sys.stdout.buffer.write(copies(*map(int, sys.argv[1:])))
         return
     here = Path(__file__).resolve().parent
-    for make in (address, dice, long, gateway, backup, copies):
+    for make in (address, dice, long, gateway, backup, copies, retries):
         (here / f"{make.__name__}.chain").write_bytes(make())
 
 

@@ -1,5 +1,7 @@
 //! The chain: its tables as a chain file holds them, and its limits.
 
+use crate::block::VERSIONS;
+
 /// The most states of a chain.
 pub const MOST_STATES: usize = 64;
 /// The most edges of a chain.
@@ -7,12 +9,14 @@ pub const MOST_EDGES: usize = 4_096;
 /// The most that a denominator, a weight and a kept row's total may be.
 pub const M: u32 = 2_147_483_647;
 
-/// One edge: its probability is `weight` over the denominator of `from`.
+/// One edge: its probability is `weight` over the denominator of `from`; each turn along it earns
+/// `reward`.
 #[derive(Clone, Copy, Debug, PartialEq, Eq)]
 pub struct Edge {
     pub from: u8,
     pub to: u8,
     pub weight: u32,
+    pub reward: u16,
 }
 
 /// A chain as a file holds it; whether it is well formed is for `refusal` to say.
@@ -37,6 +41,15 @@ impl Chain {
     /// The start state as an index.
     pub fn start(&self) -> usize {
         usize::from(self.start)
+    }
+
+    /// The versions of the files that can hold this chain: in version 1 an edge has no reward.
+    pub fn versions(&self) -> &'static [u8] {
+        if self.edges.iter().any(|edge| edge.reward > 0) {
+            &VERSIONS[1..]
+        } else {
+            &VERSIONS
+        }
     }
 
     /// Whether the start is a goal.

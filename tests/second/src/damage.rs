@@ -88,9 +88,15 @@ fn any_length(random: &mut Random) -> usize {
     }
 }
 
-/// The file of a chain, in either version.
+/// The file of a chain, in a version that can hold it, or at times in another.
 pub fn any_file(random: &mut Random, chain: &Chain) -> Vec<u8> {
-    file::write(chain, random.pick(&VERSIONS))
+    file::write(chain, any_version(random, chain))
+}
+
+/// A version that can hold the chain, or at times another: rewards on edges are 24 in version 1.
+pub fn any_version(random: &mut Random, chain: &Chain) -> u8 {
+    let versions = if random.once_in(8) { &VERSIONS } else { chain.versions() };
+    random.pick(versions)
 }
 
 /// One block of a file.
@@ -239,7 +245,8 @@ fn records_wrong(random: &mut Random, mut chain: Chain) -> Vec<u8> {
     any_file(random, &chain)
 }
 
-/// A flag above 1, or another number where a block has a zero, with the check mended.
+/// A flag above 1, another number where a block has a zero, or another reward of an edge, with the
+/// check mended.
 fn flag_or_zero_wrong(random: &mut Random, file: &mut [u8]) {
     let place = any_block(random, file);
     let block = block_at(file, place);

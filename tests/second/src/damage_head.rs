@@ -65,5 +65,5 @@ fn another_state(chain: &mut Chain) {
     chain.rewards.push(0);
     chain.goals.push(false);
     chain.order.push(state);
-    chain.edges.push(Edge { from: state, to: state, weight: 1 });
+    chain.edges.push(Edge { from: state, to: state, weight: 1, reward: 0 });
 }

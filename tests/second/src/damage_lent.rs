@@ -12,7 +12,7 @@ type Damage = fn(&mut Random, &mut Tables);
 const SINGLE: usize = 6;
 
 /// Each with its name; one may give several numbers, and every second chain gets one more of them.
-pub const LENT_DAMAGES: [(&str, Damage); 13] = [
+pub const LENT_DAMAGES: [(&str, Damage); 14] = [
     ("lent: states", states),
     ("lent: a table's length", length),
     ("lent: edge numbers", edge_numbers),
@@ -44,6 +44,10 @@ pub const LENT_DAMAGES: [(&str, Damage); 13] = [
     ("lent: reward", |random, tables| {
         let at = random.below(tables.rewards.len());
         tables.rewards[at] = random.pick(&[MOST_REWARD, MOST_REWARD + 1, u64::MAX]);
+    }),
+    ("lent: edge reward", |random, tables| {
+        let at = EDGE * random.below(tables.edges.len() / EDGE) + 3;
+        tables.edges[at] = random.pick(&[MOST_REWARD, MOST_REWARD + 1, u64::MAX]);
     }),
     ("lent: buffer", |_, _| {}),
 ];

@@ -45,9 +45,18 @@ impl Draft {
         let mut edges = Vec::new();
         for (from, row) in self.rows.iter().enumerate() {
             let row = row.iter();
-            edges.extend(row.map(|(&to, &weight)| Edge { from: from as u8, to: to as u8, weight }));
+            edges.extend(row.map(|(&to, &weight)| Edge {
+                from: from as u8,
+                to: to as u8,
+                weight,
+                reward: 0,
+            }));
         }
         random.shuffle(&mut edges);
+        let paid = rewards(random, edges.len());
+        for (edge, reward) in edges.iter_mut().zip(paid) {
+            edge.reward = reward;
+        }
         let mut order: Vec<u8> = (0..n as u8).collect();
         match random.below(3) {
             0 => {}
@@ -65,8 +74,13 @@ impl Draft {
     }
 }
 
-/// Rewards for n states: none, small ones, or up to the most that a file can hold.
+/// Rewards for n states or edges: none, small ones, or up to the most that a file can hold.
 fn rewards(random: &mut Random, n: usize) -> Vec<u16> {
     let most = random.pick(&[0, 1, 1, 9, 65_535]);
-    (0..n).map(|_| random.between(0, most) as u16).collect()
+    let reward = |random: &mut Random| match random.below(4) {
+        0 => 0,
+        1 => most as u16,
+        _ => random.between(0, most) as u16,
+    };
+    (0..n).map(|_| reward(random)).collect()
 }

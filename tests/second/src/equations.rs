@@ -28,10 +28,12 @@ pub fn chance(chain: &Chain, reach: &Reach) -> Solution {
 
 /// The expected reward of a chain whose start is live and whose reward is not infinite.
 pub fn reward(chain: &Chain, reach: &Reach) -> Solution {
-    // Denominator times y equals denominator times reward plus the sum of weight times y of the
-    // target; y is 0 on goals.
+    // Denominator times y equals denominator times reward, plus the sum of weight times edge reward,
+    // plus the sum of weight times y of the target; y is 0 on goals.
     solve(chain, reach, |state| {
-        u64::from(chain.denominators[state]) * u64::from(chain.rewards[state])
+        let leaving = chain.edges.iter().filter(|edge| usize::from(edge.from) == state);
+        let by_edges: u64 = leaving.map(|e| u64::from(e.weight) * u64::from(e.reward)).sum();
+        u64::from(chain.denominators[state]) * u64::from(chain.rewards[state]) + by_edges
     })
 }
 

@@ -6,7 +6,7 @@ pub type Example = (&'static str, &'static [u8], &'static [&'static str], &'stat
 
 const GATEWAY: &[u8] = include_bytes!("../../../examples/gateway.chain");
 
-pub const EXAMPLES: [Example; 6] = [
+pub const EXAMPLES: [Example; 7] = [
     (
         "address.chain",
         include_bytes!("../../../examples/address.chain"),
@@ -60,6 +60,12 @@ pub const EXAMPLES: [Example; 6] = [
          state 2 rows 1 columns 3 divisor 1\n\
          state 3 rows 1 columns 3 divisor 3\n\
          chance refused 12 at 4\n",
+    ),
+    (
+        "retries.chain",
+        include_bytes!("../../../examples/retries.chain"),
+        &["live 2", "chance 1/1", "reward 38209/3201", "bounds 1/1 1/1"],
+        "state 1 rows 1 columns 2 divisor 1\nchance 1/1\n",
     ),
 ];
 

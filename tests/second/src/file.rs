@@ -32,7 +32,8 @@ fn state_record(chain: &Chain, i: usize) -> [u8; RECORD] {
 
 fn edge_record(edge: &Edge) -> [u8; RECORD] {
     let w = edge.weight.to_le_bytes();
-    [edge.from, edge.to, 0, 0, w[0], w[1], w[2], w[3]]
+    let r = edge.reward.to_le_bytes();
+    [edge.from, edge.to, r[0], r[1], w[0], w[1], w[2], w[3]]
 }
 
 /// The tables that a chain file holds, or the refusal 20 to 24 that it gives.
@@ -76,11 +77,11 @@ pub fn read(file: &[u8]) -> Result<Chain, Refusal> {
         } else {
             let rest = edge_count - chain.edges.len();
             for record in records(bytes, place, version, block::EDGES, rest.min(RECORDS))? {
-                if record[2..4] != [0; 2] {
+                let (weight, reward) = (four_bytes(record, 4), two_bytes(record, 2));
+                if version == 1 && reward != 0 {
                     return Err(Refusal { number: 24, place });
                 }
-                let weight = four_bytes(record, 4);
-                chain.edges.push(Edge { from: record[0], to: record[1], weight });
+                chain.edges.push(Edge { from: record[0], to: record[1], weight, reward });
             }
         }
     }
@@ -121,7 +122,7 @@ mod tests {
     #[test]
     fn reads_what_it_wrote() {
         for case in worked::chains() {
-            for version in block::VERSIONS {
+            for &version in case.chain.versions() {
                 let read = read(&write(&case.chain, version));
                 assert_eq!(read.as_ref(), Ok(&case.chain), "{}", case.name);
             }
@@ -155,6 +156,16 @@ mod tests {
         let last = file.len() - block::LENGTH;
         file[last..].copy_from_slice(&other[last..]);
         assert_eq!(read(&file), Err(Refusal { number: 23, place: last / block::LENGTH }));
+    }
+
+    #[test]
+    fn rewards_on_edges_are_24_in_version_1() {
+        let mut chain = worked::chains()[0].chain.clone();
+        for reward in [1, 255, 256, 65_535] {
+            chain.edges[3].reward = reward;
+            assert_eq!(read(&write(&chain, 1)), Err(Refusal { number: 24, place: 2 }));
+            assert_eq!(read(&write(&chain, 2)).as_ref(), Ok(&chain));
+        }
     }
 
     #[test]

@@ -1,7 +1,7 @@
 //! Chains at the edges of the rules for no fit and for rounding, worked by hand.
 
 use crate::chain::M;
-use crate::worked::{chain, Worked};
+use crate::worked::{chain, paid, Worked};
 
 /// Chains that a rule one off would answer otherwise.
 pub fn chains() -> Vec<Worked> {
@@ -60,6 +60,16 @@ fn rewards() -> Vec<Worked> {
         Worked {
             name: "a first Reward of M + 1",
             chain: chain(&[&[(0, 1), (1, 65_535)], &[(1, 1)]], &[1], &[32_768]),
+            lines: &["chance 1/1", "reward refused 12 at 64"],
+        },
+        Worked {
+            name: "a first Reward of M by edges",
+            chain: paid(chain(&[&[(0, 1), (1, M - 1)], &[(1, 1)]], &[1], &[]), &[1, 1]),
+            lines: &["chance 1/1", "reward 2147483647/2147483646"],
+        },
+        Worked {
+            name: "a first Reward of M + 1 by edges",
+            chain: paid(chain(&[&[(0, 1), (1, 65_535)], &[(1, 1)]], &[1], &[]), &[32_768; 2]),
             lines: &["chance 1/1", "reward refused 12 at 64"],
         },
         Worked {

@@ -189,9 +189,12 @@ fn first_row(chain: &Chain, reach: &Reach, figure: Figure, state: usize) -> Row 
             &mut row.trap
         };
         *column += u128::from(edge.weight);
+        if figure == Figure::Reward {
+            row.reward += u128::from(edge.weight) * u128::from(edge.reward);
+        }
     }
     if figure == Figure::Reward {
-        row.reward = u128::from(chain.rewards[state]) * row.total();
+        row.reward += u128::from(chain.rewards[state]) * row.total();
     }
     row
 }

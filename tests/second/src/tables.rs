@@ -6,8 +6,8 @@ use crate::file;
 use crate::refusal::Refusal;
 use std::collections::HashSet;
 
-/// The numbers of an edge in the list: from, to, weight.
-pub const EDGE: usize = 3;
+/// The numbers of an edge in the list: from, to, weight, reward.
+pub const EDGE: usize = 4;
 /// The greatest reward.
 pub const MOST_REWARD: u64 = 65_535;
 /// The version that the writer makes.
@@ -27,7 +27,10 @@ pub struct Tables {
 impl Tables {
     pub fn of(chain: &Chain) -> Tables {
         let goals = chain.goals.iter().enumerate();
-        let edge = |edge: &Edge| [u64::from(edge.from), u64::from(edge.to), u64::from(edge.weight)];
+        let edge = |edge: &Edge| {
+            let ends = [edge.from, edge.to].map(u64::from);
+            [ends[0], ends[1], u64::from(edge.weight), u64::from(edge.reward)]
+        };
         Tables {
             states: chain.states() as u64,
             start: u64::from(chain.start),
@@ -128,19 +131,23 @@ impl Tables {
     }
 
     fn reward_too_large(&self) -> Option<usize> {
-        self.rewards.iter().position(|&reward| reward > MOST_REWARD)
+        // A state's place is its number, an edge's 64 and its index: states come first.
+        let of_edge = || self.edge_rows().position(|edge| edge[3] > MOST_REWARD);
+        let of_state = self.rewards.iter().position(|&reward| reward > MOST_REWARD);
+        of_state.or_else(|| of_edge().map(|index| 64 + index))
     }
 
     /// The chain of tables that nothing refuses.
     fn chain(&self) -> Chain {
+        let short = |&number: &u64| u16::try_from(number).expect("a reward is at most 65,535");
         let small = |&number: &u64| u8::try_from(number).expect("a state's number is a byte");
         let edge = |edge: &[u64]| Edge {
             from: small(&edge[0]),
             to: small(&edge[1]),
             weight: u32::try_from(edge[2]).expect("a weight is at most M"),
+            reward: short(&edge[3]),
         };
         let whole = |&number: &u64| u32::try_from(number).expect("a denominator is at most M");
-        let short = |&number: &u64| u16::try_from(number).expect("a reward is at most 65,535");
         Chain {
             start: small(&self.start),
             denominators: self.denominators.iter().map(whole).collect(),
@@ -169,6 +176,16 @@ mod tests {
             let short = Err(Refusal { number: 2, place: 0 });
             assert_eq!(tables.written(file.len() - 1), short, "{}", case.name);
         }
+    }
+
+    #[test]
+    fn a_large_reward_of_an_edge_is_11_after_the_states() {
+        let mut tables = Tables::of(&worked::chains()[0].chain);
+        tables.edges[EDGE + 3] = MOST_REWARD + 1;
+        tables.edges[2 * EDGE + 3] = u64::MAX;
+        assert_eq!(tables.written(usize::MAX), Err(Refusal { number: 11, place: 65 }));
+        tables.rewards[6] = MOST_REWARD + 1;
+        assert_eq!(tables.written(usize::MAX), Err(Refusal { number: 11, place: 6 }));
     }
 
     #[test]

@@ -1,6 +1,6 @@
 //! The whole work of a run, cut into units that any thread can take.
 
-use crate::block::{self, VERSIONS};
+use crate::block;
 use crate::chain::{Chain, MOST_STATES};
 use crate::compare;
 use crate::compare_steps;
@@ -92,7 +92,7 @@ fn worker(next: &AtomicU64, once_in: u64) -> Tally {
 fn known_answers(tally: &mut Tally) {
     for (place, worked) in worked::all().into_iter().enumerate() {
         let case = Case { family: worked.name, seed: place as u64 };
-        for version in VERSIONS {
+        for &version in worked.chain.versions() {
             let file = file::write(&worked.chain, version);
             compare_chain(tally, case, &worked.chain, version);
             compare::report_lines(tally, case, &file, worked.lines);
@@ -101,7 +101,7 @@ fn known_answers(tally: &mut Tally) {
     }
     for (place, (family, chain, text)) in worked_steps::all().into_iter().enumerate() {
         let case = Case { family, seed: place as u64 };
-        for version in VERSIONS {
+        for &version in chain.versions() {
             let file = file::write(&chain, version);
             compare_steps::text(tally, case, &file, text);
             compare_lists(tally, case, &file, chain.states());
@@ -171,7 +171,7 @@ fn one_chain(tally: &mut Tally, seed: u64, place: u64, with_report: bool) {
     let case = Case { family: family.0, seed };
     let mut random = Random::new(seed);
     let chain = generate::draw(&mut random, family);
-    let version = random.pick(&VERSIONS);
+    let version = damage::any_version(&mut random, &chain);
     let file = file::write(&chain, version);
     tally.chain(&file);
     compare_chain(tally, case, &chain, version);
@@ -194,7 +194,7 @@ fn one_chain_in_many_orders(tally: &mut Tally, seed: u64) {
     let mut turns_that_fit = HashSet::new();
     for _ in 0..ORDERS {
         random.shuffle(&mut chain.order);
-        let version = random.pick(&VERSIONS);
+        let version = random.pick(chain.versions());
         let (exact, bounds) = compare_chain(tally, case, &chain, version);
         if let Some((chance, _)) = exact {
             chances.push(chance);

@@ -1,4 +1,4 @@
-//! The chains that document 01 works by hand, with its answers.
+//! The chains that document 01 works by hand, and some with rewards on edges, with their answers.
 
 use crate::chain::{Chain, Edge, M};
 use crate::sharp;
@@ -15,7 +15,7 @@ pub struct Worked {
 pub fn chain(rows: &[&[(u8, u32)]], goals: &[usize], rewards: &[u16]) -> Chain {
     let mut edges = Vec::new();
     for (from, row) in (0..).zip(rows) {
-        edges.extend(row.iter().map(|&(to, weight)| Edge { from, to, weight }));
+        edges.extend(row.iter().map(|&(to, weight)| Edge { from, to, weight, reward: 0 }));
     }
     Chain {
         start: 0,
@@ -67,6 +67,15 @@ pub fn no_fit() -> Chain {
 fn with(mut chain: Chain, change: impl Fn(&mut Chain)) -> Chain {
     change(&mut chain);
     chain
+}
+
+/// The chain with these rewards on its first edges.
+pub fn paid(chain: Chain, rewards: &[u16]) -> Chain {
+    with(chain, |chain| {
+        for (edge, &reward) in chain.edges.iter_mut().zip(rewards) {
+            edge.reward = reward;
+        }
+    })
 }
 
 /// Every worked chain that a file can hold.
@@ -125,6 +134,15 @@ pub fn chains() -> Vec<Worked> {
     let rows: Vec<&[(u8, u32)]> = loops.iter().map(|row| &row[..]).collect();
     let all: Vec<usize> = (0..64).collect();
     add("64 goals", chain(&rows, &all, &[]), &["goals 64", "live 0", "chance 1/1", "reward 0/1"]);
+    let retry = |rewards| chain(&[&[(0, 1), (1, 1)], &[(1, 1)]], &[1], rewards);
+    add("rewards on edges", paid(retry(&[]), &[3, 5]), &["chance 1/1", "reward 8/1"]);
+    add("and on a goal's edge", paid(retry(&[]), &[3, 5, 7]), &["chance 1/1", "reward 8/1"]);
+    add("and on the state", paid(retry(&[1]), &[3, 5, 7]), &["chance 1/1", "reward 10/1"]);
+    add(
+        "rewards that the chance does not carry",
+        paid(chain(&[&[(1, 40_000), (2, 40_001)], &[(1, 1)], &[(2, 1)]], &[1], &[]), &[65_535]),
+        &["chance 40000/80001", "reward infinite", "bounds 40000/80001 40000/80001"],
+    );
     cases
 }
 
@@ -138,12 +156,12 @@ pub fn all() -> Vec<Worked> {
 #[cfg(test)]
 mod tests {
     use super::*;
-    use crate::{block::VERSIONS, equations, file, fraction::Fraction, live::Reach, report};
+    use crate::{equations, file, fraction::Fraction, live::Reach, report};
 
     #[test]
     fn every_worked_chain_has_its_answer() {
         for case in all() {
-            for version in VERSIONS {
+            for &version in case.chain.versions() {
                 let report = report::of_file(&file::write(&case.chain, version));
                 for line in case.lines {
                     assert!(report.lines().any(|l| l == *line), "{}: {line}\n{report}", case.name);
