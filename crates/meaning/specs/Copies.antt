@@ -4,9 +4,10 @@ use mathlib.Core.Path.{_≡_}
 use mathlib.Core.List.{List, [], _∷_, _++_}
 use lib.ListN.{getD}
 use Rattle.meaning.specs.Number.{tabFrom}
-use Rattle.meaning.specs.Chain.{Chain, edge, rowSum}
+use Rattle.meaning.specs.Chain.{Chain, plainEdge, rowSum}
 use Rattle.meaning.specs.Figure.{Chance}
-use Rattle.meaning.specs.Refusal.{Lent, ownWork, Beyond}
+use Rattle.meaning.specs.Refusal.{Lent, plain, ownWork, Beyond}
+use Rattle.meaning.specs.Stop.{earns}
 use Rattle.meaning.specs.Outcome.{Answer, refusal, fraction}
 use Rattle.meaning.specs.Demand.{NoFitAnywhere}
 
@@ -56,16 +57,16 @@ finished j = j .copies + 1
 -- State k means k copies left. With k left, loss counts k times; rebuild adds one where k is below the copies; finish ends the job well. 0 and
 -- the finished job loop with weight 1.
 abbrev pub losses : Plan → List ℕ
-losses j = each (λ k. edge k (k - 1) (k * j .loss)) (j .copies)
+losses j = each (λ k. plainEdge k (k - 1) (k * j .loss)) (j .copies)
 
 abbrev pub rebuilds : Plan → List ℕ
-rebuilds j = each (λ k. edge k (k + 1) (j .rebuild)) (j .copies - 1)
+rebuilds j = each (λ k. plainEdge k (k + 1) (j .rebuild)) (j .copies - 1)
 
 abbrev pub finishes : Plan → List ℕ
-finishes j = each (λ k. edge k (finished j) (j .finish)) (j .copies)
+finishes j = each (λ k. plainEdge k (finished j) (j .finish)) (j .copies)
 
 unfoldable pub copiesEdges : Plan → List ℕ
-copiesEdges j = losses j ++ rebuilds j ++ finishes j ++ edge 0 0 1 ++ edge (finished j) (finished j) 1
+copiesEdges j = losses j ++ rebuilds j ++ finishes j ++ plainEdge 0 0 1 ++ plainEdge (finished j) (finished j) 1
 
 -- How many states there are: 0 to the finished job.
 abbrev pub copiesStates : Plan → ℕ
@@ -96,6 +97,6 @@ pub data CopiesOutcome (j : Plan) (a : Answer) : Type 0 where
   copies-wrong : CopiesFault j → a ≡ refusal 30 0 → CopiesOutcome j a
   weight-wrong : (CopiesFault j → ⊥) → (p : ℕ) → PlaceFault j p → ((q : ℕ) → q < p → PlaceFault j q → ⊥) → a ≡ refusal 31 p
       → CopiesOutcome j a
-  large : Sensible j → NoFitAnywhere (copiesLent j) → a ≡ refusal 12 0 → CopiesOutcome j a
-  planned : Sensible j → (NoFitAnywhere (copiesLent j) → ⊥) → (p q : ℕ) → Chance (copiesChain j) p q → a ≡ fraction p q
+  large : Sensible j → NoFitAnywhere (earns plain (copiesLent j)) (copiesLent j) → a ≡ refusal 12 0 → CopiesOutcome j a
+  planned : Sensible j → (NoFitAnywhere (earns plain (copiesLent j)) (copiesLent j) → ⊥) → (p q : ℕ) → Chance (copiesChain j) p q → a ≡ fraction p q
       → CopiesOutcome j a

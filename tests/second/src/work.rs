@@ -251,7 +251,7 @@ fn one_grown(tally: &mut Tally, seed: u64) {
     let case = Case { family: "grown", seed };
     let mut random = Random::new(seed);
     let chain = generate::draw_grown(&mut random);
-    let file = file::write(&chain, random.pick(&VERSIONS));
+    let file = file::write(&chain, damage::any_version(&mut random, &chain));
     tally.chain(&file);
     compare_lists(tally, case, &file, chain.states());
     compare_steps::program(tally, case, &file);

@@ -7,7 +7,7 @@ use lib.ListN.{length, getD, length-append, List·getD-append}
 use lib.Seq.{getD-append-add}
 use lib.Dec.{eqb}
 use Rattle.meaning.specs.Number.{sumTo, only}
-use Rattle.meaning.specs.Chain.{edgeSize, edge, edgeCount, from, to, weight, carried, flow}
+use Rattle.meaning.specs.Chain.{edgeSize, plainEdge, edgeCount, from, to, weight, edgeReward, carried, flow}
 use Rattle.meaning.specs.Copies.{each}
 use Rattle.theory.specs.Numbers.Sum.{last-or-below, sum-ext, sum-join}
 
@@ -15,16 +15,17 @@ use Rattle.theory.specs.Numbers.Sum.{last-or-below, sum-ext, sum-join}
 abbrev pub Edges : List ℕ → ℕ → Type 0
 Edges edges n = length edges ≡ edgeSize * n
 
--- The numbers of edge e.
+-- The numbers of edge e, which has no reward.
 pub record IsEdge (edges : List ℕ) (e source target amount : ℕ) : Type 0 where
   pub source-is : from edges e ≡ source
   pub target-is : to edges e ≡ target
   pub amount-is : weight edges e ≡ amount
+  pub reward-is : edgeReward edges e ≡ 0
 
-pub is-alone : (source target amount : ℕ) → IsEdge (edge source target amount) 0 source target amount
-is-alone source target amount = record { source-is = refl; target-is = refl; amount-is = refl }
+pub is-alone : (source target amount : ℕ) → IsEdge (plainEdge source target amount) 0 source target amount
+is-alone source target amount = record { source-is = refl; target-is = refl; amount-is = refl; reward-is = refl }
 
-pub flow-alone : (source target amount i : ℕ) (f : ℕ → ℕ) → flow (edge source target amount) i f ≡ only (eqb source i) (amount * f target)
+pub flow-alone : (source target amount i : ℕ) (f : ℕ → ℕ) → flow (plainEdge source target amount) i f ≡ only (eqb source i) (amount * f target)
 unfolding flow carried sumTo
 flow-alone source target amount i f = omega arith
 
@@ -49,6 +50,7 @@ module _ (a b : List ℕ) (m : ℕ) (whole : Edges a m) where
         source-is = first-at (edgeSize * e) (omega arith) ∙ x .source-is;
         target-is = first-at (edgeSize * e + 1) (omega arith) ∙ x .target-is;
         amount-is = first-at (edgeSize * e + 2) (omega arith) ∙ x .amount-is;
+        reward-is = first-at (edgeSize * e + 3) (omega arith) ∙ x .reward-is;
       }
 
   pub is-second : {e source target amount : ℕ} → IsEdge b e source target amount → IsEdge (a ++ b) (m + e) source target amount
@@ -57,6 +59,7 @@ module _ (a b : List ℕ) (m : ℕ) (whole : Edges a m) where
         source-is = second-at (edgeSize * e) (edgeSize * (m + e)) (omega arith) ∙ x .source-is;
         target-is = second-at (edgeSize * e + 1) (edgeSize * (m + e) + 1) (omega arith) ∙ x .target-is;
         amount-is = second-at (edgeSize * e + 2) (edgeSize * (m + e) + 2) (omega arith) ∙ x .amount-is;
+        reward-is = second-at (edgeSize * e + 3) (edgeSize * (m + e) + 3) (omega arith) ∙ x .reward-is;
       }
 
   -- What flows along both is the sum.

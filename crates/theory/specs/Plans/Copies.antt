@@ -5,6 +5,7 @@ use mathlib.Core.Logic.{inl, inr}
 use mathlib.Core.List.{List, List·Memᴰ·head}
 use native.Mathlib.Omega.{arith}
 use Rattle.meaning.specs.Refusal.{Beyond, Lent, plain, WellFormed}
+use Rattle.meaning.specs.Stop.{earns}
 use Rattle.meaning.specs.Outcome.{cleared, Answer, refusal, fraction, ChanceOutcome}
 use Rattle.meaning.specs.Copies.{Plan, planOf, mostWeight, PlaceFault, Sensible, each, copiesEdges, copiesLent, CopiesOutcome, copies-wrong, weight-wrong, large, planned}
 use Rattle.meaning.specs.Cases.{Case, oneCopy}
@@ -65,6 +66,6 @@ module _ (rebuild : ℕ) (right : Beyond mostWeight rebuild → ⊥) where
       let l : Lent = copiesLent single in
       let w : List ℕ = cleared l in
       let formed : WellFormed plain l = copies-plain sensible in
-      let none : NoFitAnywhere l → ⊥ =
+      let none : NoFitAnywhere (earns plain l) l → ⊥ =
       λ f. let t : _≡_ {A = ℕ} 0 12 = chance-refuses l formed (fraction 1 4) w quarter .1 f in omega arith in
       copies-one o (planned sensible none 1 4 (chance-is l formed (fraction 1 4) w quarter refl) refl)

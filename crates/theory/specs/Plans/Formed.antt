@@ -10,8 +10,8 @@ use lib.ListN.{length, getD, replicate, length-replicate}
 use lib.Dec.{eqb, ltb, leb}
 use borrow.Author.Tests.{ne-eqb, lt-ltb, le-ltb, le-leb, lt-leb}
 use Rattle.meaning.specs.Number.{only, choose, tabFrom}
-use Rattle.meaning.specs.Chain.{mostStates, M, from, to, weight, edgeCount, rowSum}
-use Rattle.meaning.specs.Refusal.{Lent, Entry, plain, workSize, Misshaped, Same, Earlier, OutOfRange, lentFault, Applies, WellFormed}
+use Rattle.meaning.specs.Chain.{mostStates, M, from, to, weight, edgeReward, edgeCount, rowSum}
+use Rattle.meaning.specs.Refusal.{Lent, Entry, plain, workSize, Misshaped, Same, Earlier, OutOfRange, RewardFault, of-state, of-edge, lentFault, Applies, WellFormed}
 use Rattle.meaning.specs.Copies.{mostCopies, mostWeight, Plan, Sensible, finished, copiesStates, copiesEdges, copiesChain, copiesOrder, copiesLent}
 use Rattle.theory.specs.Numbers.Sum.{below, same}
 use Rattle.theory.specs.Outcomes.Formed.{roomy}
@@ -77,6 +77,14 @@ module _ (j : Plan) (r : InRange j) where
   weight-in (ends k h q x) = (omega (arith, x .amount-is, r .finish-some), omega (arith, x .amount-is, r .finish-small))
   weight-in (empty q x) = (omega (arith, x .amount-is), omega (arith, x .amount-is))
   weight-in (done q x) = (omega (arith, x .amount-is), omega (arith, x .amount-is))
+
+  -- 11: no edge has a reward.
+  unpaid : {e : ℕ} → Kind j e → edgeReward (copiesEdges j) e ≡ 0
+  unpaid (loses k h q x) = x .reward-is
+  unpaid (rebuilt k h q x) = x .reward-is
+  unpaid (ends k h q x) = x .reward-is
+  unpaid (empty q x) = x .reward-is
+  unpaid (done q x) = x .reward-is
 
   -- The denominators are in range.
   row-in : (i : ℕ) → i < copiesStates j → (0 < rowSum (copiesEdges j) i) × (rowSum (copiesEdges j) i ≤ M)
@@ -199,6 +207,11 @@ module _ {j : Plan} (sensible : Sensible j) {x : Entry} {l : Lent} (h : LentPlan
   order-in p k (inr (o, (b, e))) =
       omega (arith, tab-at (copiesStates j) (λ i. i) 0 p k, tab-at (copiesStates j) (λ i. i) 0 o (omega arith))
 
+  -- 11.
+  rewards-in : {p : ℕ} → RewardFault (copiesStates j) (l .rewards) (copiesEdges j) p → ⊥
+  rewards-in (of-state i k) = omega (arith, k .1, h .rewards-none i)
+  rewards-in (of-edge e k) = omega (arith, k .1, unpaid j r (kind j e (k .0)))
+
   none-applies : (k p : ℕ) → Applies x l k p → ⊥
   none-applies zero p a = a
   none-applies (suc zero) p a = shapely (rw (h .chain-is, h .order-is) at (a .1))
@@ -222,7 +235,7 @@ module _ {j : Plan} (sensible : Sensible j) {x : Entry} {l : Lent} (h : LentPlan
   none-applies (suc (suc (suc (suc (suc (suc (suc (suc (suc (suc zero)))))))))) p a =
       let b = rw (h .chain-is, h .order-is) at (lent-fault (x .order) _ p a) in order-in p (b .0) (b .1)
   none-applies (suc (suc (suc (suc (suc (suc (suc (suc (suc (suc (suc zero))))))))))) p a =
-      let b = lent-fault (x .rewards) _ p a in omega (arith, b .1, h .rewards-none p)
+      rewards-in (rw (h .chain-is) at (lent-fault (x .rewards) _ p a))
   none-applies (suc (suc (suc (suc (suc (suc (suc (suc (suc (suc (suc (suc k)))))))))))) p a = a
 
   pub copies-formed : WellFormed x l

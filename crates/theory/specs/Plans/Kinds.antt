@@ -4,7 +4,7 @@ use mathlib.Core.Path.{_≡_, refl}
 use mathlib.Core.Logic.{⊎-elim}
 use mathlib.Core.List.{List, _++_}
 use native.Mathlib.Omega.{arith}
-use Rattle.meaning.specs.Chain.{edge, edgeCount}
+use Rattle.meaning.specs.Chain.{plainEdge, edgeCount}
 use Rattle.meaning.specs.Copies.{Plan, finished, losses, rebuilds, finishes, copiesEdges}
 use Rattle.theory.specs.Numbers.Sum.{below}
 use Rattle.theory.specs.Chains.Joined.{Edges, edges-joined, each-edges, IsEdge, is-alone, is-first, is-second, is-each}
@@ -36,7 +36,7 @@ module _ (j : Plan) where
   three = two ++ finishes j
 
   abbrev pub four : List ℕ
-  four = three ++ edge 0 0 1
+  four = three ++ plainEdge 0 0 1
 
   pub losses-whole : Edges (losses j) (j .copies)
   losses-whole = each-edges _ (λ k. refl) (j .copies)
@@ -54,11 +54,11 @@ module _ (j : Plan) where
   three-whole = edges-joined two (finishes j) _ two-whole _ finishes-whole
 
   pub four-whole : Edges four (beforeLoops j + 1)
-  four-whole = edges-joined three (edge 0 0 1) _ three-whole 1 refl
+  four-whole = edges-joined three (plainEdge 0 0 1) _ three-whole 1 refl
 
   pub copies-whole : Edges (copiesEdges j) (copiesCount j)
   unfolding copiesEdges
-  copies-whole = edges-joined four (edge (finished j) (finished j) 1) _ four-whole 1 refl
+  copies-whole = edges-joined four (plainEdge (finished j) (finished j) 1) _ four-whole 1 refl
 
   pub copies-count : edgeCount (copiesEdges j) ≡ copiesCount j
   copies-count = omega (arith, copies-whole)
@@ -66,10 +66,10 @@ module _ (j : Plan) where
   -- What an edge is in the list as it grows, it is in the whole.
   from-four : {e s t w : ℕ} → e < beforeLoops j + 1 → IsEdge four e s t w → IsEdge (copiesEdges j) e s t w
   unfolding copiesEdges
-  from-four h x = is-first four (edge (finished j) (finished j) 1) _ four-whole h x
+  from-four h x = is-first four (plainEdge (finished j) (finished j) 1) _ four-whole h x
 
   from-three : {e s t w : ℕ} → e < beforeLoops j → IsEdge three e s t w → IsEdge (copiesEdges j) e s t w
-  from-three h x = from-four (omega arith) (is-first three (edge 0 0 1) _ three-whole h x)
+  from-three h x = from-four (omega arith) (is-first three (plainEdge 0 0 1) _ three-whole h x)
 
   from-two : {e s t w : ℕ} → e < beforeFinishes j → IsEdge two e s t w → IsEdge (copiesEdges j) e s t w
   from-two h x = from-three (omega arith) (is-first two (finishes j) _ two-whole h x)
@@ -91,12 +91,12 @@ module _ (j : Plan) where
       ends k h q (rw q (from-three (omega arith) x))
 
   emptied : (e : ℕ) → e ≡ beforeLoops j + 0 → Kind j e
-  emptied e q = empty (omega arith) (rw q (from-four (omega arith) (is-second three (edge 0 0 1) _ three-whole (is-alone 0 0 1))))
+  emptied e q = empty (omega arith) (rw q (from-four (omega arith) (is-second three (plainEdge 0 0 1) _ three-whole (is-alone 0 0 1))))
 
   finishing : (e : ℕ) → e ≡ beforeLoops j + 1 + 0 → Kind j e
   unfolding copiesEdges
   finishing e q =
-      let f : ℕ = finished j in done (omega arith) (rw q (is-second four (edge f f 1) _ four-whole (is-alone f f 1)))
+      let f : ℕ = finished j in done (omega arith) (rw q (is-second four (plainEdge f f 1) _ four-whole (is-alone f f 1)))
 
   -- Every edge is of one of the kinds.
   pub kind : (e : ℕ) → e < edgeCount (copiesEdges j) → Kind j e

@@ -7,7 +7,7 @@ use native.Mathlib.Omega.{arith}
 use lib.Dec.{eqb}
 use borrow.Author.Tests.{eq-eqb, ne-eqb}
 use Rattle.meaning.specs.Number.{sumTo, only}
-use Rattle.meaning.specs.Chain.{edge, rowSum}
+use Rattle.meaning.specs.Chain.{plainEdge, rowSum}
 use Rattle.meaning.specs.Copies.{Plan, finished, each, losses, rebuilds, finishes, copiesEdges}
 use Rattle.theory.specs.Numbers.Sum.{sum-ext, sum-zero, sum-alone}
 use Rattle.theory.specs.Chains.Joined.{flow-alone, flow-joined, flow-each}
@@ -16,7 +16,7 @@ use Rattle.theory.specs.Plans.Kinds.{rebuilds-whole, losses-whole, finis
 -- One edge from each of the states 1 to n: its weight is the row sum there, and elsewhere there is none.
 module _ (t w : ℕ → ℕ) (n : ℕ) where
   abbrev rungs : List ℕ
-  rungs = each (λ k. edge k (t k) (w k)) n
+  rungs = each (λ k. plainEdge k (t k) (w k)) n
 
   term : ℕ → ℕ → ℕ
   term i k = only (eqb (suc k) i) (w (suc k) * 1)
@@ -24,7 +24,7 @@ module _ (t w : ℕ → ℕ) (n : ℕ) where
   row-terms : (i : ℕ) → rowSum rungs i ≡ sumTo (term i) n
   unfolding term
   row-terms i =
-      flow-each (λ k. edge k (t k) (w k)) (λ k. refl) n i (λ _. 1)
+      flow-each (λ k. plainEdge k (t k) (w k)) (λ k. refl) n i (λ _. 1)
       ∙ sum-ext _ _ n (λ k h. flow-alone (suc k) (t (suc k)) (w (suc k)) i (λ _. 1))
 
   pub row-some : (i : ℕ) → 0 < i → i ≤ n → rowSum rungs i ≡ w i
@@ -40,7 +40,7 @@ module _ (t w : ℕ → ℕ) (n : ℕ) where
   row-none i (inl z) = row-terms i ∙ sum-zero (term i) n (λ k h. rw (ne-eqb (suc k) i (omega arith)))
   row-none i (inr z) = row-terms i ∙ sum-zero (term i) n (λ k h. rw (ne-eqb (suc k) i (omega arith)))
 
-loop-row : (s i : ℕ) → rowSum (edge s s 1) i ≡ only (eqb s i) 1
+loop-row : (s i : ℕ) → rowSum (plainEdge s s 1) i ≡ only (eqb s i) 1
 loop-row s i = flow-alone s s 1 i (λ _. 1)
 
 module _ (j : Plan) where
@@ -49,9 +49,9 @@ module _ (j : Plan) where
       ≡ rowSum (losses j) i + rowSum (rebuilds j) i + rowSum (finishes j) i + only (eqb 0 i) 1 + only (eqb (finished j) i) 1
   unfolding copiesEdges
   row-kinds i =
-      flow-joined (four j) (edge (finished j) (finished j) 1) _ (four-whole j) 1 refl i (λ _. 1)
+      flow-joined (four j) (plainEdge (finished j) (finished j) 1) _ (four-whole j) 1 refl i (λ _. 1)
       ∙ ap₂ (λ x y. x + y)
-      (flow-joined (three j) (edge 0 0 1) _ (three-whole j) 1 refl i (λ _. 1)
+      (flow-joined (three j) (plainEdge 0 0 1) _ (three-whole j) 1 refl i (λ _. 1)
       ∙ ap₂ (λ x y. x + y)
       (flow-joined (two j) (finishes j) _ (two-whole j) _ (finishes-whole j) i (λ _. 1)
       ∙ ap (λ x. x + rowSum (finishes j) i) (flow-joined (losses j) (rebuilds j) _ (losses-whole j) _ (rebuilds-whole j) i (λ _. 1)))
