@@ -82,7 +82,7 @@ static void time_steps(const struct bench_file *file)
 struct tables {
     const struct bench_file *file;
     uint64_t states, start, goals, edge_count;
-    uint64_t denominators[64], order[64], rewards[64], edges[3 * 4096];
+    uint64_t denominators[64], order[64], rewards[64], edges[4 * 4096];
     uint8_t buffer[EGORSTREAM_MOST_FILE_LENGTH];
     struct egorstream_written written;
 };
@@ -110,9 +110,10 @@ static void read_tables(const struct bench_file *file, struct tables *tables)
     }
     for (size_t i = 0; i < tables->edge_count; i++) {
         const uint8_t *edge = record(file, 1 + (tables->states + 62) / 63, i);
-        tables->edges[3 * i] = edge[0];
-        tables->edges[3 * i + 1] = edge[1];
-        tables->edges[3 * i + 2] = bench_number_at(edge + 4);
+        tables->edges[4 * i] = edge[0];
+        tables->edges[4 * i + 1] = edge[1];
+        tables->edges[4 * i + 2] = bench_number_at(edge + 4);
+        tables->edges[4 * i + 3] = edge[2] | (uint64_t)edge[3] << 8;
     }
 }
 
@@ -120,7 +121,7 @@ static void call_write(void *work)
 {
     struct tables *t = work;
     t->written = egorstream_write(t->states, t->start, t->goals, t->denominators, t->states, t->edges,
-                                  3 * t->edge_count, t->order, t->states, t->rewards, t->states, t->buffer,
+                                  4 * t->edge_count, t->order, t->states, t->rewards, t->states, t->buffer,
                                   sizeof t->buffer);
 }
 

@@ -41,7 +41,7 @@ extern "C" {
 
 /*
  * The mode is above 2. For egorstream_write: the number of states is not 1 to 64, a table's length
- * does not fit it, the edge numbers are not in threes, or there are no edges or over 4,096.
+ * does not fit it, the edge numbers are not in fours, or there are no edges or over 4,096.
  */
 #define EGORSTREAM_MODE_OR_LENGTH_WRONG UINT32_C(1)
 /*
@@ -68,7 +68,7 @@ extern "C" {
 #define EGORSTREAM_ROW_SUM_WRONG UINT32_C(9)
 /* The order names a state that the chain does not have, or one state twice. */
 #define EGORSTREAM_ORDER_WRONG UINT32_C(10)
-/* A reward is above 65,535. Only egorstream_write gives it: a file has no room for one. */
+/* A reward, of a state or of an edge, is above 65,535. Only egorstream_write gives it: a file has no room for one. */
 #define EGORSTREAM_REWARD_WRONG UINT32_C(11)
 
 /* The chain is well formed, but its exact chance was not found. */
@@ -89,7 +89,10 @@ extern "C" {
 #define EGORSTREAM_BLOCK_NUMBER_WRONG UINT32_C(22)
 /* A block's kind is unknown or out of turn, or its version is neither 1 nor 2 or not block 0's. */
 #define EGORSTREAM_BLOCK_KIND_WRONG UINT32_C(23)
-/* A count, flag or reserved byte is wrong, or the file does not have the blocks its head demands. */
+/*
+ * A count, flag or reserved byte is wrong, in version 1 also a reward of an edge, or the file does not
+ * have the blocks its head demands.
+ */
 #define EGORSTREAM_BLOCK_CONTENT_WRONG UINT32_C(24)
 
 /*
@@ -174,10 +177,11 @@ struct egorstream_written {
  *                        the chain starts in.
  * goals                  Bit i says whether state i is a goal.
  * denominators           One for each state, 1 to 2,147,483,647.
- * edges                  Three numbers for each edge: from, to, weight; 1 to 4,096 edges. The weights
- *                        of a state's edges add up to its denominator.
+ * edges                  Four numbers for each edge: from, to, weight, reward; 1 to 4,096 edges. The
+ *                        weights of a state's edges add up to its denominator. Rewards are 0 to
+ *                        65,535; that of a goal's edge does not count.
  * order                  Each state once: the order in which states are removed.
- * rewards                One for each state, 0 to 65,535.
+ * rewards                One for each state, 0 to 65,535; that of a goal does not count.
  * buffer                 Room for the file, at any alignment. EGORSTREAM_MOST_FILE_LENGTH bytes are
  *                        enough for every chain.
  *
@@ -185,7 +189,7 @@ struct egorstream_written {
  * uint64_t is, and do not overlap the buffer. A null pointer with length 0 is an empty table or buffer.
  *
  * The number is one of 1 to 11, the least that applies; its place is a state, the index of an edge or
- * a position of the order, each from 0, or else 0. On a refusal the whole buffer stays as it was.
+ * a position of the order, each from 0, or else 0; of an edge's reward it is 64 plus the edge's index. On a refusal the whole buffer stays as it was.
  * Otherwise bytes past the file stay as they were.
  *
  * It needs a stack of a few kilobytes and keeps nothing between calls.

@@ -1,7 +1,7 @@
 // The edges of a plan's chain, kind by kind. Each function answers the place after what it wrote.
 ghost use Prim.Native.Nat.{_+_, _*_, _-_, _≤_};
 ghost use lib.ListN.{length};
-ghost use Rattle.meaning.specs.Chain.{edgeSize, edge};
+ghost use Rattle.meaning.specs.Chain.{edgeSize, plainEdge};
 ghost use Rattle.meaning.specs.Copies.{mostCopies, mostWeight, planOf, Sensible, each, copiesEdges};
 ghost use Rattle.copies.specs.Grown.{Grown};
 use crate::list;
@@ -11,19 +11,21 @@ use egorstream::EDGE_SIZE;
 // The numbers of the longest list: a loss and a finish for each number of copies, a rebuild for each but the last, and two loops.
 pub(crate) const MOST: usize = EDGE_SIZE * (3 * COPIES as usize + 1);
 
+// An edge with no reward.
 fn put(edges: &mut [u64], at: usize, from: u64, to: u64, weight: u64) -> usize
     requires { ⌜ at + edgeSize ≤ length (now edges) ⌝ }
-    ensures { λ r. ⌜ Grown (now (edges .entry)) at (edge from to weight) (now (edges .exit)) r ⌝ }
+    ensures { λ r. ⌜ Grown (now (edges .entry)) at (plainEdge from to weight) (now (edges .exit)) r ⌝ }
 {
     let second = list::add(edges, at, from);
     let third = list::add(edges, second, to);
-    list::add(edges, third, weight)
+    let fourth = list::add(edges, third, weight);
+    list::add(edges, fourth, 0)
 }
 
 // With k copies left, loss counts k times.
 fn losses(edges: &mut [u64], at: usize, copies: u64, loss: u64) -> usize
     requires { ⌜ (copies ≤ mostCopies) × (loss ≤ mostWeight) × (at + edgeSize * copies ≤ length (now edges)) ⌝ }
-    ensures { λ r. ⌜ Grown (now (edges .entry)) at (each (λ k. edge k (k - 1) (k * loss)) copies) (now (edges .exit)) r ⌝ }
+    ensures { λ r. ⌜ Grown (now (edges .entry)) at (each (λ k. plainEdge k (k - 1) (k * loss)) copies) (now (edges .exit)) r ⌝ }
 {
     let mut next = at;
     let mut k = 0;
@@ -37,7 +39,7 @@ fn losses(edges: &mut [u64], at: usize, copies: u64, loss: u64) -> usize
 // A rebuild adds one, from 1 to the most.
 fn rebuilds(edges: &mut [u64], at: usize, most: u64, rebuild: u64) -> usize
     requires { ⌜ (most ≤ mostCopies) × (at + edgeSize * most ≤ length (now edges)) ⌝ }
-    ensures { λ r. ⌜ Grown (now (edges .entry)) at (each (λ k. edge k (k + 1) rebuild) most) (now (edges .exit)) r ⌝ }
+    ensures { λ r. ⌜ Grown (now (edges .entry)) at (each (λ k. plainEdge k (k + 1) rebuild) most) (now (edges .exit)) r ⌝ }
 {
     let mut next = at;
     let mut k = 0;
@@ -51,7 +53,7 @@ fn rebuilds(edges: &mut [u64], at: usize, most: u64, rebuild: u64) -> usize
 // The finish ends the job well, whatever is left.
 fn finishes(edges: &mut [u64], at: usize, copies: u64, finish: u64) -> usize
     requires { ⌜ (copies ≤ mostCopies) × (at + edgeSize * copies ≤ length (now edges)) ⌝ }
-    ensures { λ r. ⌜ Grown (now (edges .entry)) at (each (λ k. edge k (copies + 1) finish) copies) (now (edges .exit)) r ⌝ }
+    ensures { λ r. ⌜ Grown (now (edges .entry)) at (each (λ k. plainEdge k (copies + 1) finish) copies) (now (edges .exit)) r ⌝ }
 {
     let mut next = at;
     let mut k = 0;

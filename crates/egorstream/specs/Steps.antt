@@ -1,7 +1,7 @@
 -- What the step list's face answers, in the words of `meaning`.
-use Prim.Native.Nat.{_≤_}
+use Prim.Native.Nat.{_+_, _≤_}
 use mathlib.Core.Path.{_≡_}
-use Rattle.meaning.specs.Chain.{mostEdges}
+use Rattle.meaning.specs.Chain.{mostStates, mostEdges}
 use Rattle.meaning.specs.Outcome.{Answer}
 use Rattle.engines.specs.Answer.{toldChance}
 use Rattle.engines.specs.Trace.{countIn}
@@ -13,7 +13,7 @@ answerOf r = record { number = r .number; place = r .place; numerator = r .numer
 
 -- A place that C's 32 bits have room for.
 abbrev pub SmallPlace : Trace → Type 0
-SmallPlace t = toldChance (t .chance) .place ≤ mostEdges
+SmallPlace t = toldChance (t .chance) .place ≤ mostStates + mostEdges
 
 -- The answer's numbers are the trace's, and its count.
 pub record Replies (t : Trace) (r : Stepped) : Type 0 where

@@ -6,7 +6,7 @@ use native.Mathlib.Omega.{arith}
 use lib.ListN.{getD}
 use Rattle.meaning.specs.Row.{exact}
 use Rattle.meaning.specs.Refusal.{Lent, Entry, plain, listing}
-use Rattle.meaning.specs.Stop.{Stopped}
+use Rattle.meaning.specs.Stop.{earns, Stopped}
 use Rattle.meaning.specs.Outcome.{Outcome, refused, stopped, answered, Answer, refusal, ChanceFigure, ChanceOutcome, Bounds as Numbers, BoundsFigure, BoundsOutcome}
 use Rattle.theory.specs.Outcomes.DemandTwo.{stopped-twelve}
 use Rattle.theory.specs.Outcomes.Steps.{steps-determined}
@@ -33,7 +33,7 @@ module _ {a b : Answer} (e : a ≡ b) where
 
 -- A fraction has a denominator above 0, and a refusal a number above 0.
 pub chance-proper : (x : Entry) (l : Lent) (r : Chance) (w : List ℕ)
-    → Outcome x l refusal (Stopped exact l) (ChanceFigure l) (toldChance r) w → ProperChance r
+    → Outcome x l refusal (Stopped (earns x l) exact l) (ChanceFigure l) (toldChance r) w → ProperChance r
 chance-proper x l (chance.Is f) w (refused n p z e s) = absurd (omega (arith, number e, refused-some z))
 chance-proper x l (chance.Is f) w (stopped n p v t e s) = absurd (omega (arith, number e, stopped-twelve t))
 chance-proper x l (chance.Is f) w (answered v t (ChanceFigure.chance p q h e) s) = omega (arith, denominator e, h .lowest .whole)

@@ -2,13 +2,13 @@ use Prim.Native.Nat.{_+_, _-_}
 use mathlib.Core.Path.{refl}
 use native.Mathlib.Omega.{arith}
 use borrow.Author.Needs.{needs}
-use Rattle.meaning.specs.Chain.{edge}
+use Rattle.meaning.specs.Chain.{plainEdge}
 use Rattle.copies.proofs.Growing.{Rungs, rungs-none, rungs-room, rungs-more, rungs-all}
 use Rattle.copies.proofs.edges.finishes.Statement.{statement}
 use Rattle.copies.proofs.edges.finishes.Tie as tie
 
 abbrev Inv-loop : tie.InvT-loop
-Inv-loop edges₀ at copies finish next₀ k₀ edges next k = Rungs (λ k. edge k (copies + 1) finish) edges₀ at copies edges next k
+Inv-loop edges₀ at copies finish next₀ k₀ edges next k = Rungs (λ k. plainEdge k (copies + 1) finish) edges₀ at copies edges next k
 
 abbrev μ-loop : tie.MeasureT-loop
 μ-loop edges₀ at copies finish next₀ k₀ edges next k = copies - k

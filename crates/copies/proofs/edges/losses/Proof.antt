@@ -3,14 +3,14 @@ use mathlib.Core.Path.{refl}
 use native.Mathlib.Omega.{arith}
 use native.Mathlib.Nat.{mul-le-mul}
 use borrow.Author.Needs.{needs}
-use Rattle.meaning.specs.Chain.{edge}
+use Rattle.meaning.specs.Chain.{plainEdge}
 use Rattle.meaning.specs.Copies.{mostCopies, mostWeight}
 use Rattle.copies.proofs.Growing.{Rungs, rungs-none, rungs-room, rungs-more, rungs-all}
 use Rattle.copies.proofs.edges.losses.Statement.{statement}
 use Rattle.copies.proofs.edges.losses.Tie as tie
 
 abbrev Inv-loop : tie.InvT-loop
-Inv-loop edges₀ at copies loss next₀ k₀ edges next k = Rungs (λ k. edge k (k - 1) (k * loss)) edges₀ at copies edges next k
+Inv-loop edges₀ at copies loss next₀ k₀ edges next k = Rungs (λ k. plainEdge k (k - 1) (k * loss)) edges₀ at copies edges next k
 
 abbrev μ-loop : tie.MeasureT-loop
 μ-loop edges₀ at copies loss next₀ k₀ edges next k = copies - k

@@ -1,8 +1,8 @@
-use Prim.Native.Nat.{_≤_}
+use Prim.Native.Nat.{_+_, _≤_}
 use mathlib.Core.Path.{refl, sym, ap, subst}
 use native.Mathlib.Omega.{arith}
 use borrow.Author.Needs.{needs}
-use Rattle.meaning.specs.Chain.{mostEdges}
+use Rattle.meaning.specs.Chain.{mostStates, mostEdges}
 use Rattle.engines.specs.Answer.{toldChance}
 use Rattle.engines.specs.declared.answer.Chance.{Chance}
 use Rattle.egorstream.proofs.steps.reply.Statement.{statement}
@@ -10,7 +10,7 @@ use Rattle.egorstream.proofs.steps.reply.Tie as tie
 
 cast-t12 : tie.Need-cast-t12
 cast-t12 c =
-    omega (arith, subst (λ (x : Chance). toldChance x .place ≤ mostEdges) (c .before .chance2 .given .1) (c .before .before .before .before .pre))
+    omega (arith, subst (λ (x : Chance). toldChance x .place ≤ mostStates + mostEdges) (c .before .chance2 .given .1) (c .before .before .before .before .pre))
 
 returns : tie.Need-returns
 returns c = record { answer = sym (ap toldChance (c .before .chance .given .1)); count = refl }
