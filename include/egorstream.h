@@ -68,7 +68,10 @@ extern "C" {
 #define EGORSTREAM_ROW_SUM_WRONG UINT32_C(9)
 /* The order names a state that the chain does not have, or one state twice. */
 #define EGORSTREAM_ORDER_WRONG UINT32_C(10)
-/* A reward, of a state or of an edge, is above 65,535. Only egorstream_write gives it: a file has no room for one. */
+/*
+ * A reward, of a state or of an edge, is above 65,535. Only egorstream_write gives it: a file has no
+ * room for one.
+ */
 #define EGORSTREAM_REWARD_WRONG UINT32_C(11)
 
 /* The chain is well formed, but its exact chance was not found. */
@@ -189,8 +192,8 @@ struct egorstream_written {
  * uint64_t is, and do not overlap the buffer. A null pointer with length 0 is an empty table or buffer.
  *
  * The number is one of 1 to 11, the least that applies; its place is a state, the index of an edge or
- * a position of the order, each from 0, or else 0; of an edge's reward it is 64 plus the edge's index. On a refusal the whole buffer stays as it was.
- * Otherwise bytes past the file stay as they were.
+ * a position of the order, each from 0, or else 0; of an edge's reward it is 64 plus the edge's index.
+ * On a refusal the whole buffer stays as it was. Otherwise bytes past the file stay as they were.
  *
  * It needs a stack of a few kilobytes and keeps nothing between calls.
  */

@@ -61,7 +61,9 @@ fn lone_state() -> Chain {
         rewards: vec![0; n],
         goals: (0..n).map(|state| state == 0).collect(),
         order: (0..n as u8).rev().collect(),
-        edges: (0..n as u8).map(|state| Edge { from: state, to: state, weight: 1, reward: 0 }).collect(),
+        edges: (0..n as u8)
+            .map(|state| Edge { from: state, to: state, weight: 1, reward: 0 })
+            .collect(),
     }
 }
 
