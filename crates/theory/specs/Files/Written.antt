@@ -6,9 +6,9 @@ use mathlib.Core.List.{List}
 use native.Mathlib.Omega.{arith}
 use lib.ListN.{length, take, drop, length-append}
 use lib.Seq.{take-at}
-use Rattle.meaning.specs.Number.{filled}
+use Rattle.meaning.specs.Number.{only, filled}
 use Rattle.meaning.specs.Chain.{Chain, edgeSize, edgeCount, edgeNumber}
-use Rattle.meaning.specs.Refusal.{Lent, paid, Misshaped, Applies, WellFormed}
+use Rattle.meaning.specs.Refusal.{Lent, Entry, paid, Misshaped, Applies, WellFormed}
 use Rattle.meaning.specs.Block.{Input, wholeFile, secondVersion, versionIn, headStates, headEdges, denominatorIn, rewardIn, orderIn}
 use Rattle.meaning.specs.File.{Accepted, edgeIn, chainIn, ordersIn, rewardsIn, paidIn, Tables, Short, Reading, ReadOutcome}
 use Rattle.meaning.specs.Buffer.{Writing, noWriting, writing}
@@ -27,13 +27,13 @@ file-of-one {a = a} {b} x y =
     (x .rewards ∙ sym (y .rewards)) (x .version ∙ sym (y .version))
 
 -- How many edges a file's chain has.
-edges-in : (file : List ℕ) → let f = wholeFile file in length (chainIn f .edges) ≡ edgeSize * headEdges f
-edges-in file = let f = wholeFile file in tab-length 0 (edgeSize * headEdges f) (edgeNumber (edgeIn f))
+edges-in : (f : Input) → length (chainIn f .edges) ≡ edgeSize * headEdges f
+edges-in f = tab-length 0 (edgeSize * headEdges f) (edgeNumber (edgeIn f))
 
 edges-of : {l : Lent} {file : List ℕ} → FileOf l file → headEdges (wholeFile file) ≡ edgeCount (l .chain .edges)
 edges-of {l} {file} x =
     let e : length (chainIn (wholeFile file) .edges) ≡ length (l .chain .edges) = ap (λ (c : Chain). length (c .edges)) (x .chain) in
-    omega (arith, edges-in file)
+    omega (arith, edges-in (wholeFile file))
 
 -- How long the file is.
 pub file-of-size : {l : Lent} {file : List ℕ} → FileOf l file → length file ≡ fileSize (l .chain .states) (edgeCount (l .chain .edges))
@@ -111,6 +111,19 @@ read-again {l} {before = before} o z long read =
           }),
     )
 
+-- The chain of an accepted file never meets 1, whichever of its tables an entry is lent.
+pub shaped : {f : Input} → Bounded f → (x : Entry) → x .fewest ≤ 1 → {order rewards : ℕ}
+    → order ≡ only (x .order) (headStates f) → rewards ≡ only (x .rewards) (headStates f)
+    → Misshaped x (headStates f) (length (chainIn f .denominators)) (length (chainIn f .edges)) order rewards → ⊥
+shaped b x least o r (Misshaped.no-states h) = omega (arith, b .some-states)
+shaped b x least o r (Misshaped.many-states h) = omega (arith, b .few-states)
+shaped {f} b x least o r (Misshaped.denominators-length h) = h (tab-length 0 (headStates f) (denominatorIn f))
+shaped {f} b x least o r (Misshaped.edges-ragged h) = h (omega (arith, edges-in f))
+shaped {f} b x least o r (Misshaped.many-edges h) = omega (arith, b .few-edges, edges-in f)
+shaped {f} b x least o r (Misshaped.few-edges h) = omega (arith, b .some-edges, edges-in f)
+shaped b x least o r (Misshaped.order-length h) = h o
+shaped b x least o r (Misshaped.rewards-length h) = h r
+
 -- What the writer is lent to write a file's chain again.
 abbrev pub again : List ℕ → List ℕ → Lent
 again file buffer =
@@ -122,19 +135,6 @@ module _ (file : List ℕ) (bytes : Bytes file) (second : versionIn (wholeFile f
     abbrev f : Input
     f = wholeFile file
 
-    shapely : Misshaped filing (headStates f) (length (chainIn f .denominators)) (length (chainIn f .edges)) (length (ordersIn f)) (length (rewardsIn f)) → ⊥
-    shapely = go (bounded f (taken .blocks 0 (omega arith)))
-      where
-        go : Bounded f → Misshaped filing (headStates f) (length (chainIn f .denominators)) (length (chainIn f .edges)) (length (ordersIn f)) (length (rewardsIn f)) → ⊥
-        go b (Misshaped.no-states h) = omega (arith, b .some-states)
-        go b (Misshaped.many-states h) = omega (arith, b .few-states)
-        go b (Misshaped.denominators-length h) = h (tab-length 0 (headStates f) (denominatorIn f))
-        go b (Misshaped.edges-ragged h) = h (omega (arith, edges-in file))
-        go b (Misshaped.many-edges h) = omega (arith, b .few-edges, edges-in file)
-        go b (Misshaped.few-edges h) = omega (arith, b .some-edges, edges-in file)
-        go b (Misshaped.order-length h) = h (tab-length 0 (headStates f) (orderIn f))
-        go b (Misshaped.rewards-length h) = h (tab-length 0 (headStates f) (rewardIn f))
-
     same : FileOf (again file buffer) file
     same = record { bytes = bytes; version = second; accepted = taken; chain = refl; order = refl; rewards = refl }
 
@@ -143,7 +143,9 @@ module _ (file : List ℕ) (bytes : Bytes file) (second : versionIn (wholeFile f
       where
         go : (k p : ℕ) → Applies filing (again file buffer) k p → ⊥
         go zero p h = h
-        go (suc zero) p h = shapely (h .1)
+        go (suc zero) p h =
+            let b = bounded f (taken .blocks 0 (omega arith)) in
+            shaped b filing (omega arith) (tab-length 0 (headStates f) (orderIn f)) (tab-length 0 (headStates f) (rewardIn f)) (h .1)
         go (suc (suc zero)) p h = roomy (omega (arith, file-of-size same)) (omega arith) (h .1)
         go (suc (suc (suc k))) p h = clear (suc (suc (suc k))) p (omega arith) h
 
