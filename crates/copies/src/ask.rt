@@ -10,7 +10,7 @@ use crate::Planned;
 use crate::file;
 use crate::refused;
 use egorstream::ANSWER_LENGTH;
-use egorstream::MODE_DEFAULT;
+use egorstream::MODE_EXACT;
 use egorstream::egorstream_chance;
 
 fn wide(x: u8) -> u64
@@ -39,7 +39,7 @@ pub(crate) fn ask(plan: Plan) -> Planned
     let mut buffer = [0u8; file::LONGEST];
     let length = file::file(plan, &mut buffer);
     let mut answer = [0u8; ANSWER_LENGTH];
-    let returned = egorstream_chance(&buffer[..length], MODE_DEFAULT, &mut answer);
+    let returned = egorstream_chance(&buffer[..length], MODE_EXACT, &mut answer);
     if returned != 0 {
         return refused(returned, 0);
     }

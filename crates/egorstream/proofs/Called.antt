@@ -1,14 +1,14 @@
 -- From a file's figures to the outcome of the call.
 use Prim.Native.Nat.{ℕ, _≤_, _<_}
 use mathlib.Core.Path.{_≡_, refl, sym, subst}
-use mathlib.Core.Logic.{_⊎_, inl, inr, ⊎-elim}
+use mathlib.Core.Logic.{inl, inr, ⊎-elim}
 use mathlib.Core.List.{List}
 use native.Mathlib.Omega.{arith}
 use lib.ListN.{length}
 use Rattle.meaning.specs.Number.{filled}
 use Rattle.meaning.specs.File.{Accepted}
 use Rattle.meaning.specs.Block.{wholeFile}
-use Rattle.meaning.specs.Call.{defaultMode, exactMode, boundsMode, answerLength, answerBytes, Said, CallOutcome}
+use Rattle.meaning.specs.Call.{exactMode, boundsMode, AsksExact, AsksBounds, answerLength, answerBytes, Said, CallOutcome}
 use Rattle.theory.specs.Numbers.Sum.{below}
 use Rattle.figures.specs.Told.{toldAnswer, toldLimits}
 use Rattle.figures.specs.Found.{ChanceAsked, BoundsAsked, FiguresOutcome}
@@ -16,17 +16,13 @@ use Rattle.figures.specs.declared.answer.Figures.{Figures}
 use Rattle.figures.specs.declared.Question.{Question}
 use Rattle.figures.proofs.Numbered.{file-refused}
 
--- A mode below that of the bounds is the default or exact.
-pub exact-mode : {mode : ℕ} → mode < boundsMode → (mode ≡ defaultMode) ⊎ (mode ≡ exactMode)
-exact-mode {mode} h = ⊎-elim (λ l. inl (omega arith)) (λ l. inr (omega arith)) (below mode exactMode)
-
--- Any other mode is that of the bounds.
-pub other-mode : {file before after : List ℕ} {mode r : ℕ} → mode ≡ boundsMode → CallOutcome file boundsMode before r after
+pub exact-mode : {file before after : List ℕ} {mode r : ℕ} → AsksExact mode → CallOutcome file exactMode before r after
     → CallOutcome file mode before r after
-other-mode {file} {before} {after} {r = r} e = subst (λ mode. CallOutcome file mode before r after) (sym e)
+exact-mode {file} {before} {after} {r = r} e = subst (λ mode. CallOutcome file mode before r after) (sym e)
 
-pub exact-most : {mode : ℕ} → (mode ≡ defaultMode) ⊎ (mode ≡ exactMode) → mode ≤ boundsMode
-exact-most m = ⊎-elim (λ e. omega arith) (λ e. omega arith) m
+-- A mode that is not wrong and not exact asks for the bounds.
+pub other-mode : {mode : ℕ} → mode ≤ boundsMode → (AsksExact mode → ⊥) → AsksBounds mode
+other-mode {mode} h n = ⊎-elim (λ l. inl (omega arith)) (λ l. inr (omega arith)) (below mode exactMode)
 
 module _ {file before : List ℕ} (room : answerLength ≤ length before) {mode : ℕ} (m : mode ≤ boundsMode) where
   pub refused-file : {question : Question} {r : Figures} → FiguresOutcome (wholeFile file) question r → 0 < r .number
@@ -42,11 +38,11 @@ module _ {file before : List ℕ} (room : answerLength ≤ length before) {mode 
 
 module _ {file : List ℕ} {r : Figures} where
   -- The exact fraction stands twice.
-  pub said-exactly : {mode : ℕ} → (mode ≡ defaultMode) ⊎ (mode ≡ exactMode) → ChanceAsked (wholeFile file) r
+  pub said-exactly : ChanceAsked (wholeFile file) r
       → let a = r .chance in
-      Said (wholeFile file) mode (a .number) (answerBytes (a .numerator) (a .denominator) (a .numerator) (a .denominator))
-  said-exactly m x = Said.exactly m (toldAnswer (r .chance)) (x .chance .work) (x .chance .outcome) refl refl
+      Said (wholeFile file) exactMode (a .number) (answerBytes (a .numerator) (a .denominator) (a .numerator) (a .denominator))
+  said-exactly x = Said.exactly refl (toldAnswer (r .chance)) (x .chance .work) (x .chance .outcome) refl refl
 
   pub said-bounds : BoundsAsked (wholeFile file) r
       → let a = r .bounds in Said (wholeFile file) boundsMode (a .number) (answerBytes (a .p) (a .q) (a .s) (a .t))
-  said-bounds x = Said.bounded refl (toldLimits (r .bounds)) (x .bounds .work) (x .bounds .outcome) refl refl
+  said-bounds x = Said.bounded (inr refl) (toldLimits (r .bounds)) (x .bounds .work) (x .bounds .outcome) refl refl

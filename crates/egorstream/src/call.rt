@@ -1,13 +1,11 @@
 // The call from C: the chance of the chain in a file, written as four numbers of 4 bytes.
-ghost use mathlib.Core.Path.{_≡_};
-ghost use mathlib.Core.Logic.{_⊎_};
-ghost use Prim.Native.Nat.{ℕ, _≤_};
+ghost use Prim.Native.Nat.{_≤_};
 ghost use lib.ListN.{length};
-ghost use Rattle.meaning.specs.Call.{defaultMode, exactMode, boundsMode, answerLength, CallOutcome};
+ghost use Rattle.meaning.specs.Call.{exactMode, boundsMode, answerLength, CallOutcome};
 use crate::reply;
 use figures::Question;
 
-// The modes: the default means exact.
+// The modes: the default means bounds.
 pub const MODE_DEFAULT: u32 = 0;
 
 pub const MODE_EXACT: u32 = 1;
@@ -17,9 +15,7 @@ pub const MODE_BOUNDS: u32 = 2;
 // The exact fraction stands twice.
 fn exact(file: &[u8], answer: &mut [u8]) -> u32
     requires { ⌜ answerLength ≤ length (now answer) ⌝ }
-    ensures { λ r.
-        let before = now (answer .entry) in
-        ⌜ ((mode : ℕ) → (mode ≡ defaultMode) ⊎ (mode ≡ exactMode) → CallOutcome (now (file .entry)) mode before r (now (answer .exit))) ⌝ }
+    ensures { λ r. ⌜ CallOutcome (now (file .entry)) exactMode (now (answer .entry)) r (now (answer .exit)) ⌝ }
 {
     let found = figures::ask(file, 0, Question::Chance);
     if found.number != 0 {
@@ -63,7 +59,7 @@ pub extern "C" fn egorstream_chance(file: &[u8], mode: u32, answer: &mut [u8]) -
         return 2;
     }
     match mode {
-        MODE_DEFAULT | MODE_EXACT => exact(file, answer),
+        MODE_EXACT => exact(file, answer),
         _ => between(file, answer),
     }
 }

@@ -9,7 +9,7 @@ use Rattle.meaning.specs.Outcome.{Answer, ChanceOutcome, Bounds, between
 use Rattle.meaning.specs.Block.{Input, wholeFile, numberAt}
 use Rattle.meaning.specs.File.{FileRefused, Accepted, plainIn}
 
--- Modes: 0 is the default and means exact, 1 exact, 2 bounds.
+-- Modes: 0 is the default, 1 exact, 2 bounds.
 abbrev pub defaultMode : ℕ
 defaultMode = 0
 
@@ -18,6 +18,13 @@ exactMode = 1
 
 abbrev pub boundsMode : ℕ
 boundsMode = 2
+
+-- Which engine each mode asks, since request 9: 1 remains exact, and 0 means bounds, as 2 does.
+abbrev pub AsksExact : ℕ → Type 0
+AsksExact mode = mode ≡ exactMode
+
+abbrev pub AsksBounds : ℕ → Type 0
+AsksBounds mode = (mode ≡ defaultMode) ⊎ (mode ≡ boundsMode)
 
 -- How long the answer is.
 abbrev pub answerLength : ℕ
@@ -42,9 +49,9 @@ answerRead answer = between (answerNumber answer 0) (answerNumber answer 1) (ans
 -- What the engine of a mode says of an accepted file: its number, 0 where it answers, and the bytes of its fractions; the exact engine's
 -- fraction stands twice.
 pub data Said (f : Input) (mode number : ℕ) (bytes : List ℕ) : Type 0 where
-  exactly : (mode ≡ defaultMode) ⊎ (mode ≡ exactMode) → (a : Answer) (w : List ℕ) → ChanceOutcome (plainIn f) a w → number ≡ a .number
+  exactly : AsksExact mode → (a : Answer) (w : List ℕ) → ChanceOutcome (plainIn f) a w → number ≡ a .number
       → bytes ≡ answerBytes (a .numerator) (a .denominator) (a .numerator) (a .denominator) → Said f mode number bytes
-  bounded : mode ≡ boundsMode → (a : Bounds) (w : List ℕ) → BoundsOutcome (plainIn f) a w → number ≡ a .number
+  bounded : AsksBounds mode → (a : Bounds) (w : List ℕ) → BoundsOutcome (plainIn f) a w → number ≡ a .number
       → bytes ≡ answerBytes (a .lowerNumerator) (a .lowerDenominator) (a .upperNumerator) (a .upperDenominator)
       → Said f mode number bytes
 

@@ -17,4 +17,5 @@ pub mod ReportOne
 pub mod StepsOne
 pub mod CallOne
 pub mod CallRead
+pub mod CallBounds
 pub mod CallFile

@@ -13,7 +13,7 @@ use Rattle.meaning.specs.Outcome.{ChanceOutcome}
 use Rattle.meaning.specs.Block.{wholeFile}
 use Rattle.meaning.specs.File.{plainIn}
 use Rattle.meaning.specs.Write.{FileOf}
-use Rattle.meaning.specs.Call.{defaultMode, exactMode, answerLength, answerNumber, Said, CallOutcome, mode-wrong, answer-short, file-refused, chain-refused, answered}
+use Rattle.meaning.specs.Call.{AsksExact, answerLength, answerNumber, Said, CallOutcome, mode-wrong, answer-short, file-refused, chain-refused, answered}
 use Rattle.meaning.specs.Demand.{NoFitAnywhere}
 use Rattle.theory.specs.Outcomes.DemandTwo.{chance-answers, chance-refuses}
 use Rattle.theory.specs.Files.FileOne.{accepted-unrefused}
@@ -29,7 +29,7 @@ pub data Exactly (l : Lent) (returned p q : ℕ) : Type 0 where
 abbrev pub asked : Lent → Lent
 asked l = ownWork (l .chain) (l .order) []
 
-module _ {l : Lent} {file : List ℕ} {mode : ℕ} (exact : (mode ≡ defaultMode) ⊎ (mode ≡ exactMode)) (x : FileOf l file)
+module _ {l : Lent} {file : List ℕ} {mode : ℕ} (exact : AsksExact mode) (x : FileOf l file)
     (formed : WellFormed plain (asked l))
   where
     -- What the engine says: 12 exactly where a row does not fit, and else 0.
@@ -49,8 +49,7 @@ module _ {l : Lent} {file : List ℕ} {mode : ℕ} (exact : (mode ≡ defaultMod
 
     pub call-exactly : {before after : List ℕ} {returned : ℕ} → answerLength ≤ length before → CallOutcome file mode before returned after
         → Exactly (asked l) returned (answerNumber after 0) (answerNumber after 1)
-    call-exactly room (mode-wrong m e k) =
-        absurd (⊎-elim (λ (d : mode ≡ defaultMode). omega arith) (λ (d : mode ≡ exactMode). omega arith) exact)
+    call-exactly room (mode-wrong m e k) = absurd (omega arith)
     call-exactly room (answer-short m s e k) = absurd (omega arith)
     call-exactly room (file-refused m s number place r e k) = absurd (accepted-unrefused (x .accepted) r)
     call-exactly room (chain-refused m s a number bytes t z e k) =

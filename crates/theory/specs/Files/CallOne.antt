@@ -1,14 +1,14 @@
 -- The call from C has one outcome for one file, mode and answer: what it returns, and the answer bytes afterwards.
 use Prim.Native.Nat.{ℕ}
 use mathlib.Core.Path.{_≡_, sym, ap, _∙_}
-use mathlib.Core.Logic.{_⊎_, ⊎-elim}
+use mathlib.Core.Logic.{⊎-elim}
 use mathlib.Core.List.{List}
 use native.Mathlib.Omega.{arith}
 use Rattle.meaning.specs.Number.{filled}
 use Rattle.meaning.specs.Outcome.{Answer, Bounds}
 use Rattle.meaning.specs.Block.{Input}
 use Rattle.meaning.specs.File.{plainIn}
-use Rattle.meaning.specs.Call.{defaultMode, exactMode, boundsMode, answerBytes, Said, CallOutcome, mode-wrong, answer-short, file-refused, chain-refused, answered}
+use Rattle.meaning.specs.Call.{AsksExact, AsksBounds, answerBytes, Said, CallOutcome, mode-wrong, answer-short, file-refused, chain-refused, answered}
 use Rattle.theory.specs.Outcomes.Entries.{chance-determined, bounds-determined}
 use Rattle.theory.specs.Files.FileOne.{file-one, accepted-unrefused}
 
@@ -19,8 +19,8 @@ bounds-bytes : Bounds → List ℕ
 bounds-bytes a = answerBytes (a .lowerNumerator) (a .lowerDenominator) (a .upperNumerator) (a .upperDenominator)
 
 -- No mode asks for both engines.
-pub modes-apart : {mode : ℕ} → (mode ≡ defaultMode) ⊎ (mode ≡ exactMode) → mode ≡ boundsMode → ⊥
-modes-apart m n = ⊎-elim (λ d. omega arith) (λ e. omega arith) m
+pub modes-apart : {mode : ℕ} → AsksExact mode → AsksBounds mode → ⊥
+modes-apart m n = ⊎-elim (λ d. omega arith) (λ e. omega arith) n
 
 -- What the engine of a mode says is one.
 pub said-one : {f : Input} {mode n n′ : ℕ} {b b′ : List ℕ} → Said f mode n b → Said f mode n′ b′ → (n ≡ n′) × (b ≡ b′)

@@ -1,7 +1,6 @@
 -- What the call from C answers, read back as four numbers: the chance twice, or the bounds. Each number is at most M, so 4 bytes hold it.
 use Prim.Native.Nat.{ℕ, _+_, _*_, _/_, _%_, _^_, _≤_, _<_}
 use mathlib.Core.Path.{_≡_, refl, sym, ap, subst, _∙_}
-use mathlib.Core.Logic.{_⊎_}
 use mathlib.Core.List.{List}
 use native.Mathlib.Omega.{arith}
 use native.Mathlib.Nat.{div-one, div-div-eq-div-mul}
@@ -12,7 +11,7 @@ use Rattle.meaning.specs.Refusal.{Lent, Entry, Applies}
 use Rattle.meaning.specs.Outcome.{Outcome, refused, stopped, answered, Answer, Bounds, between, BoundsFigure}
 use Rattle.meaning.specs.File.{chainIn, plainIn}
 use Rattle.meaning.specs.Block.{wholeFile}
-use Rattle.meaning.specs.Call.{defaultMode, exactMode, boundsMode, answerBytes, answerNumber, answerRead, Said, CallOutcome}
+use Rattle.meaning.specs.Call.{AsksExact, AsksBounds, answerBytes, answerNumber, answerRead, Said, CallOutcome}
 use Rattle.meaning.specs.Demand.{BothChance}
 use Rattle.theory.specs.Outcomes.DemandTwo.{stopped-twelve, chance-of}
 use Rattle.theory.specs.Files.FileOne.{file-numbers}
@@ -63,8 +62,8 @@ module _ {file before after : List ℕ} {mode : ℕ} where
   said (CallOutcome.chain-refused m l a number bytes s z e k) = absurd (omega arith)
   said (CallOutcome.answered m l a bytes s e k) = (bytes, s, k)
 
-  -- In modes 0 and 1 each of the two fractions is the chance, in lowest terms.
-  pub call-chance : (mode ≡ defaultMode) ⊎ (mode ≡ exactMode) → CallOutcome file mode before 0 after
+  -- In mode 1 each of the two fractions is the chance, in lowest terms.
+  pub call-chance : AsksExact mode → CallOutcome file mode before 0 after
       → Chance (chainIn (wholeFile file)) (answerNumber after 0) (answerNumber after 1)
       × Chance (chainIn (wholeFile file)) (answerNumber after 2) (answerNumber after 3)
   call-chance m o = go (said o .1) (said o .2)
@@ -76,8 +75,8 @@ module _ {file before after : List ℕ} {mode : ℕ} where
           subst (BothChance (chainIn (wholeFile file))) (sym (reads before u u g k)) (h, h)
       go (Said.bounded m′ a w o e g) k = absurd (modes-apart m m′)
 
-  -- In mode 2 they are the bounds.
-  pub call-bounds : mode ≡ boundsMode → CallOutcome file mode before 0 after → BoundsFigure (plainIn (wholeFile file)) (answerRead after)
+  -- In modes 0 and 2 they are the bounds.
+  pub call-bounds : AsksBounds mode → CallOutcome file mode before 0 after → BoundsFigure (plainIn (wholeFile file)) (answerRead after)
   call-bounds m o = go (said o .1) (said o .2)
     where
       go : {bytes : List ℕ} → Said (wholeFile file) mode 0 bytes → after ≡ filled bytes before → BoundsFigure (plainIn (wholeFile file)) (answerRead after)

@@ -1,7 +1,6 @@
 -- The file of a plan: the writer never refuses it, and the exact chance that is asked of it is the plan's.
 use Prim.Native.Nat.{ℕ, zero, suc, _+_, _*_, _≤_}
 use mathlib.Core.Path.{_≡_, refl, ap, _∙_}
-use mathlib.Core.Logic.{_⊎_}
 use mathlib.Core.List.{List}
 use native.Mathlib.Omega.{arith}
 use lib.ListN.{length, getD, replicate, take, length-replicate}
@@ -10,7 +9,7 @@ use Rattle.meaning.specs.Block.{blocksOf}
 use Rattle.meaning.specs.Refusal.{Lent, ownWork, WellFormed}
 use Rattle.meaning.specs.Buffer.{Writing}
 use Rattle.meaning.specs.Write.{FileOf, fileSize, filing, WriteOutcome}
-use Rattle.meaning.specs.Call.{defaultMode, exactMode, answerLength, answerNumber, CallOutcome}
+use Rattle.meaning.specs.Call.{AsksExact, answerLength, answerNumber, CallOutcome}
 use Rattle.meaning.specs.Copies.{mostCopies, Plan, Sensible, copiesStates, copiesEdges, copiesChain, copiesOrder, copiesLent}
 use Rattle.theory.specs.Files.Written.{formed-written, written-inside, read-back, file-of-same}
 use Rattle.theory.specs.Files.CallFile.{Exactly, call-exactly}
@@ -63,7 +62,7 @@ module _ {j : Plan} (sensible : Sensible j) where
           (file-of-same chain-is order-is rewards-are (x .0), written-inside o)
 
   -- The call, in a mode that asks for the exact chance.
-  module _ {file before after : List ℕ} {mode returned : ℕ} (exact : (mode ≡ defaultMode) ⊎ (mode ≡ exactMode)) (x : FileOf (copiesFiled j) file)
+  module _ {file before after : List ℕ} {mode returned : ℕ} (exact : AsksExact mode) (x : FileOf (copiesFiled j) file)
       (room : answerLength ≤ length before) (o : CallOutcome file mode before returned after)
     where
       -- It returns 0 and the plan's chance, or 12.
