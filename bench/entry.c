@@ -1,5 +1,5 @@
 /*
- * Times the C entries on chain files: the chance in both modes, the step list, and the writing of the file again.
+ * Times the C entries on chain files: the chance exactly and in bounds, the step list, and the writing of the file again.
  *
  *     entry FILE ..                     four lines a file, for bench/table.py
  *     entry calls N exact|bounds FILE   only makes N calls, for a profiler

@@ -1,6 +1,7 @@
 /*
- * What a scheduler does with chain files: asks for the exact chance and for bounds, and tells the
- * answers, or why there are none. Where the exact numbers grew too large it tells the steps before.
+ * What a scheduler does with chain files: asks for the exact chance by name and, by the default, for
+ * bounds, and tells the answers, or why there are none. Where the exact numbers grew too large it
+ * tells the steps before.
  *
  *     cc -std=c11 -Wall -Wextra -Werror -I include examples/scheduler.c \
  *         target/staticlib/libegorstream.a -o scheduler
@@ -105,7 +106,10 @@ static bool read_file(const char *name, size_t *length)
     return true;
 }
 
-/* Tells the answers on one file; false where a figure or the whole file was refused. */
+/*
+ * Tells the answers on one file; false where there are no bounds, because the file or its chain was
+ * refused. An exact chance that does not fit is no failure: the bounds stand.
+ */
 static bool tell(const char *name)
 {
     size_t length;
@@ -113,16 +117,15 @@ static bool tell(const char *name)
     if (!read_file(name, &length)) {
         return false;
     }
-    bool exact = ask(name, "chance", length, EGORSTREAM_MODE_EXACT, &lower, &upper);
-    if (exact) {
+    if (ask(name, "chance", length, EGORSTREAM_MODE_EXACT, &lower, &upper)) {
         printf("%s: chance %" PRIu32 "/%" PRIu32 "\n", name, lower.numerator, lower.denominator);
     }
-    bool bounds = ask(name, "bounds", length, EGORSTREAM_MODE_BOUNDS, &lower, &upper);
-    if (bounds) {
-        printf("%s: bounds %" PRIu32 "/%" PRIu32 " %" PRIu32 "/%" PRIu32 "\n", name,
-               lower.numerator, lower.denominator, upper.numerator, upper.denominator);
+    if (!ask(name, "bounds", length, EGORSTREAM_MODE_DEFAULT, &lower, &upper)) {
+        return false;
     }
-    return exact && bounds;
+    printf("%s: bounds %" PRIu32 "/%" PRIu32 " %" PRIu32 "/%" PRIu32 "\n", name, lower.numerator,
+           lower.denominator, upper.numerator, upper.denominator);
+    return true;
 }
 
 int main(int argc, char **argv)

@@ -16,7 +16,11 @@ extern "C" {
 
 /* Modes. */
 
-/* The default: exact. */
+/*
+ * The default: bounds, just as EGORSTREAM_MODE_BOUNDS. It meant exact in earlier versions of this
+ * library, and both fractions of its answer were the chance. Who reads only the first fraction now
+ * reads a lower bound, and the chance may be greater: read both, or ask for exact by name.
+ */
 #define EGORSTREAM_MODE_DEFAULT UINT32_C(0)
 /* The exact chance, or EGORSTREAM_NO_FIT where its numbers grow too large. */
 #define EGORSTREAM_MODE_EXACT UINT32_C(1)
@@ -78,7 +82,8 @@ extern "C" {
 
 /*
  * Numbers on the way grew above 2,147,483,647: ask for bounds, or try another order. The step list
- * shows where they grew.
+ * shows where they grew. Of the modes only EGORSTREAM_MODE_EXACT returns it, and nothing is wrong
+ * with the chain.
  */
 #define EGORSTREAM_NO_FIT UINT32_C(12)
 
@@ -109,7 +114,8 @@ extern "C" {
  *
  * Returns 0 and writes 16 bytes: the lower fraction, then the upper, each as its numerator and its
  * denominator, four little-endian numbers of 4 bytes. Both fractions are in lowest terms; zero is
- * 0/1. An exact answer is one fraction written twice.
+ * 0/1. The chance lies between them. An exact answer is one fraction written twice; bounds are equal
+ * where nothing was rounded.
  *
  * Otherwise returns the number of the refusal, and the answer's bytes stay as they were. Bytes of
  * the answer beyond the first 16 always stay as they were.

@@ -2,7 +2,7 @@
 
 use crate::block::four_bytes;
 use crate::damage::Request;
-use crate::entry::{self, Pair, ANSWER, BOUNDS};
+use crate::entry::{self, Pair, ANSWER, EXACT};
 use crate::file;
 use crate::fraction::Fraction;
 use crate::plan::Plan;
@@ -49,7 +49,7 @@ pub fn entry(tally: &mut Tally, case: Case, request: &Request, asked: Asked) -> 
         return None;
     }
     let answer = decode(&memory[start..])?;
-    if *mode == BOUNDS && answer.0 != answer.1 {
+    if *mode != EXACT && answer.0 != answer.1 {
         tally.open_bounds += 1;
     }
     Some(answer)

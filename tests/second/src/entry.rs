@@ -7,7 +7,7 @@ use crate::fraction::Fraction;
 use crate::live::Reach;
 use crate::refusal::{of_tables, Refusal};
 
-/// The modes: the default, which means exact; exact; bounds.
+/// The modes: the default, which means bounds since request 9; exact; bounds.
 pub const DEFAULT: u32 = 0;
 pub const EXACT: u32 = 1;
 pub const BOUNDS: u32 = 2;
@@ -36,7 +36,7 @@ pub fn chance(file: &[u8], mode: u32, answer_length: usize) -> Result<Pair, Refu
 fn figures_of(chain: &Chain, mode: u32) -> Result<Pair, Refusal> {
     let reach = Reach::of(chain);
     match mode {
-        DEFAULT | EXACT => figures::chance(chain, &reach).map(|chance| (chance, chance)),
+        EXACT => figures::chance(chain, &reach).map(|chance| (chance, chance)),
         _ => Ok(figures::bounds(chain, &reach)),
     }
 }

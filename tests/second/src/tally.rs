@@ -53,7 +53,7 @@ const MET: [(&str, u64); 9] = [
 ];
 
 /// The numbers that a file's bytes, a mode and an answer's length can give; 0 is an answer. 11 needs
-/// a reward above what two bytes hold.
+/// a reward above what two bytes hold; 12 comes from the exact mode alone.
 const GIVEN: [RangeInclusive<usize>; 3] = [0..=10, 12..=12, 20..=24];
 /// Those that need a mode or an answer, which a report does not have.
 const NOT_REPORTED: [usize; 2] = [1, 2];
