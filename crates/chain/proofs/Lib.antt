@@ -1,4 +1,3 @@
 pub mod Terms
-pub mod Law
 pub mod Passing
 pub mod Unique

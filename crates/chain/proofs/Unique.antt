@@ -2,7 +2,7 @@
 use Prim.Native.Nat.{ℕ}
 use mathlib.Core.Path.{_≡_, refl, sym, ap₂, _∙_}
 use mathlib.Core.Bool.{Bool, true, false}
-use Rattle.chain.specs.Decide.{decides}
+use Rattle.meaning.specs.Number.{decides}
 use Rattle.chain.specs.Reduce.{Common}
 use Rattle.chain.specs.declared.Chain.{Chain}
 use Rattle.chain.specs.declared.fraction.Fraction.{Fraction}

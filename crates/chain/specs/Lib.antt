@@ -1,4 +1,3 @@
-pub mod Decide
 pub mod Edge
 pub mod Lent
 pub mod Reduce

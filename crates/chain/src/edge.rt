@@ -3,7 +3,7 @@ ghost use mathlib.Core.Path.{_≡_};
 ghost use Prim.Native.Nat.{_+_, _*_, _%_};
 ghost use lib.ListN.{length, getD};
 ghost use Rattle.chain.specs.Edge.{placed};
-ghost use Rattle.chain.specs.Decide.{decides};
+ghost use Rattle.meaning.specs.Number.{decides};
 ghost use Rattle.meaning.specs.Chain.{edgeSize, edge, edgeCount, from, to, weight, edgeReward};
 use crate::Chain;
 

@@ -8,7 +8,7 @@ use native.Mathlib.Omega.{arith}
 use Rattle.meaning.specs.Chain.{mostStates, mostEdges}
 use Rattle.meaning.specs.Block.{Input, numberAt, countAt, recordsAt, checkAt, recordSize, firstVersion, versionIn, headStates, headEdges, headZeros}
 use Rattle.meaning.specs.File.{NonZero, HeadFault, FlagFault, ReservedFault, ContentFault, kindOf, countOf}
-use Rattle.chain.specs.Decide.{decides}
+use Rattle.meaning.specs.Number.{decides}
 use Rattle.chainfile.specs.Input.{input}
 use Rattle.chainfile.proofs.Law.{carry}
 

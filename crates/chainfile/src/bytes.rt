@@ -4,7 +4,7 @@ ghost use Prim.Native.Nat.{_+_, _^_, _≤_, _<_};
 ghost use lib.ListN.{getD};
 ghost use Rattle.meaning.specs.Block.{numberAt};
 ghost use Rattle.meaning.specs.File.{NonZero};
-ghost use Rattle.chain.specs.Decide.{decides};
+ghost use Rattle.meaning.specs.Number.{decides};
 ghost use Rattle.chainfile.specs.Input.{input, end};
 
 fn wide(x: u8) -> u64

@@ -6,7 +6,7 @@ ghost use Rattle.meaning.specs.Number.{tabFrom, filled};
 ghost use Rattle.meaning.specs.Chain.{edgeSize};
 ghost use Rattle.meaning.specs.Block.{numberAt, recordSize, fullBlock, headStates, headEdges, recordAt, stateAt};
 ghost use Rattle.meaning.specs.File.{ShortOf, Short, filledIn, edgesIn, goalsIn};
-ghost use Rattle.chain.specs.Decide.{decides};
+ghost use Rattle.meaning.specs.Number.{decides};
 ghost use Rattle.chainfile.specs.Input.{input, mostBlocks, end};
 ghost use Rattle.chainfile.specs.Tells.{Within, tables};
 use crate::bytes;

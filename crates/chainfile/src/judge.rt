@@ -2,7 +2,7 @@
 ghost use Prim.Native.Nat.{ℕ, _≤_};
 ghost use Rattle.meaning.specs.Block.{demanded};
 ghost use Rattle.meaning.specs.File.{LengthFault, TotalFault};
-ghost use Rattle.chain.specs.Decide.{decides};
+ghost use Rattle.meaning.specs.Number.{decides};
 ghost use Rattle.chainfile.specs.Input.{input, mostBlocks};
 ghost use Rattle.chainfile.specs.Tells.{further, judged};
 use crate::block;

@@ -2,7 +2,7 @@
 ghost use Prim.Native.Nat.{_+_, _*_, _≤_};
 ghost use Rattle.meaning.specs.Block.{recordSize};
 ghost use Rattle.meaning.specs.File.{HeadFault, FlagFault, ReservedFault};
-ghost use Rattle.chain.specs.Decide.{decides};
+ghost use Rattle.meaning.specs.Number.{decides};
 ghost use Rattle.chainfile.specs.Input.{input, end};
 use crate::bytes;
 use crate::head;

@@ -7,7 +7,7 @@ ghost use Rattle.meaning.specs.Chain.{mostStates, mostEdges};
 ghost use Rattle.meaning.specs.Block.{blocksOf};
 ghost use Rattle.meaning.specs.Refusal.{Misshaped};
 ghost use Rattle.meaning.specs.Write.{filing, WriteOutcome};
-ghost use Rattle.chain.specs.Decide.{decides};
+ghost use Rattle.meaning.specs.Number.{decides};
 ghost use Rattle.chain.specs.Lent.{lent};
 ghost use Rattle.look.specs.Says.{Looks};
 ghost use Rattle.chainfile.specs.Input.{mostBlocks};

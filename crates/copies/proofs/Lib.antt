@@ -1,5 +1,4 @@
 pub mod Growing
-pub mod Deciding
 pub mod Sums
 pub mod Filing
 pub mod Unique

@@ -1,8 +1,8 @@
 -- What the planner is handed and what it answers, in the words of `meaning`.
 use Prim.Native.Nat.{ℕ, _≤_, _<_}
-use mathlib.Core.Bool.{Bool, true, false}
+use lib.ListN.{length}
 use Rattle.meaning.specs.Outcome.{Answer}
-use Rattle.meaning.specs.Copies.{Plan as Planning, PlaceFault}
+use Rattle.meaning.specs.Copies.{Plan as Planning, weights, PlaceFault}
 use Rattle.copies.specs.declared.plan.Plan.{Plan}
 use Rattle.copies.specs.declared.Planned.{Planned}
 
@@ -12,13 +12,8 @@ toldPlan j = record { copies = j .copies; loss = j .loss; rebuild = j .rebuild; 
 abbrev pub told : Planned → Answer
 told a = record { number = a .number; place = a .place; numerator = a .numerator; denominator = a .denominator }
 
--- A test answers whether P holds.
-abbrev pub Decides : Type 0 → Bool → Type 0
-Decides P true = P
-Decides P false = P → ⊥
-
--- The least place of a wrong weight, or 3 where none is wrong.
+-- The least place of a wrong weight, or how many weights there are where none is wrong.
 pub record LeastWrong (j : Planning) (p : ℕ) : Type 0 where
-  pub inside : p ≤ 3
+  pub inside : p ≤ length (weights j)
   pub before : (q : ℕ) → q < p → PlaceFault j q → ⊥
-  pub here : p < 3 → PlaceFault j p
+  pub here : p < length (weights j) → PlaceFault j p

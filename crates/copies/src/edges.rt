@@ -2,7 +2,7 @@
 ghost use Prim.Native.Nat.{_+_, _*_, _-_, _≤_};
 ghost use lib.ListN.{length};
 ghost use Rattle.meaning.specs.Chain.{edgeSize, plainEdge};
-ghost use Rattle.meaning.specs.Copies.{mostCopies, mostWeight, planOf, Sensible, each, copiesEdges};
+ghost use Rattle.meaning.specs.Copies.{mostCopies, mostWeight, planOf, Sensible, each, losses, finishes, copiesEdges};
 ghost use Rattle.copies.specs.Grown.{Grown};
 use crate::list;
 use crate::plan::COPIES;
@@ -11,7 +11,7 @@ use egorstream::EDGE_SIZE;
 // The numbers of the longest list: a loss and a finish for each number of copies, a rebuild for each but the last, and two loops.
 pub(crate) const MOST: usize = EDGE_SIZE * (3 * COPIES as usize + 1);
 
-// An edge with no reward.
+// One edge, with no reward.
 fn put(edges: &mut [u64], at: usize, from: u64, to: u64, weight: u64) -> usize
     requires { ⌜ at + edgeSize ≤ length (now edges) ⌝ }
     ensures { λ r. ⌜ Grown (now (edges .entry)) at (plainEdge from to weight) (now (edges .exit)) r ⌝ }
@@ -25,7 +25,7 @@ fn put(edges: &mut [u64], at: usize, from: u64, to: u64, weight: u64) -> usize
 // With k copies left, loss counts k times.
 fn losses(edges: &mut [u64], at: usize, copies: u64, loss: u64) -> usize
     requires { ⌜ (copies ≤ mostCopies) × (loss ≤ mostWeight) × (at + edgeSize * copies ≤ length (now edges)) ⌝ }
-    ensures { λ r. ⌜ Grown (now (edges .entry)) at (each (λ k. plainEdge k (k - 1) (k * loss)) copies) (now (edges .exit)) r ⌝ }
+    ensures { λ r. ⌜ Grown (now (edges .entry)) at (losses (planOf copies loss 0 0)) (now (edges .exit)) r ⌝ }
 {
     let mut next = at;
     let mut k = 0;
@@ -53,7 +53,7 @@ fn rebuilds(edges: &mut [u64], at: usize, most: u64, rebuild: u64) -> usize
 // The finish ends the job well, whatever is left.
 fn finishes(edges: &mut [u64], at: usize, copies: u64, finish: u64) -> usize
     requires { ⌜ (copies ≤ mostCopies) × (at + edgeSize * copies ≤ length (now edges)) ⌝ }
-    ensures { λ r. ⌜ Grown (now (edges .entry)) at (each (λ k. plainEdge k (copies + 1) finish) copies) (now (edges .exit)) r ⌝ }
+    ensures { λ r. ⌜ Grown (now (edges .entry)) at (finishes (planOf copies 0 0 finish)) (now (edges .exit)) r ⌝ }
 {
     let mut next = at;
     let mut k = 0;

@@ -8,10 +8,11 @@ ghost use Rattle.copies.specs.Told.{toldPlan};
 use crate::edges;
 use crate::plan::Plan;
 use crate::states;
+use egorstream::BLOCK_LENGTH;
 use egorstream::egorstream_write;
 
 // The longest file: the head, a block of states and two of edges.
-pub(crate) const LONGEST: usize = 4 * 512;
+pub(crate) const LONGEST: usize = 4 * BLOCK_LENGTH;
 
 // No copy left is the only goal.
 const GOALS: u64 = 1;

@@ -32,6 +32,7 @@ fn refused(number: u32, place: u32) -> Planned
     }
 }
 
+// The chance that no copy is left before the finish. Both tests are made before one is looked at; 30 comes first.
 pub fn chance(plan: Plan) -> Planned
     ensures { λ r. ⌜ CopiesOutcome (toldPlan plan) (told r) ⌝ }
 {

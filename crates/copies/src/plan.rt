@@ -1,11 +1,12 @@
 // A plan: which copies and weights it may have.
 ghost use Rattle.meaning.specs.Refusal.{Beyond};
-ghost use Rattle.copies.specs.Told.{toldPlan, Decides, LeastWrong};
+ghost use Rattle.copies.specs.Told.{toldPlan, LeastWrong};
+ghost use Rattle.meaning.specs.Number.{decides};
 
 // The most copies, and the greatest weight.
-pub const COPIES: u64 = 32;
+pub(crate) const COPIES: u64 = 32;
 
-pub const WEIGHT: u64 = 1000000;
+pub(crate) const WEIGHT: u64 = 1000000;
 
 // How many weights there are.
 pub(crate) const WEIGHTS: u32 = 3;
@@ -20,7 +21,7 @@ pub struct Plan {
 
 // x is not 1 to the limit.
 pub(crate) fn beyond(limit: u64, x: u64) -> bool
-    ensures { λ r. ⌜ Decides (Beyond limit x) r ⌝ }
+    ensures { λ r. ⌜ decides (Beyond limit x) r ⌝ }
 {
     if x == 0 {
         return true;

@@ -11,6 +11,7 @@ pub use call::egorstream_chance;
 pub use reply::ANSWER_LENGTH;
 pub use steps::Stepped;
 pub use steps::egorstream_steps;
+pub use write::BLOCK_LENGTH;
 pub use write::EDGE_SIZE;
 pub use write::Written;
 pub use write::egorstream_write;

@@ -52,7 +52,7 @@ fn reply(t: Trace) -> Stepped
     }
 }
 
-// A record for each removed state, from the front of the list. Walked.
+// A record for each removed state, from the front of the list. Proved by hand.
 #[no_mangle]
 pub extern "C" fn egorstream_steps(file: &[u8], list: &mut [StepRecord]) -> Stepped
     ensures { λ r.

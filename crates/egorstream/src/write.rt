@@ -7,6 +7,9 @@ use chainwriter::Writing;
 // How many numbers of the list an edge has.
 pub const EDGE_SIZE: usize = chain::edge::SIZE;
 
+// How many bytes a block of a chain file has.
+pub const BLOCK_LENGTH: usize = chainfile::layout::BLOCK;
+
 // A refusal's number and place, or 0 and how long the file is.
 #[repr(C)]
 pub struct Written {

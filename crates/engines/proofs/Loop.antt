@@ -9,7 +9,7 @@ use native.Mathlib.Omega.{arith}
 use lib.ListN.{length, getD, set, length-set, replicate, List·getD-eq-default}
 use lib.Seq.{getD-set-same, getD-set-other}
 use Rattle.meaning.specs.Number.{tabFrom}
-use Rattle.theory.specs.Numbers.Tab.{tab-of}
+use Rattle.theory.specs.Numbers.Tab.{tab-of, getD-zeros}
 
 -- After k turns over l: the numbers below k are new, the others as they were.
 pub record Walked (f : ℕ → ℕ) (l : List ℕ) (k : ℕ) (row : List ℕ) : Type 0 where
@@ -41,11 +41,6 @@ module _ {f : ℕ → ℕ} {l : List ℕ} where
 
     pub walk-all : length l ≤ k → row ≡ tabFrom 0 (length l) f
     walk-all h = tab-of 0 (length l) f row (w .len) (λ j b. w .new j (omega arith))
-
-pub getD-zeros : (m k : ℕ) → getD {A = ℕ} (replicate m 0) k 0 ≡ 0
-getD-zeros zero k = refl
-getD-zeros (suc m) zero = refl
-getD-zeros (suc m) (suc k) = getD-zeros m k
 
 -- A copy of r in a list of zeros.
 pub walk-copy : (m : ℕ) (r : List ℕ) {k : ℕ} {p : List ℕ} → Walked (λ j. getD r j 0) (replicate m 0) k p → length r ≤ k → (j : ℕ) → getD p j 0 ≡ getD r j 0

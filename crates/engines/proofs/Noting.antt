@@ -14,9 +14,9 @@ use Rattle.meaning.specs.Number.{sumTo}
 use Rattle.meaning.specs.Chain.{mostStates}
 use Rattle.meaning.specs.Steps.{StepRecord, rowsTo, columnsOf, largestTaken, recordOf}
 use Rattle.engines.specs.Table.{rowAt, tableOf}
-use Rattle.engines.proofs.Loop.{getD-zeros}
+use Rattle.theory.specs.Numbers.Tab.{getD-zeros}
 use Rattle.engines.proofs.Removal.{row-is}
-use Rattle.engines.specs.Log.{recordSize, logSize, numbersOf, Holds, Logged, Roomy, LoggedMore}
+use Rattle.engines.specs.Log.{recordNumbers, logSize, numbersOf, HoldsRecords, Logged, Roomy, LoggedMore}
 
 -- The table has these numbers at its front, and zeros past them.
 record Begins (t xs : List ℕ) : Type 0 where
@@ -55,7 +55,7 @@ put-first {t} {xs} {x} v h = record { size = length-set t 0 v ∙ h .size; same 
     at zero = getD-set-same t 0 v 0 (omega (arith, h .size))
     at (suc j) = getD-set-other t 0 (suc j) v 0 (λ q. omega arith) ∙ h .same (suc j)
 
-pub numbers-length : (rs : List StepRecord) → length (numbersOf rs) ≡ recordSize * length rs
+pub numbers-length : (rs : List StepRecord) → length (numbersOf rs) ≡ recordNumbers * length rs
 unfolding numbersOf
 numbers-length [] = refl
 numbers-length (r ∷ rs) = omega (arith, numbers-length rs)
@@ -70,16 +70,16 @@ numbers-more (x ∷ rs) r = ap (λ (ys : List ℕ). x .state ∷ x .rows ∷ x .
 -- The log with the record r behind the others.
 abbrev pub noted : List ℕ → StepRecord → List ℕ
 noted log r =
-    let k = 1 + recordSize * getD log 0 0 in
+    let k = 1 + recordNumbers * getD log 0 0 in
     set (set (set (set (set log 0 (getD log 0 0 + 1)) k (r .state)) (k + 1) (r .rows)) (k + 2) (r .columns)) (k + 3) (r .divisor)
 
-module _ (log : List ℕ) (r : StepRecord) (few : getD log 0 0 < mostStates) (rs : List StepRecord) (h : Holds log rs) where
+module _ (log : List ℕ) (r : StepRecord) (few : getD log 0 0 < mostStates) (rs : List StepRecord) (h : HoldsRecords log rs) where
   longer : (xs : List ℕ) (x : ℕ) → length (xs ++ (x ∷ [])) ≡ length xs + 1
   longer xs x = length-append xs (x ∷ [])
 
-  pub holds-more : Holds (noted log r) (rs ++ (r ∷ []))
+  pub holds-more : HoldsRecords (noted log r) (rs ++ (r ∷ []))
   holds-more =
-      let k = 1 + recordSize * getD log 0 0 in
+      let k = 1 + recordNumbers * getD log 0 0 in
       let h0 : Begins log (length rs ∷ numbersOf rs) = record { size = h .size; same = h .cells } in
       let x0 = (getD log 0 0 + 1) ∷ numbersOf rs in
       let x1 = x0 ++ (r .state ∷ []) in
@@ -116,7 +116,7 @@ record-is n s w h e f g = rw (e, f, g, row-is n w s h)
 
 -- A log that is asked for has a record more.
 pub logged-more : {before after : List ℕ} {r : StepRecord} → (length before ≡ 0 → ⊥)
-    → ((rs : List StepRecord) → Holds before rs → Holds after (rs ++ (r ∷ []))) → LoggedMore true r before after true
+    → ((rs : List StepRecord) → HoldsRecords before rs → HoldsRecords after (rs ++ (r ∷ []))) → LoggedMore true r before after true
 logged-more some f rs (inl e) = absurd (some e)
 logged-more some f rs (inr h) = inr (f rs h)
 

@@ -20,7 +20,8 @@ use Rattle.theory.specs.Numbers.Tab.{tab-at, tab-length}
 use Rattle.theory.specs.Numbers.Shift.{pow-whole, shift-fits}
 use Rattle.engines.specs.declared.row.Settled.{Settled}
 use Rattle.engines.specs.Row.{Small, Summable, Fit, Tested, Became}
-use Rattle.engines.proofs.Loop.{zeros, getD-zeros}
+use Rattle.theory.specs.Numbers.Tab.{getD-zeros}
+use Rattle.engines.proofs.Loop.{zeros}
 use Rattle.engines.proofs.Lowest.{over-at, over-sum, over-parts}
 
 topped-total : (n t : ℕ) (r : Row) → length r ≡ width n → sumTo (cell r) (unknownColumn n) ≤ t → total n (topped n t r) ≡ t

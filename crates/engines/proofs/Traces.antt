@@ -1,25 +1,26 @@
 -- From the log of an elimination to the trace that the chance entry's companion answers.
 use Prim.Native.Nat.{ℕ, suc, _+_, _*_, _≤_, _<_}
-use mathlib.Core.Path.{_≡_, refl, sym, ap, _∙_}
+use mathlib.Core.Path.{_≡_, refl, sym, _∙_}
 use mathlib.Core.Logic.{inl, inr, ⊎-elim}
-use mathlib.Core.List.{List, [], _∷_, _++_, append-nil}
+use mathlib.Core.List.{List, [], _∷_}
 use native.Mathlib.Omega.{arith}
 use lib.ListN.{length, getD, List·getD-eq-default}
-use lib.Seq.{drop-nil}
 use borrow.Author.Tests.{lt-ltb, le-ltb}
-use Rattle.meaning.specs.Number.{tabFrom, filled}
+use Rattle.meaning.specs.Number.{tabFrom}
 use Rattle.meaning.specs.Chain.{mostStates}
 use Rattle.meaning.specs.Row.{exact}
 use Rattle.meaning.specs.Step.{Sets, Right, goes}
 use Rattle.meaning.specs.Refusal.{Lent, listing, WellFormed}
 use Rattle.meaning.specs.Stop.{earns, turn, tableAt, Stops, before-steps, in-step}
-use Rattle.meaning.specs.Outcome.{Answer, refusal}
+use Rattle.meaning.specs.Outcome.{refusal}
 use Rattle.meaning.specs.Steps.{StepRecord, recordsTo, FinishedTo, through, before-steps as none-finished, in-step as finished-before, Listed, untouched, listed}
 use Rattle.theory.specs.Outcomes.Formed.{few-states, list-room}
+use Rattle.theory.specs.Numbers.Tab.{filled-nothing}
+use Rattle.theory.specs.Outcomes.Steps.{finished-inside}
 use Rattle.theory.specs.Stages.Records.{records-few}
 use Rattle.theory.specs.Chains.Sets.{right-one}
 use Rattle.engines.specs.Answer.{toldChance}
-use Rattle.engines.specs.Log.{recordSize, logSize, numbersOf, Holds, Logged}
+use Rattle.engines.specs.Log.{recordNumbers, logSize, numbersOf, HoldsRecords, Logged}
 use Rattle.engines.specs.Run.{chanceOf, entered, finishedIn}
 use Rattle.engines.specs.Trace.{countIn, recordIn, recordsIn, Traced}
 use Rattle.engines.specs.declared.answer.Trace.{Trace}
@@ -30,34 +31,30 @@ use Rattle.engines.proofs.Outcomes.{outcome-chance}
 
 -- The records that are read from their numbers, from the i-th on.
 records-from : (numbers : List ℕ) (rs : List StepRecord) (i : ℕ)
-    → ((j k : ℕ) → k ≡ 1 + recordSize * i + j → getD numbers k 0 ≡ getD (numbersOf rs) j 0) → tabFrom i (length rs) (recordIn numbers) ≡ rs
+    → ((j k : ℕ) → k ≡ 1 + recordNumbers * i + j → getD numbers k 0 ≡ getD (numbersOf rs) j 0) → tabFrom i (length rs) (recordIn numbers) ≡ rs
 unfolding numbersOf tabFrom
 records-from numbers [] i h = refl
 records-from numbers (r ∷ rs) i h =
     rw (
-      h 0 (recordSize * i + 1) (omega arith),
-      h 1 (recordSize * i + 2) (omega arith),
-      h 2 (recordSize * i + 3) (omega arith),
-      h 3 (recordSize * i + 4) (omega arith),
+      h 0 (recordNumbers * i + 1) (omega arith),
+      h 1 (recordNumbers * i + 2) (omega arith),
+      h 2 (recordNumbers * i + 3) (omega arith),
+      h 3 (recordNumbers * i + 4) (omega arith),
       records-from numbers rs (suc i) (λ j k e. h (suc (suc (suc (suc j)))) k (omega arith)),
     )
 
--- Records that are put into no list are all of it.
-pub filled-none : (rs : List StepRecord) → filled rs [] ≡ rs
-filled-none rs = ap (λ (z : List StepRecord). rs ++ z) (drop-nil (length rs)) ∙ append-nil rs
-
 -- A log that is asked for.
-holds : {log : List ℕ} {rs : List StepRecord} → length log ≡ logSize → Logged log rs → Holds log rs
+holds : {log : List ℕ} {rs : List StepRecord} → length log ≡ logSize → Logged log rs → HoldsRecords log rs
 holds e h = ⊎-elim (λ z. absurd (omega arith)) (λ z. z) h
 
-module _ {log : List ℕ} {rs : List StepRecord} (h : Holds log rs) where
+module _ {log : List ℕ} {rs : List StepRecord} (h : HoldsRecords log rs) where
   count-held : countIn log ≡ length rs
   count-held = h .cells 0
 
   records-held : recordsIn log ≡ rs
   records-held = rw count-held (records-from log rs 0 (λ j k e. let s : k ≡ suc j = omega arith in rw s (h .cells (suc j))))
 
-  past-held : (j : ℕ) → recordSize * countIn log < j → getD log j 0 ≡ 0
+  past-held : (j : ℕ) → recordNumbers * countIn log < j → getD log j 0 ≡ 0
   past-held j l = h .cells j ∙ List·getD-eq-default (length rs ∷ numbersOf rs) 0 {n = j} (omega (arith, count-held, numbers-length rs))
 
 -- The steps that are finished where 12 stops the elimination.
@@ -66,18 +63,13 @@ finished-to : {pay : ℕ → ℕ} {l : Lent} {k : Sets} {number place : ℕ} →
 finished-to {l} few (before-steps u) = rw (le-ltb mostStates (l .chain .states) few) (none-finished refl refl)
 finished-to {l} few (in-step p h c u) = rw (lt-ltb p (l .chain .states) h) (finished-before refl h)
 
-finished-in : {l : Lent} {a : Answer} {p : ℕ} → FinishedTo l a p → p ≤ l .chain .states
-finished-in (through e) = omega arith
-finished-in (none-finished e f) = omega arith
-finished-in (finished-before e h) = omega (arith, h)
-
 -- What the trace says, by its answer and the records that the log holds.
 module _ (l : Lent) (w log : List ℕ) (size : length log ≡ logSize) where
   abbrev traceOf : Course → Trace
   traceOf r = record { chance = chanceOf r; numbers = log }
 
   module _ (r : Course) (z : entered listing exact l w log r) where
-    told : (rs : List StepRecord) → Holds log rs → length rs ≤ mostStates → length rs ≤ l .list
+    told : (rs : List StepRecord) → HoldsRecords log rs → length rs ≤ mostStates → length rs ≤ l .list
         → Listed l (toldChance (chanceOf r)) [] (length rs) rs → Traced l (traceOf r) w
     told rs h few room i =
         record {
@@ -94,9 +86,9 @@ module _ (l : Lent) (w log : List ℕ) (size : length log ≡ logSize) where
         let p = finishedIn (l .chain .states) r in
         let rs = recordsTo l k p in
         let few = records-few (l .chain .states) (goes (l .chain .start) (k .live)) (turn l) (tableAt (earns listing l) exact l k) p in
-        let inside = finished-in f in
+        let inside = finished-inside l f in
         told rs (holds size h) (omega (arith, few, inside, few-states listing l formed)) (omega (arith, few, inside, list-room listing l formed))
-        (listed formed k right p f refl (sym (filled-none rs)))
+        (listed formed k right p f refl (sym (filled-nothing rs)))
 
   -- The trace of an entry that has looked, and eliminated or not.
   pub traced : (r : Course) → entered listing exact l w log r → Traced l (traceOf r) w

@@ -10,11 +10,11 @@ use Rattle.meaning.specs.Chain.{mostStates}
 use Rattle.meaning.specs.Steps.{StepRecord}
 
 -- How many numbers a record has, and a log.
-abbrev pub recordSize : ℕ
-recordSize = 4
+abbrev pub recordNumbers : ℕ
+recordNumbers = 4
 
 abbrev pub logSize : ℕ
-logSize = 1 + recordSize * mostStates
+logSize = 1 + recordNumbers * mostStates
 
 -- The numbers of the records.
 unfoldable pub numbersOf : List StepRecord → List ℕ
@@ -22,13 +22,13 @@ numbersOf [] = []
 numbersOf (r ∷ rs) = r .state ∷ r .rows ∷ r .columns ∷ r .divisor ∷ numbersOf rs
 
 -- The log holds these records, and zeros past them.
-pub record Holds (log : List ℕ) (rs : List StepRecord) : Type 0 where
+pub record HoldsRecords (log : List ℕ) (rs : List StepRecord) : Type 0 where
   pub size : length log ≡ logSize
   pub cells : (j : ℕ) → getD log j 0 ≡ getD (length rs ∷ numbersOf rs) j 0
 
 -- A log that is asked for holds these records. An empty one is not asked for.
 abbrev pub Logged : List ℕ → List StepRecord → Type 0
-Logged log rs = (length log ≡ 0) ⊎ Holds log rs
+Logged log rs = (length log ≡ 0) ⊎ HoldsRecords log rs
 
 -- A log that is asked for has room for one record more.
 abbrev pub Roomy : List ℕ → Type 0

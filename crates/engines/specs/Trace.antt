@@ -8,19 +8,20 @@ use Rattle.meaning.specs.Chain.{mostStates}
 use Rattle.meaning.specs.Refusal.{Lent}
 use Rattle.meaning.specs.Steps.{StepRecord, StepsOutcome}
 use Rattle.engines.specs.Answer.{toldChance}
-use Rattle.engines.specs.Log.{recordSize}
+use Rattle.engines.specs.Log.{recordNumbers}
 use Rattle.engines.specs.declared.answer.Trace.{Trace}
 
+-- How many records the numbers hold; record i, counted from 0; and all of them.
 abbrev pub countIn : List ℕ → ℕ
 countIn numbers = getD numbers 0 0
 
 abbrev pub recordIn : List ℕ → ℕ → StepRecord
 recordIn numbers i =
     record {
-      state = getD numbers (recordSize * i + 1) 0;
-      rows = getD numbers (recordSize * i + 2) 0;
-      columns = getD numbers (recordSize * i + 3) 0;
-      divisor = getD numbers (recordSize * i + 4) 0;
+      state = getD numbers (recordNumbers * i + 1) 0;
+      rows = getD numbers (recordNumbers * i + 2) 0;
+      columns = getD numbers (recordNumbers * i + 3) 0;
+      divisor = getD numbers (recordNumbers * i + 4) 0;
     }
 
 abbrev pub recordsIn : List ℕ → List StepRecord
@@ -31,4 +32,4 @@ pub record Traced (l : Lent) (t : Trace) (work : List ℕ) : Type 0 where
   pub outcome : StepsOutcome l [] (toldChance (t .chance)) (countIn (t .numbers)) work (recordsIn (t .numbers))
   pub few : countIn (t .numbers) ≤ mostStates
   pub inside : countIn (t .numbers) ≤ l .list
-  pub past : (j : ℕ) → recordSize * countIn (t .numbers) < j → getD (t .numbers) j 0 ≡ 0
+  pub past : (j : ℕ) → recordNumbers * countIn (t .numbers) < j → getD (t .numbers) j 0 ≡ 0

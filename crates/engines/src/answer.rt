@@ -1,4 +1,4 @@
-// What the entries answer; toldChance, toldReward and toldBounds give document 01's numbers for each case.
+// What the entries answer; toldChance, toldReward and toldBounds give document 01's numbers for each case of an enum.
 use chain::Chain;
 use chain::fraction::Fraction;
 
@@ -26,6 +26,7 @@ pub struct Trace {
 }
 
 impl Trace {
+    // How many numbers a record has, and a trace.
     pub const RECORD: usize = 4;
 
     pub const NUMBERS: usize = 1 + Trace::RECORD * Chain::STATES;

@@ -12,7 +12,7 @@ ghost use Rattle.meaning.specs.Step.{removed};
 ghost use Rattle.meaning.specs.Steps.{StepRecord, rowsTo, columnsOf, recordOf};
 ghost use Rattle.engines.specs.Table.{tableOf, rowAt, Fitting};
 ghost use Rattle.engines.specs.Turn.{Made};
-ghost use Rattle.engines.specs.Log.{logSize, Holds, Roomy, LoggedMore};
+ghost use Rattle.engines.specs.Log.{logSize, HoldsRecords, Roomy, LoggedMore};
 use crate::answer::Trace;
 use crate::row::UNKNOWN;
 use crate::step::remove;
@@ -20,7 +20,7 @@ use crate::work::row_start;
 use chain::Chain;
 
 // 1 for a weight, and 0 for none or for the state's own.
-fn counted(x: u64, own: bool) -> u64
+fn weighed(x: u64, own: bool) -> u64
     ensures { λ r. ⌜ (r ≡ choose own 0 (present x)) × (r ≤ 1) ⌝ }
 {
     if own {
@@ -41,7 +41,7 @@ fn rows_to(work: &[u64], n: usize, s: usize) -> u64
     let mut i = 0;
     while i < n {
         let a = row_start(n, i) + s;
-        rows += counted(work[a], i == s);
+        rows += weighed(work[a], i == s);
         i += 1;
     }
     rows
@@ -56,7 +56,7 @@ fn columns_in(row: &[u64], n: usize, s: usize) -> u64
     let mut columns = 0;
     let mut j = 0;
     while j < m {
-        columns += counted(row[j], j == s);
+        columns += weighed(row[j], j == s);
         j += 1;
     }
     columns
@@ -77,7 +77,7 @@ fn note(log: &mut [u64], state: u64, rows: u64, columns: u64, divisor: u64)
     requires { ⌜ (length (now log) ≡ logSize) × (getD (now log) 0 0 < mostStates) ⌝ }
     ensures { λ _.
         let r : StepRecord = record { state = state; rows = rows; columns = columns; divisor = divisor } in
-        ⌜ ((rs : List StepRecord) → Holds (now (log .entry)) rs → Holds (now (log .exit)) (rs ++ (r ∷ []))) ⌝ }
+        ⌜ ((rs : List StepRecord) → HoldsRecords (now (log .entry)) rs → HoldsRecords (now (log .exit)) (rs ++ (r ∷ []))) ⌝ }
 {
     let count = log[0];
     let k = 1 + Trace::RECORD * count as usize;

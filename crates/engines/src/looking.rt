@@ -6,7 +6,7 @@ ghost use Prim.Native.Nat.{ℕ, _≤_, _<_};
 ghost use lib.ListN.{length};
 ghost use Rattle.meaning.specs.Chain.{mostStates};
 ghost use Rattle.meaning.specs.Refusal.{paid, workSize, withList};
-ghost use Rattle.chain.specs.Decide.{decides};
+ghost use Rattle.meaning.specs.Number.{decides};
 ghost use Rattle.chain.specs.Lent.{lent};
 ghost use Rattle.look.specs.Says.{counted};
 ghost use Rattle.engines.specs.Looking.{ordered, soFar, looked};

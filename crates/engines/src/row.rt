@@ -17,7 +17,7 @@ pub(crate) const UNKNOWN: usize = 2;
 
 pub(crate) const REWARD: usize = 3;
 
-// What became of a new row: whether it fits, and the divisor that was taken out of it. Of a table of rows it is the largest of these.
+// What became of a new row: whether it fits, and the divisor that was taken out of it. Of a table of rows that all fit it is the largest of these.
 pub(crate) struct Settled {
     pub fits: bool,
     pub divisor: u64,

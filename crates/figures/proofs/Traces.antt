@@ -15,7 +15,7 @@ use Rattle.engines.specs.Answer.{toldChance}
 use Rattle.engines.specs.Log.{logSize}
 use Rattle.engines.specs.Trace.{recordIn, recordsIn, Traced}
 use Rattle.engines.specs.declared.answer.Trace.{Trace}
-use Rattle.engines.proofs.Loop.{getD-zeros}
+use Rattle.theory.specs.Numbers.Tab.{getD-zeros}
 use Rattle.figures.specs.Found.{ours, Found, Holds}
 use Rattle.figures.specs.Traced.{FileTraced}
 use Rattle.figures.proofs.Outcomes.{unpaid}

@@ -7,7 +7,7 @@ use Rattle.meaning.specs.Chain.{mostStates}
 use Rattle.meaning.specs.Block.{Input}
 use Rattle.meaning.specs.FileSteps.{FileSteps}
 use Rattle.engines.specs.Answer.{toldChance}
-use Rattle.engines.specs.Log.{recordSize}
+use Rattle.engines.specs.Log.{recordNumbers}
 use Rattle.engines.specs.Trace.{countIn, recordsIn}
 use Rattle.engines.specs.declared.answer.Trace.{Trace}
 
@@ -16,4 +16,4 @@ pub record FileTraced (f : Input) (list : ℕ) (t : Trace) : Type 0 where
   pub outcome : FileSteps f list [] (toldChance (t .chance)) (countIn (t .numbers)) (recordsIn (t .numbers))
   pub few : countIn (t .numbers) ≤ mostStates
   pub inside : countIn (t .numbers) ≤ list
-  pub past : (j : ℕ) → recordSize * countIn (t .numbers) < j → getD (t .numbers) j 0 ≡ 0
+  pub past : (j : ℕ) → recordNumbers * countIn (t .numbers) < j → getD (t .numbers) j 0 ≡ 0

@@ -8,7 +8,8 @@ use native.Mathlib.Nat.{eq-or-lt-of-le}
 use native.Mathlib.Numerals.{add-one}
 use lib.ListN.{length, getD}
 use Rattle.meaning.specs.Text.{valueTo, mostDigits, pastNumbers, Decimal, WordOutcome, number, nothing}
-use Rattle.input.specs.Digit.{IsDigit, Digit, stands, none}
+use Rattle.input.specs.Digit.{Digit, stands, none}
+use Rattle.meaning.specs.Text.{IsDigit}
 
 -- The first i bytes are digits, and x is what they say, a number of 64 bits.
 pub record ReadTo (word : List ℕ) (i x : ℕ) : Type 0 where

@@ -1,9 +1,7 @@
 -- Decimal digits as bytes.
-use Prim.Native.Nat.{ℕ, _-_, _≤_}
+use Prim.Native.Nat.{ℕ, _-_}
 use mathlib.Core.Path.{_≡_}
-
-abbrev pub IsDigit : ℕ → Type 0
-IsDigit byte = (48 ≤ byte) × (byte ≤ 57)
+use Rattle.meaning.specs.Text.{IsDigit}
 
 -- The digit that a byte stands for, 10 where it stands for none.
 pub data Digit (byte digit : ℕ) : Type 0 where

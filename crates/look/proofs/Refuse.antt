@@ -15,8 +15,8 @@ use Rattle.theory.specs.Numbers.Sum.{same}
 use Rattle.look.specs.declared.Finding.{Finding}
 use Rattle.look.specs.declared.Finding.the-variants.{Clear, Refused as Refusing}
 use Rattle.look.specs.Least.{Least}
-use Rattle.chain.specs.Decide.{decides}
-use Rattle.chain.proofs.Law.{holds, fails}
+use Rattle.meaning.specs.Number.{decides}
+use Rattle.theory.specs.Numbers.Decide.{holds, fails}
 use Rattle.look.specs.Says.{Looks, Upto, upto, counted, Shaped}
 
 pub refuse : {x : Entry} {l : Lent} {k p : ℕ} → Upto x l k → Least (Applies x l k) p → Refused x l k p

@@ -1,6 +1,6 @@
 ghost use Prim.Native.Nat.{ℕ};
 ghost use Rattle.look.specs.Least.{least};
-ghost use Rattle.chain.specs.Decide.{decides};
+ghost use Rattle.meaning.specs.Number.{decides};
 ghost use Rattle.meaning.specs.Chain.{mostStates};
 ghost use Rattle.meaning.specs.Refusal.{Same, EndFault, PairFault};
 use crate::scan::Place;

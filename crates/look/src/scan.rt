@@ -2,7 +2,7 @@
 ghost use mathlib.Core.Path.{_≡_};
 ghost use lib.ListN.{length};
 ghost use Rattle.look.specs.Least.{least};
-ghost use Rattle.chain.specs.Decide.{decides};
+ghost use Rattle.meaning.specs.Number.{decides};
 ghost use Rattle.meaning.specs.Refusal.{OutOfRange, DenominatorFault, EndFault, WeightFault, Earlier, OrderFault};
 use chain::Chain;
 use chain::edge;

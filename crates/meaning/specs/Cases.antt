@@ -5,7 +5,7 @@ use lib.ListN.{length, replicate}
 use Rattle.meaning.specs.Number.{tabFrom, filled}
 use Rattle.meaning.specs.Chain.{M, mostReward, edge, plainEdge}
 use Rattle.meaning.specs.Figure.{Chance}
-use Rattle.meaning.specs.Refusal.{Lent, workSize}
+use Rattle.meaning.specs.Refusal.{Lent, withList, workSize}
 use Rattle.meaning.specs.Block.{Input, blockSize}
 use Rattle.meaning.specs.File.{FileRefused}
 use Rattle.meaning.specs.Outcome.{
@@ -54,8 +54,7 @@ lend states goals denominators edges rewards =
 
 -- The same with a step list that has two records more than it need have.
 abbrev pub lendList : Lent → Lent
-lendList l =
-    record { chain = l .chain; order = l .order; rewards = l .rewards; work = l .work; list = l .chain .states + 2 }
+lendList l = withList (l .chain .states + 2) l
 
 -- A record of the step list: its state, rows, columns and divisor.
 abbrev pub step : ℕ → ℕ → ℕ → ℕ → StepRecord

@@ -2,11 +2,11 @@
 use Prim.Native.Nat.{ℕ, zero, suc, _+_, _*_, _-_, _<_}
 use mathlib.Core.Path.{_≡_}
 use mathlib.Core.List.{List, [], _∷_, _++_}
-use lib.ListN.{getD}
+use lib.ListN.{length, getD}
 use Rattle.meaning.specs.Number.{tabFrom}
 use Rattle.meaning.specs.Chain.{Chain, plainEdge, rowSum}
 use Rattle.meaning.specs.Figure.{Chance}
-use Rattle.meaning.specs.Refusal.{Lent, plain, ownWork, Beyond}
+use Rattle.meaning.specs.Refusal.{Lent, ownWork, plain, Beyond}
 use Rattle.meaning.specs.Stop.{earns}
 use Rattle.meaning.specs.Outcome.{Answer, refusal, fraction}
 use Rattle.meaning.specs.Demand.{NoFitAnywhere}
@@ -38,7 +38,7 @@ CopiesFault j = Beyond mostCopies (j .copies)
 
 -- 31: the weight at place p is not 1 to 1,000,000.
 abbrev pub PlaceFault : Plan → ℕ → Type 0
-PlaceFault j p = (p < 3) × Beyond mostWeight (getD (weights j) p 0)
+PlaceFault j p = (p < length (weights j)) × Beyond mostWeight (getD (weights j) p 0)
 
 -- Neither is given.
 pub record Sensible (j : Plan) : Type 0 where
@@ -91,12 +91,16 @@ copiesOrder j = tabFrom 0 (copiesStates j) (λ i. i)
 abbrev pub copiesLent : Plan → Lent
 copiesLent j = ownWork (copiesChain j) (copiesOrder j) []
 
+-- Some kept row of the exact chance of it does not fit.
+abbrev pub CopiesLarge : Plan → Type 0
+CopiesLarge j = NoFitAnywhere (earns plain (copiesLent j)) (copiesLent j)
+
 -- The planner refuses by 30 for the copies, then by 31 at the least place of a wrong weight. Else it answers the chance that no copy is left
 -- before the finish, or refuses by 12 at 0 where a row does not fit.
 pub data CopiesOutcome (j : Plan) (a : Answer) : Type 0 where
   copies-wrong : CopiesFault j → a ≡ refusal 30 0 → CopiesOutcome j a
   weight-wrong : (CopiesFault j → ⊥) → (p : ℕ) → PlaceFault j p → ((q : ℕ) → q < p → PlaceFault j q → ⊥) → a ≡ refusal 31 p
       → CopiesOutcome j a
-  large : Sensible j → NoFitAnywhere (earns plain (copiesLent j)) (copiesLent j) → a ≡ refusal 12 0 → CopiesOutcome j a
-  planned : Sensible j → (NoFitAnywhere (earns plain (copiesLent j)) (copiesLent j) → ⊥) → (p q : ℕ) → Chance (copiesChain j) p q → a ≡ fraction p q
+  large : Sensible j → CopiesLarge j → a ≡ refusal 12 0 → CopiesOutcome j a
+  planned : Sensible j → (CopiesLarge j → ⊥) → (p q : ℕ) → Chance (copiesChain j) p q → a ≡ fraction p q
       → CopiesOutcome j a

@@ -21,6 +21,11 @@ abbrev pub choose {ℓ} : {A : Type ℓ} → Bool → A → A → A
 choose true x y = x
 choose false x y = y
 
+-- What a test answers: that something holds, or that it does not.
+abbrev pub decides : Type 0 → Bool → Type 0
+decides P true = P
+decides P false = P → ⊥
+
 -- 1 for a number above 0, and 0 for 0.
 abbrev pub present : ℕ → ℕ
 present x = choose (eqb x 0) 0 1

@@ -1,5 +1,5 @@
 -- The step list (request 2): one record for each state that the exact engine removes, in the order of removal.
-use Prim.Native.Nat.{ℕ, zero, suc, _+_, _<_}
+use Prim.Native.Nat.{ℕ, zero, suc, _<_}
 use mathlib.Core.Path.{_≡_}
 use mathlib.Core.Bool.{Bool}
 use mathlib.Core.List.{List, [], _∷_, _++_}
@@ -7,7 +7,7 @@ use lib.ListN.{length}
 use lib.Dec.{eqb}
 use Rattle.meaning.specs.Number.{sumTo, choose, present, largest, filled}
 use Rattle.meaning.specs.Chain.{mostStates}
-use Rattle.meaning.specs.Row.{Row, cell, divisor, exact}
+use Rattle.meaning.specs.Row.{Row, cell, unknownColumn, divisor, exact}
 use Rattle.meaning.specs.Step.{Table, row, Sets, Right, outside, combined, goes}
 use Rattle.meaning.specs.Refusal.{Lent, listing, Refused, WellFormed}
 use Rattle.meaning.specs.Stop.{earns, turn, tableAt, Stopped}
@@ -25,9 +25,9 @@ pub record StepRecord : Type 0 where
 abbrev pub rowsTo : ℕ → ℕ → Table → ℕ
 rowsTo n s t = sumTo (λ i. choose (eqb i s) 0 (present (cell (row t i) s))) n
 
--- In how many columns but its own the row p of s has a weight: the states, Goal and Trap.
+-- In how many columns but its own the row p of s has a weight, of those before Unknown: the states, Goal and Trap.
 abbrev pub columnsOf : ℕ → ℕ → Row → ℕ
-columnsOf n s p = sumTo (λ j. choose (eqb j s) 0 (present (cell p j))) (n + 2)
+columnsOf n s p = sumTo (λ j. choose (eqb j s) 0 (present (cell p j))) (unknownColumn n)
 
 -- The divisor that is taken out of the row r where s is removed, p being the row of s and d its D. Of the row of s itself, where `own` holds,
 -- and of a row with no weight to s none is: that is 1.
@@ -60,7 +60,7 @@ pub data FinishedTo (l : Lent) (a : Answer) : ℕ → Type 0 where
   before-steps : a .number ≡ 12 → a .place ≡ mostStates → FinishedTo l a 0
   in-step : a .number ≡ 12 → a .place < l .chain .states → FinishedTo l a (a .place)
 
--- The list afterwards, and how many records were written: a refusal by 1 to 10 leaves it; else the records of the finished steps stand at its
+-- The list afterwards, and how many records were written; before, it has as many records as is said in what is lent. A refusal by 1 to 10 leaves it; else the records of the finished steps stand at its
 -- front, and all others stay.
 pub data Listed (l : Lent) (a : Answer) (before : List StepRecord) (count : ℕ) (after : List StepRecord) : Type 0 where
   untouched : (number place : ℕ) → Refused listing l number place → count ≡ 0 → after ≡ before → Listed l a before count after

@@ -35,11 +35,15 @@ mostDigits = 20
 abbrev pub pastNumbers : ℕ
 pastNumbers = 2 ^ 64
 
+-- A byte that is a decimal digit.
+abbrev pub IsDigit : ℕ → Type 0
+IsDigit byte = (48 ≤ byte) × (byte ≤ 57)
+
 -- A word is a decimal number of 64 bits.
 pub record Decimal (word : List ℕ) : Type 0 where
   pub some : 0 < length word
   pub few : length word ≤ mostDigits
-  pub digits : (i : ℕ) → i < length word → (48 ≤ getD word i 0) × (getD word i 0 ≤ 57)
+  pub digits : (i : ℕ) → i < length word → IsDigit (getD word i 0)
   pub fits : valueTo word (length word) < pastNumbers
 
 -- What a word is read as: its number, or 0 where it has none.

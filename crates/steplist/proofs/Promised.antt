@@ -3,7 +3,7 @@ use mathlib.Core.Path.{_≡_, refl, ap, _∙_}
 use Prim.Native.Nat.{ℕ, _≤_}
 use native.Mathlib.Omega.{arith}
 use mathlib.Core.List.{List, []}
-use Rattle.engines.proofs.Traces.{filled-none}
+use Rattle.theory.specs.Numbers.Tab.{filled-nothing}
 use Rattle.meaning.specs.Number.{tabFrom, filled}
 use Rattle.meaning.specs.Chain.{mostStates}
 use Rattle.meaning.specs.Refusal.{Lent}
@@ -20,7 +20,7 @@ moved : {l : Lent} {a : Answer} {count : ℕ} {rs : List Numbers} (before : List
     → Listed l a before count (filled rs before)
 moved before (untouched number place r z e) = untouched number place r z (rw e refl)
 moved {l} before (listed w k r p f c e) =
-    listed w k r p f c (ap (λ (z : List Numbers). filled z before) (e ∙ filled-none (recordsTo l k p)))
+    listed w k r p f c (ap (λ (z : List Numbers). filled z before) (e ∙ filled-nothing (recordsTo l k p)))
 
 pub put-in : {l : Lent} {a : Answer} {count : ℕ} {work : List ℕ} {rs : List Numbers} (before : List Numbers) → StepsOutcome l [] a count work rs
     → StepsOutcome l before a count work (filled rs before)

@@ -26,7 +26,7 @@ fn answer(t: Trace) -> Steps
     }
 }
 
-// The chance, and a record for each state that is removed, from the front of the list. Walked.
+// The chance, and a record for each state that is removed, from the front of the list. Proved by hand.
 pub fn steps(
     c: Chain,
     denominators: &[u64],

@@ -1,5 +1,5 @@
-// The step list for the desk: records that the caller lends. The functions that have the lent list are proved by walks of their own,
-// and are thin for that reason; what they call is covered.
+// The step list for the desk: records that the caller lends. The functions that have the lent list are proved by hand, and are
+// thin for that reason.
 use engines::answer::Chance;
 
 pub mod entry;

@@ -45,7 +45,7 @@ fn shown(t: Trace, room: usize) -> usize
     least(few, room)
 }
 
-// Writes the records of a trace to the front of a list, as many as it has room for. Walked.
+// Writes the records of a trace to the front of a list, as many as it has room for. Proved by hand.
 pub fn fill(list: &mut [StepRecord], t: Trace)
     ensures { λ _.
         let before = now (list .entry) in

@@ -7,7 +7,7 @@ use mathlib.Core.List.{List}
 use native.Mathlib.Omega.{arith}
 use lib.Bits.{bitOr, or-add-and, and-le-r}
 use borrow.Author.Count.{below-more}
-use Rattle.chain.specs.Decide.{decides}
+use Rattle.meaning.specs.Number.{decides}
 use Rattle.look.proofs.Ends.{from-below, to-below}
 use Rattle.meaning.specs.Number.{bit}
 use Rattle.meaning.specs.Chain.{mostStates, edgeCount}

@@ -14,7 +14,7 @@ use Rattle.meaning.specs.Figure.{Missed}
 use Rattle.meaning.specs.Step.{Right}
 use Rattle.theory.specs.Numbers.Bits.{in-both, in-first, in-one, set-apart}
 use Rattle.theory.specs.Numbers.Sum.{same}
-use Rattle.chain.specs.Decide.{decides}
+use Rattle.meaning.specs.Number.{decides}
 use Rattle.survey.specs.Grow.{Open, way, Grown, sown, joined}
 use Rattle.survey.specs.Sets.{Exactly, Alive, Astray}
 use Rattle.survey.proofs.Growth.{alike}

@@ -13,7 +13,7 @@ use Rattle.theory.specs.Outcomes.Formed.{few-states, goals-in, start-in, from-i
 use Rattle.theory.specs.Chains.Sets.{goal-state}
 use Rattle.theory.specs.Numbers.Bits.{set-below}
 use Rattle.theory.specs.Chains.Counted.{count-ones, goals-some, survey-one}
-use Rattle.chain.specs.Decide.{decides}
+use Rattle.meaning.specs.Number.{decides}
 use Rattle.survey.specs.Sets.{setsOf, Known}
 use Rattle.survey.specs.Told.{told}
 use Rattle.survey.specs.declared.Sets.{Sets as Found}

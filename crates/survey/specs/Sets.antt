@@ -8,7 +8,7 @@ use Rattle.meaning.specs.Chain.{Chain}
 use Rattle.meaning.specs.Figure.{Missed}
 use Rattle.meaning.specs.Step.{Sets, Right}
 use Rattle.chain.specs.declared.Chain.{Chain as Given}
-use Rattle.chain.specs.Decide.{decides}
+use Rattle.meaning.specs.Number.{decides}
 use Rattle.chain.specs.Lent.{lent}
 use Rattle.survey.specs.declared.Sets.{Sets as Found}
 

@@ -4,7 +4,7 @@ ghost use mathlib.Core.List.{List};
 ghost use Prim.Native.Nat.{ℕ, _^_, _<_};
 ghost use Rattle.meaning.specs.Chain.{mostStates, edgeCount, ToGoal, FromStart};
 ghost use Rattle.meaning.specs.Refusal.{EndFault};
-ghost use Rattle.chain.specs.Decide.{decides};
+ghost use Rattle.meaning.specs.Number.{decides};
 ghost use Rattle.survey.specs.Grow.{tail, Open, way, Grown, Joined, AfterPass, inTurn};
 ghost use Rattle.survey.specs.Sets.{chainOf, Exactly, Alive, Astray, Known};
 use crate::Sets;

@@ -1,4 +1,5 @@
 -- Sums, lists, divisors, bits and shifts; searches that end.
+pub mod Decide
 pub mod Sum
 pub mod Tab
 pub mod Filter

@@ -2,7 +2,7 @@ use mathlib.Core.Path.{refl}
 use borrow.Author.Needs.{needs}
 use Rattle.meaning.specs.Block.{Input}
 use Rattle.meaning.specs.File.{Tables, Short, Accepted, ReadOutcome}
-use Rattle.chain.proofs.Law.{holds, fails}
+use Rattle.theory.specs.Numbers.Decide.{holds, fails}
 use Rattle.chainfile.specs.Input.{input}
 use Rattle.chainfile.specs.Tells.{tables}
 use Rattle.chainfile.proofs.Tested.{within, found-refused, found-accepted}

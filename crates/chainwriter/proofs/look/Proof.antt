@@ -10,9 +10,9 @@ use Rattle.meaning.specs.Chain.{edgeCount}
 use Rattle.meaning.specs.Refusal.{Lent, formed}
 use Rattle.meaning.specs.Write.{fileSize, filing}
 use Rattle.theory.specs.Outcomes.Bare.{bare-refuses, bare-clears}
-use Rattle.theory.specs.Outcomes.Formed.{roomy}
+use Rattle.theory.specs.Outcomes.Formed.{room-enough}
 use Rattle.chain.specs.Lent.{lent}
-use Rattle.chain.proofs.Law.{holds, fails}
+use Rattle.theory.specs.Numbers.Decide.{holds, fails}
 use Rattle.look.specs.Says.{Upto}
 use Rattle.look.proofs.Found.{found, none}
 use Rattle.look.proofs.Refuse.{refuse, next, begin, at-0, off, sized, say, well, refusing, clear}
@@ -47,7 +47,7 @@ returns-2 c w e =
     let at = c .before in say refl (refuse (up-2 (at .before .before) w) (at-0 (inl (omega (arith, size at, e, c .if2 .taken)))))
 
 up-3 : (c : tie.Else2) (w : List ℕ) → Room (c .before .before .before .before) w → Upto filing (l (c .before .before .before .before) w) 3
-up-3 c w e = next (up-2 (c .before .before .before) w) (off (roomy (omega (arith, size (c .before), e, c .if2 .left)) (omega arith)))
+up-3 c w e = next (up-2 (c .before .before .before) w) (off (room-enough (omega (arith, size (c .before), e, c .if2 .left)) (omega arith)))
 
 returns-3 : tie.Need-returns-3
 returns-3 c w e =

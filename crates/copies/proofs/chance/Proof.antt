@@ -1,20 +1,20 @@
 use native.Mathlib.Omega.{arith}
 use borrow.Author.Needs.{needs}
 use Rattle.meaning.specs.Copies.{CopiesOutcome}
-use Rattle.copies.proofs.Deciding.{holds, fails}
+use Rattle.theory.specs.Numbers.Decide.{holds, fails}
 use Rattle.copies.proofs.chance.Statement.{statement}
 use Rattle.copies.proofs.chance.Tie as tie
 
 returns : tie.Need-returns
 returns c =
     let beyond = c .before .before .before .beyond in
-    CopiesOutcome.copies-wrong (holds (beyond .result) (beyond .ensures) (search needs)) (c .refused .ensures)
+    CopiesOutcome.copies-wrong (holds _ {b = beyond .result} (beyond .ensures) (search needs)) (c .refused .ensures)
 
 returns-2 : tie.Need-returns-2
 returns-2 c =
     let beyond = c .before .before .before .before .beyond in
     let wrong = c .before .before .before .wrong in
-    CopiesOutcome.weight-wrong (fails (beyond .result) (beyond .ensures) (search needs)) (wrong .result)
+    CopiesOutcome.weight-wrong (fails _ {b = beyond .result} (beyond .ensures) (search needs)) (wrong .result)
     (wrong .ensures .here (search needs)) (wrong .ensures .before) (c .refused2 .ensures)
 
 ask-requires : tie.Need-ask-requires
@@ -22,7 +22,7 @@ ask-requires c κs =
     let beyond = c .before .before .before .beyond in
     let wrong = c .before .before .wrong in
     record {
-      copies = fails (beyond .result) (beyond .ensures) (search needs);
+      copies = fails _ {b = beyond .result} (beyond .ensures) (search needs);
       weights = λ p f. wrong .ensures .before p (omega (arith, f .0)) f;
     }
 

@@ -1,5 +1,3 @@
-use lib.Seq.{length-take-le}
-use native.Mathlib.Omega.{arith}
 use borrow.Author.Needs.{needs}
 use Rattle.input.proofs.Keeping.{counted}
 use Rattle.input.proofs.read_part.Statement.{statement}

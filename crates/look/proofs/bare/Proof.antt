@@ -6,7 +6,7 @@ use Rattle.look.proofs.bare.Statement.{statement}
 use Rattle.look.proofs.bare.Tie as tie
 use lib.Dec.{lit<}
 use Rattle.meaning.specs.Refusal.{bare}
-use Rattle.theory.specs.Outcomes.Formed.{roomy}
+use Rattle.theory.specs.Outcomes.Formed.{room-enough}
 use Rattle.chain.specs.Lent.{lent}
 use Rattle.look.specs.Says.{Upto}
 use Rattle.look.proofs.Refuse.{next, misshapen, shaped, sized, settle}
@@ -18,7 +18,7 @@ l c = let a = c .before .before .before .args in lent (a .c) (a .denominators .n
 
 -- Numbers 2, 10 and 11 are passed over: their tables are not lent.
 up-3 : (c : tie.Else1) → Upto bare (l (c .before)) 3
-up-3 c = next (shaped bare refl _ _ _ _ (refl, refl) (refl, refl) (c .before .misshaped .ensures) (c .if1 .left)) (λ p a. roomy (omega arith) (omega arith) (a .1))
+up-3 c = next (shaped bare refl _ _ _ _ (refl, refl) (refl, refl) (c .before .misshaped .ensures) (c .if1 .left)) (λ p a. room-enough (omega arith) (omega arith) (a .1))
 
 returns : tie.Need-returns
 returns c =

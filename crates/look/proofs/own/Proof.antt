@@ -7,7 +7,7 @@ use Rattle.look.proofs.own.Tie as tie
 use Rattle.meaning.specs.Refusal.{Entry}
 use Rattle.chain.specs.Lent.{lent}
 use Rattle.look.specs.Says.{Upto}
-use Rattle.chain.proofs.Law.{holds, fails}
+use Rattle.theory.specs.Numbers.Decide.{holds, fails}
 use Rattle.look.proofs.Found.{found, none}
 use Rattle.look.proofs.Ends.{wide}
 use Rattle.look.proofs.Refuse.{refuse, next, at-0, off, tell}

@@ -1,9 +1,9 @@
 use borrow.Author.Needs.{needs}
 use Rattle.meaning.specs.Refusal.{paid, WellFormed}
-use Rattle.meaning.specs.File.{FileRefused, Accepted, paidIn}
+use Rattle.meaning.specs.File.{Accepted, paidIn}
 use Rattle.meaning.specs.Report.{Report}
 use mathlib.Core.Path.{refl}
-use Rattle.chain.proofs.Law.{holds, fails}
+use Rattle.theory.specs.Numbers.Decide.{holds, fails}
 use Rattle.chainfile.specs.Input.{input}
 use Rattle.figures.specs.Found.{ReportAsked}
 use Rattle.report.proofs.ChainLines.{file-ended, file-lasts, ended, lasts, stands, refusal-room, file-room, lines-room, lines-report}

@@ -6,7 +6,7 @@ use borrow.Author.Needs.{needs}
 use Rattle.meaning.specs.Chain.{mostStates}
 use Rattle.meaning.specs.Outcome.{Answer}
 use Rattle.meaning.specs.FileSteps.{FileSteps}
-use Rattle.chain.proofs.Law.{holds, fails}
+use Rattle.theory.specs.Numbers.Decide.{holds, fails}
 use Rattle.chainfile.specs.Input.{input}
 use Rattle.chainfile.proofs.Steps.{join}
 use Rattle.engines.specs.Trace.{countIn, recordsIn}

@@ -20,10 +20,10 @@ pub record IsEdge (edges : List ℕ) (e source target amount : ℕ) : Type 0 whe
   pub source-is : from edges e ≡ source
   pub target-is : to edges e ≡ target
   pub amount-is : weight edges e ≡ amount
-  pub reward-is : edgeReward edges e ≡ 0
+  pub reward-none : edgeReward edges e ≡ 0
 
 pub is-alone : (source target amount : ℕ) → IsEdge (plainEdge source target amount) 0 source target amount
-is-alone source target amount = record { source-is = refl; target-is = refl; amount-is = refl; reward-is = refl }
+is-alone source target amount = record { source-is = refl; target-is = refl; amount-is = refl; reward-none = refl }
 
 pub flow-alone : (source target amount i : ℕ) (f : ℕ → ℕ) → flow (plainEdge source target amount) i f ≡ only (eqb source i) (amount * f target)
 unfolding flow carried sumTo
@@ -50,7 +50,7 @@ module _ (a b : List ℕ) (m : ℕ) (whole : Edges a m) where
         source-is = first-at (edgeSize * e) (omega arith) ∙ x .source-is;
         target-is = first-at (edgeSize * e + 1) (omega arith) ∙ x .target-is;
         amount-is = first-at (edgeSize * e + 2) (omega arith) ∙ x .amount-is;
-        reward-is = first-at (edgeSize * e + 3) (omega arith) ∙ x .reward-is;
+        reward-none = first-at (edgeSize * e + 3) (omega arith) ∙ x .reward-none;
       }
 
   pub is-second : {e source target amount : ℕ} → IsEdge b e source target amount → IsEdge (a ++ b) (m + e) source target amount
@@ -59,7 +59,7 @@ module _ (a b : List ℕ) (m : ℕ) (whole : Edges a m) where
         source-is = second-at (edgeSize * e) (edgeSize * (m + e)) (omega arith) ∙ x .source-is;
         target-is = second-at (edgeSize * e + 1) (edgeSize * (m + e) + 1) (omega arith) ∙ x .target-is;
         amount-is = second-at (edgeSize * e + 2) (edgeSize * (m + e) + 2) (omega arith) ∙ x .amount-is;
-        reward-is = second-at (edgeSize * e + 3) (edgeSize * (m + e) + 3) (omega arith) ∙ x .reward-is;
+        reward-none = second-at (edgeSize * e + 3) (edgeSize * (m + e) + 3) (omega arith) ∙ x .reward-none;
       }
 
   -- What flows along both is the sum.

@@ -12,7 +12,7 @@ use Rattle.meaning.specs.Block.{Input, wholeFile, headStates, orderIn}
 use Rattle.meaning.specs.File.{Accepted, plainIn}
 use Rattle.meaning.specs.Call.{defaultMode, boundsMode, AsksBounds, answerLength, Said, CallOutcome, mode-wrong, answer-short, file-refused, chain-refused, answered}
 use Rattle.theory.specs.Numbers.Tab.{tab-length}
-use Rattle.theory.specs.Outcomes.Formed.{roomy}
+use Rattle.theory.specs.Outcomes.Formed.{room-enough}
 use Rattle.theory.specs.Outcomes.DemandThree.{bounds-answer}
 use Rattle.theory.specs.Files.Right.{Bounded, bounded}
 use Rattle.theory.specs.Files.FileOne.{accepted-unrefused}
@@ -56,7 +56,7 @@ module _ {file : List ℕ} (taken : Accepted (wholeFile file)) (clear : (k p : �
       go : Bounded f → (k p : ℕ) → Applies plain (plainIn f) k p → ⊥
       go b zero p h = h
       go b (suc zero) p h = shaped b plain (omega arith) (tab-length 0 (headStates f) (orderIn f)) refl (h .1)
-      go b (suc (suc zero)) p h = roomy (room (b .few-states)) (omega arith) (h .1)
+      go b (suc (suc zero)) p h = room-enough (room (b .few-states)) (omega arith) (h .1)
       go b (suc (suc (suc k))) p h = clear (suc (suc (suc k))) p (omega arith) h
 
   -- With room for the answer it is answered: 12 never comes.

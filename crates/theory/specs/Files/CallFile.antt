@@ -20,10 +20,14 @@ use Rattle.theory.specs.Files.FileOne.{accepted-unrefused}
 use Rattle.theory.specs.Files.CallOne.{modes-apart}
 use Rattle.theory.specs.Files.CallRead.{call-chance}
 
+-- Some kept row of the exact chance of l does not fit.
+abbrev pub TooLarge : Lent → Type 0
+TooLarge l = NoFitAnywhere (earns plain l) l
+
 -- What is returned for the chain of l, and the fraction that is read back.
 pub data Exactly (l : Lent) (returned p q : ℕ) : Type 0 where
-  answers : returned ≡ 0 → (NoFitAnywhere (earns plain l) l → ⊥) → Chance (l .chain) p q → Exactly l returned p q
-  refuses : returned ≡ 12 → NoFitAnywhere (earns plain l) l → Exactly l returned p q
+  answers : returned ≡ 0 → (TooLarge l → ⊥) → Chance (l .chain) p q → Exactly l returned p q
+  refuses : returned ≡ 12 → TooLarge l → Exactly l returned p q
 
 -- What the exact entry is lent by the call.
 abbrev pub asked : Lent → Lent
@@ -34,7 +38,7 @@ module _ {l : Lent} {file : List ℕ} {mode : ℕ} (exact : AsksExact mode) (x :
   where
     -- What the engine says: 12 exactly where a row does not fit, and else 0.
     says : {number : ℕ} {bytes : List ℕ} → Said (wholeFile file) mode number bytes
-        → ((number ≡ 0) × (NoFitAnywhere (earns plain (asked l)) (asked l) → ⊥)) ⊎ ((number ≡ 12) × NoFitAnywhere (earns plain (asked l)) (asked l))
+        → ((number ≡ 0) × (TooLarge (asked l) → ⊥)) ⊎ ((number ≡ 12) × TooLarge (asked l))
     says (Said.bounded m a w o e g) = absurd (modes-apart exact m)
     says (Said.exactly m a w o e g) =
         let same : plainIn (wholeFile file) ≡ asked l = ap₂ (λ c o. ownWork c o []) (x .chain) (x .order) in
@@ -42,7 +46,7 @@ module _ {l : Lent} {file : List ℕ} {mode : ℕ} (exact : AsksExact mode) (x :
         let fit = chance-refuses (asked l) formed a w o′ in
         ⊎-elim
         (λ (z : a .number ≡ 0).
-        let none : NoFitAnywhere (earns plain (asked l)) (asked l) → ⊥ = λ f. let t : a .number ≡ 12 = fit .1 f in omega arith in
+        let none : TooLarge (asked l) → ⊥ = λ f. let t : a .number ≡ 12 = fit .1 f in omega arith in
         inl (e ∙ z, none))
         (λ (z : a .number ≡ 12). inr (e ∙ z, fit .0 z))
         (chance-answers (asked l) formed a w o′)

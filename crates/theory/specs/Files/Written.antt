@@ -13,7 +13,7 @@ use Rattle.meaning.specs.Block.{Input, wholeFile, secondVersion, versionIn, hea
 use Rattle.meaning.specs.File.{Accepted, edgeIn, chainIn, ordersIn, rewardsIn, paidIn, Tables, Short, Reading, ReadOutcome}
 use Rattle.meaning.specs.Buffer.{Writing, noWriting, writing}
 use Rattle.meaning.specs.Write.{Bytes, FileOf, fileSize, filing, WriteOutcome, refused, written}
-use Rattle.theory.specs.Outcomes.Formed.{roomy}
+use Rattle.theory.specs.Outcomes.Formed.{room-enough}
 use Rattle.theory.specs.Numbers.Tab.{tab-length}
 use Rattle.theory.specs.Outcomes.Determined.{refused-one}
 use Rattle.theory.specs.Files.FileOne.{read-one}
@@ -146,7 +146,7 @@ module _ (file : List ℕ) (bytes : Bytes file) (second : versionIn (wholeFile f
         go (suc zero) p h =
             let b = bounded f (taken .blocks 0 (omega arith)) in
             shaped b filing (omega arith) (tab-length 0 (headStates f) (orderIn f)) (tab-length 0 (headStates f) (rewardIn f)) (h .1)
-        go (suc (suc zero)) p h = roomy (omega (arith, file-of-size same)) (omega arith) (h .1)
+        go (suc (suc zero)) p h = room-enough (omega (arith, file-of-size same)) (omega arith) (h .1)
         go (suc (suc (suc k))) p h = clear (suc (suc (suc k))) p (omega arith) h
 
     -- A file of version 2 that meets none of 20 to 24 and 3 to 11 is written again byte for byte, whatever the buffer held.

@@ -10,7 +10,7 @@ use Rattle.meaning.specs.Number.{only}
 use Rattle.meaning.specs.Chain.{edgeSize}
 use Rattle.meaning.specs.Refusal.{Lent, Entry, bare, whole, never, Misshaped, faults, Applies, Refused, WellFormed}
 use Rattle.theory.specs.Numbers.Sum.{below}
-use Rattle.theory.specs.Outcomes.Formed.{roomy}
+use Rattle.theory.specs.Outcomes.Formed.{room-enough}
 
 -- What is lent of it to an entry that is lent a chain alone.
 abbrev pub alone : Lent → Lent
@@ -61,7 +61,7 @@ module _ (x : Entry) (l : Lent) where
   among =
       more (λ p a. a)
       (more misshaped
-      (more (λ p (a : whole ((0 < 0) ⊎ (0 < 0)) p). absurd (roomy (le-refl 0) (le-refl 0) (a .1)))
+      (more (λ p (a : whole ((0 < 0) ⊎ (0 < 0)) p). absurd (room-enough (le-refl 0) (le-refl 0) (a .1)))
       (more (λ p a. a)
       (more (λ p a. a)
       (more (λ p a. a)

@@ -29,9 +29,9 @@ positive : (x : ℕ) → (x ≡ 0 → ⊥) → 0 < x
 positive x f = omega arith
 
 -- Room that is asked for and is there.
-pub roomy : {asked work records list : ℕ} → asked ≤ work → records ≤ list → (work < asked) ⊎ (list < records) → ⊥
-roomy h k (inl a) = omega (arith, h, a)
-roomy h k (inr a) = omega (arith, k, a)
+pub room-enough : {asked work records list : ℕ} → asked ≤ work → records ≤ list → (work < asked) ⊎ (list < records) → ⊥
+room-enough h k (inl a) = omega (arith, h, a)
+room-enough h k (inr a) = omega (arith, k, a)
 
 -- A table that is lent has its faults.
 lends : (b : Bool) (F : ℕ → Type 0) (p : ℕ) → b ≡ true → F p → lentFault b F p

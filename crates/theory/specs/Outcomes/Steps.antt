@@ -49,7 +49,7 @@ module _ (l : Lent) where
       (o .0, t .0, o .1, t .1)
 
   -- There are at most n records, so that the list keeps its length.
-  finished-inside : {a : Answer} {p : ℕ} → FinishedTo l a p → p ≤ l .chain .states
+  pub finished-inside : {a : Answer} {p : ℕ} → FinishedTo l a p → p ≤ l .chain .states
   finished-inside (through e) = omega arith
   finished-inside (before-steps e h) = omega arith
   finished-inside (in-step e h) = omega (arith, h)

@@ -5,11 +5,9 @@ use mathlib.Core.Logic.{inl, inr}
 use mathlib.Core.List.{List, List·Memᴰ·head}
 use native.Mathlib.Omega.{arith}
 use Rattle.meaning.specs.Refusal.{Beyond, Lent, plain, WellFormed}
-use Rattle.meaning.specs.Stop.{earns}
 use Rattle.meaning.specs.Outcome.{cleared, Answer, refusal, fraction, ChanceOutcome}
-use Rattle.meaning.specs.Copies.{Plan, planOf, mostWeight, PlaceFault, Sensible, each, copiesEdges, copiesLent, CopiesOutcome, copies-wrong, weight-wrong, large, planned}
+use Rattle.meaning.specs.Copies.{Plan, planOf, mostCopies, mostWeight, CopiesLarge, PlaceFault, Sensible, each, copiesEdges, copiesLent, CopiesOutcome, copies-wrong, weight-wrong, large, planned}
 use Rattle.meaning.specs.Cases.{Case, oneCopy}
-use Rattle.meaning.specs.Demand.{NoFitAnywhere}
 use Rattle.theory.specs.Outcomes.Determined.{meet}
 use Rattle.theory.specs.Outcomes.Formed.{formed-fine}
 use Rattle.theory.specs.Outcomes.DemandTwo.{chance-is, chance-refuses}
@@ -45,7 +43,7 @@ module _ (rebuild : ℕ) (right : Beyond mostWeight rebuild → ⊥) where
   single = planOf 1 1 rebuild 3
 
   sensible : Sensible single
-  sensible = record { copies = λ f. out 1 32 (omega arith) (omega arith) f; weights = wrong }
+  sensible = record { copies = λ f. out 1 mostCopies (omega arith) (omega arith) f; weights = wrong }
     where
       out : (x limit : ℕ) → 0 < x → x ≤ limit → Beyond limit x → ⊥
       out x limit h k (inl e) = omega arith
@@ -66,6 +64,6 @@ module _ (rebuild : ℕ) (right : Beyond mostWeight rebuild → ⊥) where
       let l : Lent = copiesLent single in
       let w : List ℕ = cleared l in
       let formed : WellFormed plain l = copies-plain sensible in
-      let none : NoFitAnywhere (earns plain l) l → ⊥ =
+      let none : CopiesLarge single → ⊥ =
       λ f. let t : _≡_ {A = ℕ} 0 12 = chance-refuses l formed (fraction 1 4) w quarter .1 f in omega arith in
       copies-one o (planned sensible none 1 4 (chance-is l formed (fraction 1 4) w quarter refl) refl)

@@ -1,9 +1,9 @@
 -- The file of a plan: the writer never refuses it, and the exact chance that is asked of it is the plan's.
-use Prim.Native.Nat.{ℕ, zero, suc, _+_, _*_, _≤_}
+use Prim.Native.Nat.{ℕ, _+_, _*_, _≤_}
 use mathlib.Core.Path.{_≡_, refl, ap, _∙_}
 use mathlib.Core.List.{List}
 use native.Mathlib.Omega.{arith}
-use lib.ListN.{length, getD, replicate, take, length-replicate}
+use lib.ListN.{length, replicate, take, length-replicate}
 use Rattle.meaning.specs.Chain.{edgeCount}
 use Rattle.meaning.specs.Block.{blocksOf}
 use Rattle.meaning.specs.Refusal.{Lent, ownWork, WellFormed}
@@ -11,6 +11,7 @@ use Rattle.meaning.specs.Buffer.{Writing}
 use Rattle.meaning.specs.Write.{FileOf, fileSize, filing, WriteOutcome}
 use Rattle.meaning.specs.Call.{AsksExact, answerLength, answerNumber, CallOutcome}
 use Rattle.meaning.specs.Copies.{mostCopies, Plan, Sensible, copiesStates, copiesEdges, copiesChain, copiesOrder, copiesLent}
+use Rattle.theory.specs.Numbers.Tab.{getD-zeros}
 use Rattle.theory.specs.Files.Written.{formed-written, written-inside, read-back, file-of-same}
 use Rattle.theory.specs.Files.CallFile.{Exactly, call-exactly}
 use Rattle.theory.specs.Plans.Kinds.{copies-count}
@@ -28,11 +29,6 @@ noRewards j = replicate (copiesStates j) 0
 abbrev pub copiesFiled : Plan → Lent
 copiesFiled j = ownWork (copiesChain j) (copiesOrder j) (noRewards j)
 
-none-earned : (n i : ℕ) → getD {A = ℕ} (replicate n 0) i 0 ≡ 0
-none-earned zero i = refl
-none-earned (suc n) zero = refl
-none-earned (suc n) (suc i) = none-earned n i
-
 module _ {j : Plan} (sensible : Sensible j) where
   -- The writer, lent the plan's tables and room enough.
   module _ {l : Lent} (chain-is : l .chain ≡ copiesChain j) (order-is : l .order ≡ copiesOrder j) (rewards-are : l .rewards ≡ noRewards j)
@@ -49,7 +45,7 @@ module _ {j : Plan} (sensible : Sensible j) where
             order-is = order-is;
             asks-order = refl;
             rewards-length = ap length rewards-are ∙ length-replicate (copiesStates j) 0;
-            rewards-none = λ i. rw rewards-are (none-earned (copiesStates j) i);
+            rewards-none = λ i. rw rewards-are (getD-zeros (copiesStates j) i);
             few = omega arith;
             room = omega arith;
             list-room = omega arith;

@@ -14,7 +14,7 @@ use Rattle.meaning.specs.Chain.{mostStates, M, from, to, weight, edgeReward, ed
 use Rattle.meaning.specs.Refusal.{Lent, Entry, plain, workSize, Misshaped, Same, Earlier, OutOfRange, RewardFault, of-state, of-edge, lentFault, Applies, WellFormed}
 use Rattle.meaning.specs.Copies.{mostCopies, mostWeight, Plan, Sensible, finished, copiesStates, copiesEdges, copiesChain, copiesOrder, copiesLent}
 use Rattle.theory.specs.Numbers.Sum.{below, same}
-use Rattle.theory.specs.Outcomes.Formed.{roomy}
+use Rattle.theory.specs.Outcomes.Formed.{room-enough}
 use Rattle.theory.specs.Numbers.Tab.{tab-at, tab-length}
 use Rattle.theory.specs.Plans.Kinds.{beforeFinishes, beforeLoops, Kind, loses, rebuilt, ends, empty, done, kind, copies-whole, copies-count}
 use Rattle.theory.specs.Plans.Sums.{row-between, row-full, row-empty, row-done}
@@ -78,13 +78,13 @@ module _ (j : Plan) (r : InRange j) where
   weight-in (empty q x) = (omega (arith, x .amount-is), omega (arith, x .amount-is))
   weight-in (done q x) = (omega (arith, x .amount-is), omega (arith, x .amount-is))
 
-  -- 11: no edge has a reward.
-  unpaid : {e : ℕ} → Kind j e → edgeReward (copiesEdges j) e ≡ 0
-  unpaid (loses k h q x) = x .reward-is
-  unpaid (rebuilt k h q x) = x .reward-is
-  unpaid (ends k h q x) = x .reward-is
-  unpaid (empty q x) = x .reward-is
-  unpaid (done q x) = x .reward-is
+  -- No edge has a reward.
+  reward-none : {e : ℕ} → Kind j e → edgeReward (copiesEdges j) e ≡ 0
+  reward-none (loses k h q x) = x .reward-none
+  reward-none (rebuilt k h q x) = x .reward-none
+  reward-none (ends k h q x) = x .reward-none
+  reward-none (empty q x) = x .reward-none
+  reward-none (done q x) = x .reward-none
 
   -- The denominators are in range.
   row-in : (i : ℕ) → i < copiesStates j → (0 < rowSum (copiesEdges j) i) × (rowSum (copiesEdges j) i ≤ M)
@@ -209,13 +209,13 @@ module _ {j : Plan} (sensible : Sensible j) {x : Entry} {l : Lent} (h : LentPlan
 
   -- 11.
   rewards-in : {p : ℕ} → RewardFault (copiesStates j) (l .rewards) (copiesEdges j) p → ⊥
-  rewards-in (of-state i k) = omega (arith, k .1, h .rewards-none i)
-  rewards-in (of-edge e k) = omega (arith, k .1, unpaid j r (kind j e (k .0)))
+  rewards-in (of-state i f) = omega (arith, f .1, h .rewards-none i)
+  rewards-in (of-edge i f) = omega (arith, f .1, reward-none j r (kind j i (f .0)))
 
   none-applies : (k p : ℕ) → Applies x l k p → ⊥
   none-applies zero p a = a
   none-applies (suc zero) p a = shapely (rw (h .chain-is, h .order-is) at (a .1))
-  none-applies (suc (suc zero)) p a = roomy (h .room) (h .list-room) (rw (h .chain-is) at (a .1))
+  none-applies (suc (suc zero)) p a = room-enough (h .room) (h .list-room) (rw (h .chain-is) at (a .1))
   none-applies (suc (suc (suc zero))) p a = omega (arith, rw (h .chain-is) at (a .1))
   none-applies (suc (suc (suc (suc zero)))) p a = goals (rw (h .chain-is) at (a .1))
     where

@@ -3,7 +3,7 @@ use mathlib.Core.Path.{_≡_}
 use native.Mathlib.Omega.{arith}
 use lib.ListN.{length}
 use Rattle.meaning.specs.Chain.{edgeSize}
-use Rattle.chain.proofs.Law.{compares}
+use Rattle.theory.specs.Numbers.Decide.{compares}
 use Rattle.chain.proofs.edge.ragged.Statement.{statement}
 use Rattle.chain.proofs.edge.ragged.Tie as tie
 

@@ -1,6 +1,6 @@
 use borrow.Author.Needs.{needs}
 use Rattle.meaning.specs.File.{CheckFault, BlockNumberFault, KindFault, ContentFault, BlockRefused}
-use Rattle.chain.proofs.Law.{holds, fails}
+use Rattle.theory.specs.Numbers.Decide.{holds, fails}
 use Rattle.chainfile.specs.Input.{input}
 use Rattle.theory.specs.Files.Right.{right}
 use Rattle.chainfile.proofs.block.test.Statement.{statement}

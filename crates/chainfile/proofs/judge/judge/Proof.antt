@@ -1,7 +1,7 @@
 use borrow.Author.Needs.{needs}
 use Rattle.meaning.specs.Block.{Input}
 use Rattle.meaning.specs.File.{LengthFault, BlockRight, FileRefused}
-use Rattle.chain.proofs.Law.{holds, fails}
+use Rattle.theory.specs.Numbers.Decide.{holds, fails}
 use Rattle.chainfile.specs.Input.{input}
 use Rattle.chainfile.proofs.Tested.{found-wrong, found-right, judge}
 use Rattle.theory.specs.Files.Right.{bounded}

@@ -3,7 +3,7 @@ use native.Mathlib.Omega.{arith}
 use borrow.Author.Needs.{needs}
 use Rattle.meaning.specs.Block.{recordSize, edgeRewardByte, weightByte}
 use Rattle.meaning.specs.File.{NonZero}
-use Rattle.chain.proofs.Law.{holds, fails}
+use Rattle.theory.specs.Numbers.Decide.{holds, fails}
 use Rattle.chain.proofs.Passing.{NoneBelow, pass}
 use Rattle.chainfile.specs.Input.{input}
 use Rattle.chainfile.proofs.records.reserved_wrong.Statement.{statement}

@@ -7,7 +7,7 @@ use Rattle.meaning.specs.Row.{exact, rounding}
 use Rattle.meaning.specs.Figure.{Missed}
 use Rattle.meaning.specs.Refusal.{Lent, paid, WellFormed}
 use Rattle.chain.specs.Lent.{lent}
-use Rattle.chain.proofs.Law.{holds, fails}
+use Rattle.theory.specs.Numbers.Decide.{holds, fails}
 use Rattle.theory.specs.Outcomes.Formed.{few-states, room}
 use Rattle.engines.proofs.Looked.{refused-by, clear, begun}
 use Rattle.engines.proofs.Outcomes.{reduced-of, refuses-reward, misses-reward, answers-reward, stops-reward}

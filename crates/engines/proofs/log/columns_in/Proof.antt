@@ -25,7 +25,7 @@ loop-holds c = (counting-none _, omega arith)
 loop-again : tie.Need-loop-again Inv-loop μ-loop
 loop-again c =
     let test = c .before .before in
-    (counting-more (test .before .loop .inv .0) (c .counted .ensures), omega (arith, test .loop-test .taken))
+    (counting-more (test .before .loop .inv .0) (c .weighed .ensures), omega (arith, test .loop-test .taken))
 
 returns : tie.Need-returns Inv-loop μ-loop
 returns c =

@@ -1,10 +1,6 @@
-use mathlib.Core.Path.{subst, sym}
-use mathlib.Core.List.{List}
 use mathlib.Core.Logic.{inl, ⊎-elim}
 use borrow.Author.Needs.{needs}
 use borrow.Author.Tests.{not-true, not-false}
-use Rattle.meaning.specs.Steps.{StepRecord}
-use Rattle.engines.specs.Log.{LoggedMore}
 use Rattle.engines.proofs.Noting.{record-is, logged-more}
 use Rattle.engines.proofs.log.remove_noted.Statement.{statement}
 use Rattle.engines.proofs.log.remove_noted.Tie as tie

@@ -37,7 +37,7 @@ loop-again c =
     let i = test .before .loop .i in
     let w = a .work .now in
     let e = row-cell (a .n) w i (a .s) (omega (arith, test .before .before .before .pre .2)) in
-    (counting-more (z .0) (rw (row-is (a .n) w i b, e, ← at .row-start .ensures .0) (c .counted .ensures)), omega arith)
+    (counting-more (z .0) (rw (row-is (a .n) w i b, e, ← at .row-start .ensures .0) (c .weighed .ensures)), omega arith)
 
 returns : tie.Need-returns Inv-loop μ-loop
 returns c =

@@ -2,7 +2,7 @@ use Prim.Native.Nat.{_<_}
 use mathlib.Core.Logic.{_⊎_, inl, inr, ⊎-elim}
 use native.Mathlib.Omega.{arith}
 use native.Mathlib.Nat.{mul-le-mul, add-le-add, le-refl}
-use Rattle.chain.proofs.Law.{compares}
+use Rattle.theory.specs.Numbers.Decide.{compares}
 use Rattle.meaning.specs.Refusal.{workSize}
 use borrow.Author.Needs.{needs}
 use Rattle.engines.proofs.looking.short.Statement.{statement}

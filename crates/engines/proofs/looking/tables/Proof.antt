@@ -7,7 +7,7 @@ use lib.ListN.{length, replicate, length-replicate}
 use borrow.Author.Needs.{needs}
 use Rattle.meaning.specs.Refusal.{Lent, withList}
 use Rattle.chain.specs.Lent.{lent}
-use Rattle.chain.proofs.Law.{holds, fails}
+use Rattle.theory.specs.Numbers.Decide.{holds, fails}
 use Rattle.look.specs.Says.{Upto, counted}
 use Rattle.look.proofs.Found.{found, none}
 use Rattle.look.proofs.Refuse.{refuse, next, at-0, off, misshapen, shaped, sized}

@@ -1,5 +1,5 @@
 use borrow.Author.Needs.{needs}
-use Rattle.chain.proofs.Law.{holds}
+use Rattle.theory.specs.Numbers.Decide.{holds}
 use Rattle.look.proofs.pairs.repeated.Statement.{statement}
 use Rattle.look.proofs.pairs.repeated.Tie as tie
 

@@ -1,5 +1,5 @@
 use Prim.Native.Nat.{_-_}
-use Rattle.chain.proofs.Law.{holds, fails}
+use Rattle.theory.specs.Numbers.Decide.{holds, fails}
 use Rattle.chain.proofs.Passing.{NoneBelow, pass, done}
 use Rattle.look.proofs.Found.{stop}
 use Rattle.meaning.specs.Refusal.{DenominatorFault}

@@ -1,5 +1,5 @@
 use mathlib.Core.Logic.{⊎-elim, inl, inr}
-use Rattle.chain.proofs.Law.{compares}
+use Rattle.theory.specs.Numbers.Decide.{compares}
 use Rattle.meaning.specs.Chain.{M}
 use Rattle.meaning.specs.Refusal.{OutOfRange}
 use Rattle.look.proofs.scan.out_of_range.Statement.{statement}

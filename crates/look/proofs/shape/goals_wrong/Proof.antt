@@ -3,7 +3,7 @@ use mathlib.Core.Logic.{⊎-elim, inl, inr}
 use native.Mathlib.Omega.{arith}
 use native.Mathlib.Nat.{le-div-iff-mul-le}
 use lib.Pow.{pow-pos, pow-mono}
-use Rattle.chain.proofs.Law.{compares}
+use Rattle.theory.specs.Numbers.Decide.{compares}
 use Rattle.meaning.specs.Refusal.{GoalFault}
 use borrow.Author.Needs.{needs}
 use Rattle.look.proofs.shape.goals_wrong.Statement.{statement}

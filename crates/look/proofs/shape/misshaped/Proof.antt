@@ -1,6 +1,6 @@
 use native.Mathlib.Omega.{arith}
 use Rattle.meaning.specs.Refusal.{Misshaped}
-use Rattle.chain.proofs.Law.{holds, fails}
+use Rattle.theory.specs.Numbers.Decide.{holds, fails}
 use Rattle.look.proofs.Refuse.{shapely}
 use borrow.Author.Needs.{needs}
 use Rattle.look.proofs.shape.misshaped.Statement.{statement}

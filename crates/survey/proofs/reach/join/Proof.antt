@@ -1,5 +1,5 @@
 use mathlib.Core.Bool.{not}
-use Rattle.chain.proofs.Law.{holds, fails}
+use Rattle.theory.specs.Numbers.Decide.{holds, fails}
 use Rattle.survey.specs.Grow.{tail, Open, way}
 use Rattle.survey.proofs.Growth.{end-below, unchanged, with-head}
 use borrow.Author.Needs.{needs}

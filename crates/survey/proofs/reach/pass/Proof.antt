@@ -4,7 +4,6 @@ use native.Mathlib.Omega.{arith}
 use Rattle.survey.specs.Grow.{way, Idle, AllIdle, Larger}
 use Rattle.survey.proofs.Growth.{Past, unchanged, one-more, all-past, turn-below}
 use mathlib.Core.Path.{subst}
-use Rattle.meaning.specs.Chain.{edgeCount}
 use borrow.Author.Needs.{needs}
 use Rattle.survey.proofs.reach.pass.Statement.{statement}
 use Rattle.survey.proofs.reach.pass.Tie as tie

@@ -5,7 +5,7 @@ use mathlib.Core.Bool.{Bool, true, false}
 use native.Mathlib.Omega.{arith}
 use lib.Dec.{ltb}
 use borrow.Author.Tests.{ltb-true, ltb-false}
-use Rattle.chain.specs.Decide.{decides}
+use Rattle.meaning.specs.Number.{decides}
 
 module _ (P : Type 0) {b : Bool} (d : decides P b) where
   pub holds : b ≡ true → P
