@@ -188,7 +188,9 @@ struct egorstream_written {
  * denominators           One for each state, 1 to 2,147,483,647.
  * edges                  Four numbers for each edge: from, to, weight, reward; 1 to 4,096 edges. The
  *                        weights of a state's edges add up to its denominator. Rewards are 0 to
- *                        65,535; that of a goal's edge does not count.
+ *                        65,535; that of a goal's edge does not count. Earlier versions took three
+ *                        numbers for each edge. Such a list is not always refused: it may pass for
+ *                        another chain.
  * order                  Each state once: the order in which states are removed.
  * rewards                One for each state, 0 to 65,535; that of a goal does not count.
  * buffer                 Room for the file, at any alignment. EGORSTREAM_MOST_FILE_LENGTH bytes are
@@ -198,8 +200,9 @@ struct egorstream_written {
  * uint64_t is, and do not overlap the buffer. A null pointer with length 0 is an empty table or buffer.
  *
  * The number is one of 1 to 11, the least that applies; its place is a state, the index of an edge or
- * a position of the order, each from 0, or else 0; of an edge's reward it is 64 plus the edge's index.
- * On a refusal the whole buffer stays as it was. Otherwise bytes past the file stay as they were.
+ * a position of the order, each from 0, or else 0; of an edge's reward it is 64 plus the edge's
+ * index. On a refusal the whole buffer stays as it was. Otherwise bytes past the file stay as they
+ * were.
  *
  * It needs a stack of a few kilobytes and keeps nothing between calls.
  */
