@@ -6,10 +6,9 @@ use lib.ListN.{length, getD}
 use Rattle.meaning.specs.Number.{tabFrom}
 use Rattle.meaning.specs.Chain.{Chain, plainEdge, rowSum}
 use Rattle.meaning.specs.Figure.{Chance}
-use Rattle.meaning.specs.Refusal.{Lent, ownWork, plain, Beyond}
-use Rattle.meaning.specs.Stop.{earns}
+use Rattle.meaning.specs.Refusal.{Lent, ownWork, Beyond}
 use Rattle.meaning.specs.Outcome.{Answer, refusal, fraction}
-use Rattle.meaning.specs.Demand.{NoFitAnywhere}
+use Rattle.meaning.specs.Demand.{TooLarge}
 
 -- The most copies, and the greatest weight.
 abbrev pub mostCopies : ℕ
@@ -91,9 +90,9 @@ copiesOrder j = tabFrom 0 (copiesStates j) (λ i. i)
 abbrev pub copiesLent : Plan → Lent
 copiesLent j = ownWork (copiesChain j) (copiesOrder j) []
 
--- Some kept row of the exact chance of it does not fit.
+-- Some kept row of its exact chance does not fit.
 abbrev pub CopiesLarge : Plan → Type 0
-CopiesLarge j = NoFitAnywhere (earns plain (copiesLent j)) (copiesLent j)
+CopiesLarge j = TooLarge (copiesLent j)
 
 -- The planner refuses by 30 for the copies, then by 31 at the least place of a wrong weight. Else it answers the chance that no copy is left
 -- before the finish, or refuses by 12 at 0 where a row does not fit.

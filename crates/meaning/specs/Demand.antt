@@ -20,6 +20,10 @@ pub record NoFitAnywhere (pay : ℕ → ℕ) (l : Lent) : Type 0 where
   pub inside : position ≤ l .chain .states
   pub large : NoFit pay exact l sets position
 
+-- Some kept row of the exact chance of what is lent does not fit.
+abbrev pub TooLarge : Lent → Type 0
+TooLarge l = NoFitAnywhere (earns plain l) l
+
 -- p over q is at most s over t, by cross products.
 abbrev pub AtMost : ℕ → ℕ → ℕ → ℕ → Type 0
 AtMost p q s t = p * t ≤ s * q

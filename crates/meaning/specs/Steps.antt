@@ -60,8 +60,8 @@ pub data FinishedTo (l : Lent) (a : Answer) : ℕ → Type 0 where
   before-steps : a .number ≡ 12 → a .place ≡ mostStates → FinishedTo l a 0
   in-step : a .number ≡ 12 → a .place < l .chain .states → FinishedTo l a (a .place)
 
--- The list afterwards, and how many records were written; before, it has as many records as is said in what is lent. A refusal by 1 to 10 leaves it; else the records of the finished steps stand at its
--- front, and all others stay.
+-- The list afterwards, and how many records were written; before, it has as many records as is said in what is lent. A refusal by 1 to 10
+-- leaves it; else the records of the finished steps stand at its front, and all others stay.
 pub data Listed (l : Lent) (a : Answer) (before : List StepRecord) (count : ℕ) (after : List StepRecord) : Type 0 where
   untouched : (number place : ℕ) → Refused listing l number place → count ≡ 0 → after ≡ before → Listed l a before count after
   listed : WellFormed listing l → (k : Sets) → Right (l .chain) k → (p : ℕ) → FinishedTo l a p → count ≡ length (recordsTo l k p)

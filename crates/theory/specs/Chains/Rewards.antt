@@ -41,8 +41,8 @@ pub record RewardsAlone (edges edges′ : List ℕ) : Type 0 where
   pub tos : (e : ℕ) → to edges e ≡ to edges′ e
   pub weights : (e : ℕ) → weight edges e ≡ weight edges′ e
 
-pub turned : {edges edges′ : List ℕ} → RewardsAlone edges edges′ → RewardsAlone edges′ edges
-turned s =
+pub swapped : {edges edges′ : List ℕ} → RewardsAlone edges edges′ → RewardsAlone edges′ edges
+swapped s =
     record { lengths = sym (s .lengths); froms = λ e. sym (s .froms e); tos = λ e. sym (s .tos e); weights = λ e. sym (s .weights e) }
 
 -- A chain with other edges.
@@ -92,6 +92,6 @@ module _ {c : Chain} {edges : List ℕ} (s : RewardsAlone (c .edges) edges) wher
 pub same-right : {c : Chain} {edges : List ℕ} {k : Sets} → RewardsAlone (c .edges) edges → Right c k → Right (repaid edges c) k
 same-right {c} {edges} s r =
     record {
-      good = λ i. (λ e. same-path s (r .good i .0 e), λ g. r .good i .1 (same-path (turned s) g));
-      live = λ i. (λ e. same-live s (r .live i .0 e), λ g. r .live i .1 (same-live {c = repaid edges c} {edges = c .edges} (turned s) g));
+      good = λ i. (λ e. same-path s (r .good i .0 e), λ g. r .good i .1 (same-path (swapped s) g));
+      live = λ i. (λ e. same-live s (r .live i .0 e), λ g. r .live i .1 (same-live {c = repaid edges c} {edges = c .edges} (swapped s) g));
     }

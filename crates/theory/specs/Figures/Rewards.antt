@@ -7,7 +7,7 @@ use native.Mathlib.Omega.{arith}
 use Rattle.meaning.specs.Number.{Lowest}
 use Rattle.meaning.specs.Chain.{Chain, denominator, edgeCount, edgeReward, along, Goal, FromStart}
 use Rattle.meaning.specs.Figure.{Shares, Chance, Missed, earned, Earns, Expected}
-use Rattle.theory.specs.Chains.Rewards.{edge-rewards-none, RewardsAlone, turned, repaid, same-flow, same-path, same-reached}
+use Rattle.theory.specs.Chains.Rewards.{edge-rewards-none, RewardsAlone, swapped, repaid, same-flow, same-path, same-reached}
 
 module _ {c : Chain} {edges : List ℕ} (s : RewardsAlone (c .edges) edges) where
   same-shares : {d : ℕ} {x : ℕ → ℕ} → Shares c d x → Shares (repaid edges c) d x
@@ -16,11 +16,11 @@ module _ {c : Chain} {edges : List ℕ} (s : RewardsAlone (c .edges) edges) wher
         whole = h .whole;
         won = h .won;
         lost = λ i l n. h .lost i l (λ g. n (same-path s g));
-        flows = λ i l n g. h .flows i l n (same-path (turned s) g) ∙ same-flow s i x;
+        flows = λ i l n g. h .flows i l n (same-path (swapped s) g) ∙ same-flow s i x;
       }
 
   pub same-missed : Missed c → Missed (repaid edges c)
-  same-missed m = (m .0, same-reached s (m .1), λ g. m .2 (same-path (turned s) g))
+  same-missed m = (m .0, same-reached s (m .1), λ g. m .2 (same-path (swapped s) g))
 
   -- The reward's equation asks what is earned only of states that are reached and no goals.
   same-earns : {pay pay′ : ℕ → ℕ} {d : ℕ} {y : ℕ → ℕ} → ((i : ℕ) → (Goal c i → ⊥) → pay i ≡ pay′ i) → Earns c pay d y → Earns (repaid edges c) pay′ d y
@@ -32,20 +32,20 @@ module _ {c : Chain} {edges : List ℕ} (s : RewardsAlone (c .edges) edges) wher
       }
     where
       back : {i : ℕ} → FromStart (repaid edges c) i → FromStart c i
-      back f = same-reached {c = repaid edges c} {edges = c .edges} (turned s) f
+      back f = same-reached {c = repaid edges c} {edges = c .edges} (swapped s) f
 
 module _ {c : Chain} {edges : List ℕ} (s : RewardsAlone (c .edges) edges) where
   -- One chance.
   pub same-chance : {p q : ℕ} → Chance c p q → Chance (repaid edges c) p q
   same-chance h =
-      record { lowest = h .lowest; share = λ d x f. h .share d x (same-shares {c = repaid edges c} {edges = c .edges} (turned s) f) }
+      record { lowest = h .lowest; share = λ d x f. h .share d x (same-shares {c = repaid edges c} {edges = c .edges} (swapped s) f) }
 
   -- One expected reward, where the states that are no goals earn the same.
   pub same-expected : {pay pay′ : ℕ → ℕ} {p q : ℕ} → ((i : ℕ) → (Goal c i → ⊥) → pay i ≡ pay′ i) → Expected c pay p q → Expected (repaid edges c) pay′ p q
   same-expected pays h =
       record {
         lowest = h .lowest;
-        share = λ d y f. h .share d y (same-earns {c = repaid edges c} {edges = c .edges} (turned s) (λ i n. sym (pays i n)) f);
+        share = λ d y f. h .share d y (same-earns {c = repaid edges c} {edges = c .edges} (swapped s) (λ i n. sym (pays i n)) f);
       }
 
 -- What a turn earned, times its denominator, before edges had rewards.
@@ -67,8 +67,8 @@ module _ (c : Chain) (r : ℕ → ℕ) (none : (e : ℕ) → e < edgeCount (c .e
   pub earned-old : (i : ℕ) → earned c r i ≡ oldEarned c r i
   earned-old i = omega (arith, edge-rewards-none (c .edges) i none)
 
-  earns-old : {d : ℕ} {y : ℕ → ℕ} → Earns c (earned c r) d y → OldEarns c r d y
-  earns-old {d} h =
+  equation-old : {d : ℕ} {y : ℕ → ℕ} → Earns c (earned c r) d y → OldEarns c r d y
+  equation-old {d} h =
       record { whole = h .whole; won = h .won; flows = λ i f n. h .flows i f n ∙ omega (arith, ap (λ z. z * d) (earned-old i)) }
 
   earns-now : {d : ℕ} {y : ℕ → ℕ} → OldEarns c r d y → Earns c (earned c r) d y
@@ -78,5 +78,5 @@ module _ (c : Chain) (r : ℕ → ℕ) (none : (e : ℕ) → e < edgeCount (c .e
   pub expected-old : {p q : ℕ} → Expected c (earned c r) p q ↔ OldExpected c r p q
   expected-old = (
     λ h. record { lowest = h .lowest; share = λ d y f. h .share d y (earns-now f) },
-    λ h. record { lowest = h .lowest; share = λ d y f. h .share d y (earns-old f) },
+    λ h. record { lowest = h .lowest; share = λ d y f. h .share d y (equation-old f) },
   )

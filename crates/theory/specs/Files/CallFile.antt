@@ -8,21 +8,16 @@ use lib.ListN.{length}
 use Rattle.meaning.specs.Chain.{Chain}
 use Rattle.meaning.specs.Figure.{Chance}
 use Rattle.meaning.specs.Refusal.{Lent, ownWork, plain, WellFormed}
-use Rattle.meaning.specs.Stop.{earns}
 use Rattle.meaning.specs.Outcome.{ChanceOutcome}
 use Rattle.meaning.specs.Block.{wholeFile}
 use Rattle.meaning.specs.File.{plainIn}
 use Rattle.meaning.specs.Write.{FileOf}
 use Rattle.meaning.specs.Call.{AsksExact, answerLength, answerNumber, Said, CallOutcome, mode-wrong, answer-short, file-refused, chain-refused, answered}
-use Rattle.meaning.specs.Demand.{NoFitAnywhere}
+use Rattle.meaning.specs.Demand.{TooLarge}
 use Rattle.theory.specs.Outcomes.DemandTwo.{chance-answers, chance-refuses}
 use Rattle.theory.specs.Files.FileOne.{accepted-unrefused}
 use Rattle.theory.specs.Files.CallOne.{modes-apart}
 use Rattle.theory.specs.Files.CallRead.{call-chance}
-
--- Some kept row of the exact chance of l does not fit.
-abbrev pub TooLarge : Lent → Type 0
-TooLarge l = NoFitAnywhere (earns plain l) l
 
 -- What is returned for the chain of l, and the fraction that is read back.
 pub data Exactly (l : Lent) (returned p q : ℕ) : Type 0 where
@@ -33,13 +28,13 @@ pub data Exactly (l : Lent) (returned p q : ℕ) : Type 0 where
 abbrev pub asked : Lent → Lent
 asked l = ownWork (l .chain) (l .order) []
 
-module _ {l : Lent} {file : List ℕ} {mode : ℕ} (exact : AsksExact mode) (x : FileOf l file)
+module _ {l : Lent} {file : List ℕ} {mode : ℕ} (asks : AsksExact mode) (x : FileOf l file)
     (formed : WellFormed plain (asked l))
   where
     -- What the engine says: 12 exactly where a row does not fit, and else 0.
     says : {number : ℕ} {bytes : List ℕ} → Said (wholeFile file) mode number bytes
         → ((number ≡ 0) × (TooLarge (asked l) → ⊥)) ⊎ ((number ≡ 12) × TooLarge (asked l))
-    says (Said.bounded m a w o e g) = absurd (modes-apart exact m)
+    says (Said.bounded m a w o e g) = absurd (modes-apart asks m)
     says (Said.exactly m a w o e g) =
         let same : plainIn (wholeFile file) ≡ asked l = ap₂ (λ c o. ownWork c o []) (x .chain) (x .order) in
         let o′ : ChanceOutcome (asked l) a w = subst (λ l. ChanceOutcome l a w) same o in
@@ -62,6 +57,6 @@ module _ {l : Lent} {file : List ℕ} {mode : ℕ} (exact : AsksExact mode) (x :
         ⊎-elim
         (λ u.
         let o = subst (λ r. CallOutcome file mode before r after) e (CallOutcome.answered m s a bytes t e k) in
-        answers e (u .1) (subst (λ (c : Chain). Chance c (answerNumber after 0) (answerNumber after 1)) (x .chain) (call-chance exact o .0)))
+        answers e (u .1) (subst (λ (c : Chain). Chance c (answerNumber after 0) (answerNumber after 1)) (x .chain) (call-chance asks o .0)))
         (λ u. absurd (let n : _≡_ {A = ℕ} 0 12 = u .0 in omega arith))
         (says t)

@@ -14,7 +14,7 @@ use Rattle.meaning.specs.Refusal.{Lent, Entry, plain, paid, listing, whole, Mis
 use Rattle.meaning.specs.Stop.{rewardOf, earns, turn, tableAt, Unfit, Stops, before-steps, in-step, Stopped}
 use Rattle.meaning.specs.Outcome.{Outcome, refused, stopped, answered, Answer, refusal, ChanceFigure, chance, ChanceOutcome, RewardFigure, RewardOutcome, Bounds, lastRow, BoundsFigure, BoundsOutcome}
 use Rattle.meaning.specs.Steps.{StepRecord, recordsAlong, recordsTo, FinishedTo, Listed, untouched, listed, StepsOutcome}
-use Rattle.theory.specs.Chains.Rewards.{RewardsAlone, turned, repaid, same-count, same-flow, same-path, same-pay, same-live, same-right}
+use Rattle.theory.specs.Chains.Rewards.{RewardsAlone, swapped, repaid, same-count, same-flow, same-path, same-pay, same-live, same-right}
 use Rattle.theory.specs.Figures.Rewards.{same-chance, same-missed, same-expected}
 use Rattle.theory.specs.Stages.Rewards.{same-stage}
 use Rattle.theory.specs.Outcomes.Bare.{Entails, none, more, same-refused, same-formed}
@@ -108,7 +108,7 @@ module _ (x : Entry) (l : Lent) (edges : List ℕ) (s : RewardsAlone (l .chain .
   there = faults-same x l edges s (unlent (l .chain .edges) edges)
 
   back : Entails (faults x l′) (faults x l)
-  back = faults-same x l′ (l .chain .edges) (turned s) (unlent edges (l .chain .edges))
+  back = faults-same x l′ (l .chain .edges) (swapped s) (unlent edges (l .chain .edges))
 
   nothing : (i : ℕ) → (Goal (l .chain) i → ⊥) → earns x l i ≡ earns x l′ i
   nothing i n = unpaid x l free i ∙ sym (unpaid x l′ free i)
@@ -120,26 +120,26 @@ module _ (x : Entry) (l : Lent) (edges : List ℕ) (s : RewardsAlone (l .chain .
       → Outcome x l′ refusal (Stopped (earns x l′) exact l′) (ChanceFigure l′) a w
   chance-says {a} =
       outcome-same x l edges there back (λ number place. stopped-same exact l edges s _ _ nothing)
-      (λ number place. stopped-same exact l′ (l .chain .edges) (turned s) _ _ (λ i n. sym (nothing i n))) figure
+      (λ number place. stopped-same exact l′ (l .chain .edges) (swapped s) _ _ (λ i n. sym (nothing i n))) figure
     where
       figure : ChanceFigure l a → ChanceFigure l′ a
       figure (chance p q h e) = chance p q (same-chance s h) e
 
 module _ (l : Lent) (edges : List ℕ) (s : RewardsAlone (l .chain .edges) edges) where
-  abbrev again : Lent
-  again = lentRepaid edges l
+  abbrev other : Lent
+  other = lentRepaid edges l
 
   -- One chance, with its refusals and its work table.
-  pub one-chance : {a : Answer} {w : List ℕ} → ChanceOutcome l a w → ChanceOutcome again a w
+  pub one-chance : {a : Answer} {w : List ℕ} → ChanceOutcome l a w → ChanceOutcome other a w
   one-chance = chance-says plain l edges s refl
 
   -- One pair of bounds.
-  bounds-figure : {a : Bounds} → BoundsFigure l a → BoundsFigure again a
+  bounds-figure : {a : Bounds} → BoundsFigure l a → BoundsFigure other a
   bounds-figure (BoundsFigure.won g e) = BoundsFigure.won g e
-  bounds-figure (BoundsFigure.lost h e) = BoundsFigure.lost (λ g. h (same-path (turned s) g)) e
+  bounds-figure (BoundsFigure.lost h e) = BoundsFigure.lost (λ g. h (same-path (swapped s) g)) e
   bounds-figure (BoundsFigure.live k right v p q t u f e) =
       let n = l .chain .states in
-      let same : lastRow l k ≡ lastRow again k = ap (λ t. row t (l .chain .start)) (unpaid-tables plain l edges s refl rounding k right n) in
+      let same : lastRow l k ≡ lastRow other k = ap (λ t. row t (l .chain .start)) (unpaid-tables plain l edges s refl rounding k right n) in
       BoundsFigure.live k (same-right s right) (same-live s v) p q t u
       (subst (λ z.
       Reduced (cell z (goalColumn n)) (outside n (l .chain .start) z) p q
@@ -147,26 +147,26 @@ module _ (l : Lent) (edges : List ℕ) (s : RewardsAlone (l .chain .edges) edges
       same f)
       e
 
-  pub one-bounds : {a : Bounds} {w : List ℕ} → BoundsOutcome l a w → BoundsOutcome again a w
+  pub one-bounds : {a : Bounds} {w : List ℕ} → BoundsOutcome l a w → BoundsOutcome other a w
   one-bounds = outcome-same plain l edges (there plain l edges s refl) (back plain l edges s refl) (λ number place t. t) (λ number place t. t) bounds-figure
 
   -- One step list.
-  records-same : (k : Sets) → Right (l .chain) k → (p : ℕ) → recordsTo l k p ≡ recordsTo again k p
+  records-same : (k : Sets) → Right (l .chain) k → (p : ℕ) → recordsTo l k p ≡ recordsTo other k p
   records-same k right p =
       ap (λ t. recordsAlong (l .chain .states) (goes (l .chain .start) (k .live)) (turn l) t p)
       (λ i q. unpaid-tables listing l edges s refl exact k right q i)
 
-  finished-same : {a : Answer} {p : ℕ} → FinishedTo l a p → FinishedTo again a p
+  finished-same : {a : Answer} {p : ℕ} → FinishedTo l a p → FinishedTo other a p
   finished-same (FinishedTo.through e) = FinishedTo.through e
   finished-same (FinishedTo.before-steps e h) = FinishedTo.before-steps e h
   finished-same (FinishedTo.in-step e h) = FinishedTo.in-step e h
 
   pub one-list : {before after : List StepRecord} {a : Answer} {count : ℕ} {w : List ℕ} → StepsOutcome l before a count w after
-      → StepsOutcome again before a count w after
+      → StepsOutcome other before a count w after
   one-list {before} {after} {a} {count} o =
       record { outcome = chance-says listing l edges s refl (o .outcome); list = at (o .list) }
     where
-      at : Listed l a before count after → Listed again a before count after
+      at : Listed l a before count after → Listed other a before count after
       at (untouched number place r c e) =
           untouched number place (same-refused (there listing l edges s refl) (back listing l edges s refl) r) c e
       at (listed w k right p f c e) =
@@ -184,19 +184,19 @@ module _ (l : Lent) (edges : List ℕ) (s : RewardsAlone (l .chain .edges) edges
     reward-figure : {a : Answer} → RewardFigure l a → RewardFigure (lentRepaid edges l) a
     reward-figure (RewardFigure.missed m e) = RewardFigure.missed (same-missed s m) e
     reward-figure (RewardFigure.expected u p q h e) =
-        RewardFigure.expected (λ m. u (same-missed {c = repaid edges (l .chain)} {edges = l .chain .edges} (turned s) m)) p q (same-expected s pays h) e
+        RewardFigure.expected (λ m. u (same-missed {c = repaid edges (l .chain)} {edges = l .chain .edges} (swapped s) m)) p q (same-expected s pays h) e
 
     pub goal-edges-free : WellFormed paid l → WellFormed paid (lentRepaid edges l) → {a : Answer} {w : List ℕ} → RewardOutcome l a w
         → RewardOutcome (lentRepaid edges l) a w
     goal-edges-free formed formed′ =
         outcome-same paid l edges (faults-same paid l edges s (λ p a. absurd (formed .none 11 p a)))
-        (faults-same paid (lentRepaid edges l) (l .chain .edges) (turned s) (λ p a. absurd (formed′ .none 11 p a)))
+        (faults-same paid (lentRepaid edges l) (l .chain .edges) (swapped s) (λ p a. absurd (formed′ .none 11 p a)))
         (λ number place t. (
-          λ m. t .0 (same-missed {c = repaid edges (l .chain)} {edges = l .chain .edges} (turned s) m),
+          λ m. t .0 (same-missed {c = repaid edges (l .chain)} {edges = l .chain .edges} (swapped s) m),
           stopped-same exact l edges s _ _ pays (t .1),
         ))
         (λ number place t. (
           λ m. t .0 (same-missed s m),
-          stopped-same exact (lentRepaid edges l) (l .chain .edges) (turned s) _ _ (λ i n. sym (pays i n)) (t .1),
+          stopped-same exact (lentRepaid edges l) (l .chain .edges) (swapped s) _ _ (λ i n. sym (pays i n)) (t .1),
         ))
         reward-figure
