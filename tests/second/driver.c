@@ -22,6 +22,7 @@
 
 #include "egorstream.h"
 
+#include <stdbool.h>
 #include <stddef.h>
 #include <stdio.h>
 #include <stdlib.h>
@@ -96,26 +97,54 @@ static void take(void *bytes, size_t length)
     }
 }
 
+/* What a call is handed: a file, of which a copy is kept, and memory that it may write in. */
+struct lent {
+    uint8_t *file, *copy, *memory;
+    size_t file_length, memory_length;
+};
+
+static struct lent lend(size_t file_length, size_t memory_length)
+{
+    struct lent lent = {room(file_length), room(file_length), room(memory_length), file_length, memory_length};
+    take(lent.file, file_length);
+    take(lent.memory, memory_length);
+    memcpy(lent.copy, lent.file, file_length);
+    return lent;
+}
+
+static const uint8_t *file_of(const struct lent *lent)
+{
+    return lent->file_length == 0 ? NULL : lent->file;
+}
+
+static bool unchanged(const struct lent *lent)
+{
+    return memcmp(lent->copy, lent->file, lent->file_length) == 0;
+}
+
+static void tell(const uint32_t *reply, size_t numbers, uint8_t *memory, size_t memory_length)
+{
+    fwrite(reply, sizeof *reply, numbers, stdout);
+    fwrite(memory, 1, memory_length, stdout);
+    fflush(stdout);
+    leave(memory, memory_length);
+}
+
+static void tell_lent(const uint32_t *reply, size_t numbers, const struct lent *lent)
+{
+    tell(reply, numbers, lent->memory, lent->memory_length);
+    leave(lent->copy, lent->file_length);
+    leave(lent->file, lent->file_length);
+}
+
 static void answer(void)
 {
     uint32_t request[5];
     take(request, sizeof request);
-    size_t file_length = request[1], memory_length = request[2];
-    uint8_t *file = room(file_length), *copy = room(file_length), *memory = room(memory_length);
-    take(file, file_length);
-    take(memory, memory_length);
-    memcpy(copy, file, file_length);
-
-    uint32_t reply[2];
-    reply[0] = egorstream_chance(file_length == 0 ? NULL : file, file_length, request[0], memory + request[3], request[4]);
-    reply[1] = memcmp(copy, file, file_length) == 0;
-
-    fwrite(reply, sizeof reply, 1, stdout);
-    fwrite(memory, 1, memory_length, stdout);
-    fflush(stdout);
-    leave(memory, memory_length);
-    leave(copy, file_length);
-    leave(file, file_length);
+    struct lent lent = lend(request[1], request[2]);
+    uint32_t number = egorstream_chance(file_of(&lent), lent.file_length, request[0], lent.memory + request[3], request[4]);
+    uint32_t reply[2] = {number, unchanged(&lent)};
+    tell_lent(reply, 2, &lent);
 }
 
 /* No number of an answer is so large: one that does not fit shows as one that is not expected. */
@@ -154,37 +183,23 @@ static void write_file(void)
         leave(copy[i], length);
         leave(lent[i], length);
     }
-    fwrite(reply, sizeof reply, 1, stdout);
-    fwrite(memory, 1, memory_length, stdout);
-    fflush(stdout);
-    leave(memory, memory_length);
+    tell(reply, 4, memory, memory_length);
 }
 
 static void list_steps(void)
 {
     uint32_t request[4];
     take(request, sizeof request);
-    size_t file_length = request[0], memory_length = request[1];
-    uint8_t *file = room(file_length), *copy = room(file_length), *memory = room(memory_length);
-    take(file, file_length);
-    take(memory, memory_length);
-    memcpy(copy, file, file_length);
-
-    struct egorstream_step *list = request[3] == 0 ? NULL : (struct egorstream_step *)(void *)(memory + request[2]);
-    struct egorstream_stepped stepped = egorstream_steps(file_length == 0 ? NULL : file, file_length, list, request[3]);
+    struct lent lent = lend(request[0], request[1]);
+    struct egorstream_step *list = request[3] == 0 ? NULL : (struct egorstream_step *)(void *)(lent.memory + request[2]);
+    struct egorstream_stepped stepped = egorstream_steps(file_of(&lent), lent.file_length, list, request[3]);
     uint32_t reply[6] = {stepped.number,
                          stepped.place,
                          in_four_bytes(stepped.count),
                          in_four_bytes(stepped.numerator),
                          in_four_bytes(stepped.denominator),
-                         memcmp(copy, file, file_length) == 0};
-
-    fwrite(reply, sizeof reply, 1, stdout);
-    fwrite(memory, 1, memory_length, stdout);
-    fflush(stdout);
-    leave(memory, memory_length);
-    leave(copy, file_length);
-    leave(file, file_length);
+                         unchanged(&lent)};
+    tell_lent(reply, 6, &lent);
 }
 
 int main(void)

@@ -158,12 +158,17 @@ pub struct Reply {
     pub file_unchanged: bool,
 }
 
+/// What a call says. The next call finds a new driver, so that a crash is one failure and the run
+/// goes on.
+fn asked<T>(call: impl FnOnce(&mut Driver) -> io::Result<T>) -> io::Result<T> {
+    DRIVER.with_borrow_mut(|driver| {
+        call(driver).map_err(|error| mem::replace(driver, Driver::new()).ended(error))
+    })
+}
+
 /// What the C entry returns; `memory` then holds what it left there.
 pub fn chance(call: &Call, memory: &mut [u8]) -> io::Result<Reply> {
-    DRIVER.with_borrow_mut(|driver| {
-        // The next call finds a new driver, so that a crash is one failure and the run goes on.
-        driver.call(call, memory).map_err(|error| mem::replace(driver, Driver::new()).ended(error))
-    })
+    asked(|driver| driver.call(call, memory))
 }
 
 /// One call of the writer. The buffer is the part of the memory from `start` on.
@@ -183,10 +188,7 @@ pub struct Written {
 
 /// What the writer returns; `memory` then holds what it left there.
 pub fn write(writing: &Writing, memory: &mut [u8]) -> io::Result<Written> {
-    DRIVER.with_borrow_mut(|driver| {
-        let written = driver.write(writing, memory);
-        written.map_err(|error| mem::replace(driver, Driver::new()).ended(error))
-    })
+    asked(|driver| driver.write(writing, memory))
 }
 
 /// One call of the step list's entry. The list, of so many records, is the part of the memory from
@@ -209,10 +211,7 @@ pub struct Stepped {
 
 /// What the step list's entry returns; `memory` then holds what it left there.
 pub fn steps(listing: &Listing, memory: &mut [u8]) -> io::Result<Stepped> {
-    DRIVER.with_borrow_mut(|driver| {
-        let stepped = driver.steps(listing, memory);
-        stepped.map_err(|error| mem::replace(driver, Driver::new()).ended(error))
-    })
+    asked(|driver| driver.steps(listing, memory))
 }
 
 /// What a program prints for this file on its standard input.
