@@ -14,21 +14,19 @@ use lib.Seq.{drop-at, getD-set-same, getD-set-other, take-set-le, take-set-lt, d
 use borrow.Author.Tests.{eq-eqb, ne-eqb}
 use Rattle.meaning.specs.Number.{sumTo, only, bit}
 use Rattle.meaning.specs.Chain.{M, edgeCount, from, to, weight, carried, flow, rowSum}
-use Rattle.meaning.specs.Row.{Row, cell, reward, rounding, width, rewardColumn}
+use Rattle.meaning.specs.Row.{Row, cell, width}
 use Rattle.meaning.specs.Refusal.{workSize}
-use Rattle.meaning.specs.Step.{Sets, noRow}
-use Rattle.theory.specs.Numbers.Sum.{same, sum-ext, sum-le, sum-next, sum-up}
-use Rattle.theory.specs.Numbers.Tab.{tab-of}
-use Rattle.engines.specs.Row.{Summable}
-use Rattle.engines.specs.Table.{rowAt, Kept, Put}
-use Rattle.engines.specs.First.{columnOf, share, Added, Held, Addable, Unfinished}
+use Rattle.meaning.specs.Step.{Sets}
+use Rattle.theory.specs.Numbers.Sum.{same, sum-le, sum-next, sum-up}
+use Rattle.engines.specs.Table.{partAt, Kept}
+use Rattle.engines.specs.Gather.{columnOf, share, Changed, Added, Held, Addable}
 use Rattle.engines.proofs.Tables.{kept-same, kept-more, row-end, row-cell, length-row}
 
 -- The number in column j of row i.
 module _ (n : ℕ) (w : List ℕ) (i : ℕ) (b : i < n) (j : ℕ) (h : j < width n) where
-  put-other : (x k : ℕ) → k < n → (k ≡ i → ⊥) → rowAt n (set w (i * width n + j) x) k ≡ rowAt n w k
-  unfolding rowAt
-  put-other x k l d =
+  changed-other : (x k : ℕ) → k < n → (k ≡ i → ⊥) → partAt n (set w (i * width n + j) x) k ≡ partAt n w k
+  unfolding partAt
+  changed-other x k l d =
       dite (decLt k i)
       (λ z.
       let s : ℕ = i * width n + j - k * width n in
@@ -41,22 +39,17 @@ module _ (n : ℕ) (w : List ℕ) (i : ℕ) (b : i < n) (j : ℕ) (h : j < width
       let z' : i < k = omega arith in
       ap (take (width n)) (drop-set-lt (k * width n) w (i * width n + j) x (omega (arith, mul-le-mul-right (width n) z'))))
 
-  pub put-cell : (x : ℕ) → Put n w i (set (rowAt n w i) j x) (set w (i * width n + j) x)
-  unfolding rowAt
-  put-cell x =
+  pub changed-cell : (x : ℕ) → Changed n w i (set (partAt n w i) j x) (set w (i * width n + j) x)
+  unfolding partAt
+  changed-cell x =
       record {
         kept = record {
           len = length-set w (i * width n + j) x;
           past = drop-set-lt (workSize n) w (i * width n + j) x (omega (arith, row-end i n b));
         };
         here = ap (take (width n)) (drop-set-add (i * width n) w j x) ∙ take-set-lt (width n) (drop (i * width n) w) j x h;
-        other = put-other x;
+        other = changed-other x;
       }
-
--- A row of zeros is that of a state that is not kept.
-pub zero-row : (n : ℕ) (w : List ℕ) → workSize n ≤ length w → (i : ℕ) → i < n → ((j : ℕ) → j < width n → cell (rowAt n w i) j ≡ 0) → rowAt n w i ≡ noRow n
-unfolding noRow
-zero-row n w room i b h = tab-of 0 (width n) (λ _. 0) (rowAt n w i) (length-row n w room i b) h
 
 -- The work table w once its table is zero.
 module _ (n : ℕ) (w v : List ℕ) (room : workSize n ≤ length w) (e : v ≡ replicate (workSize n) 0 ++ drop (workSize n) w) where
@@ -69,7 +62,7 @@ module _ (n : ℕ) (w v : List ℕ) (room : workSize n ≤ length w) (e : v ≡ 
         past = ap (drop size) e ∙ drop-at (replicate size 0) (drop size w) size z;
       }
 
-  pub zeros-at : (i j : ℕ) → i < n → j < width n → cell (rowAt n v i) j ≡ 0
+  pub zeros-at : (i j : ℕ) → i < n → j < width n → cell (partAt n v i) j ≡ 0
   zeros-at i j b h =
       let size = workSize n in
       let l : i * width n + j < workSize n = omega (arith, row-end i n b) in
@@ -132,17 +125,17 @@ module _ (n : ℕ) (k : Sets) (edges : List ℕ) (e : ℕ) where
       }
 
   module _ (w v : List ℕ) (room : workSize n ≤ length w) (i j x : ℕ) (b : i < n) (h : j < width n) (l : bit (k .live) i ≡ 1) (fi : i ≡ from edges e)
-      (cj : j ≡ columnOf n k (to edges e)) (wx : x ≡ weight edges e) (p : Put n w i (set (rowAt n w i) j (cell (rowAt n w i) j + x)) v) where
-    row-added : (s : ℕ) → s < width n → cell (rowAt n v i) s ≡ cell (rowAt n w i) s + share n k edges i s e
+      (cj : j ≡ columnOf n k (to edges e)) (wx : x ≡ weight edges e) (p : Changed n w i (set (partAt n w i) j (cell (partAt n w i) j + x)) v) where
+    row-added : (s : ℕ) → s < width n → cell (partAt n v i) s ≡ cell (partAt n w i) s + share n k edges i s e
     row-added s d =
         ap (λ (z : Row). cell z s) (p .here)
         ∙ ⊎-elim
         (λ (q : s ≡ j).
         rw q
-        (getD-set-same (rowAt n w i) j (cell (rowAt n w i) j + x) 0 (omega (arith, length-row n w room i b))
+        (getD-set-same (partAt n w i) j (cell (partAt n w i) j + x) 0 (omega (arith, length-row n w room i b))
         ∙ omega (arith, share-here i j l (sym fi) (sym cj))))
         (λ (q : s ≡ j → ⊥).
-        getD-set-other (rowAt n w i) j s (cell (rowAt n w i) j + x) 0 q
+        getD-set-other (partAt n w i) j s (cell (partAt n w i) j + x) 0 q
         ∙ omega (arith, share-aside i s (λ z. q (sym (cj ∙ z)))))
         (same s j)
 
@@ -165,7 +158,7 @@ pub record Gathering (n : ℕ) (k : Sets) (edges w : List ℕ) (e : ℕ) (v : Li
   pub held : Held n (λ i j. sumTo (share n k edges i j) e) w v
 
 module _ {n : ℕ} {k : Sets} {edges : List ℕ} {w : List ℕ} where
-  pub gathering-none : ((i j : ℕ) → i < n → j < width n → cell (rowAt n w i) j ≡ 0) → Gathering n k edges w 0 w
+  pub gathering-none : ((i j : ℕ) → i < n → j < width n → cell (partAt n w i) j ≡ 0) → Gathering n k edges w 0 w
   unfolding sumTo
   gathering-none h = record { soFar = omega arith; held = record { kept = kept-same n w; cells = h } }
 
@@ -210,17 +203,3 @@ module _ {n : ℕ} {k : Sets} {edges : List ℕ} {w : List ℕ} where
                 sum-up (carried edges i (λ _. 1)) e (edgeCount edges) l,
               );
         }
-
--- A row with what it earns.
-module _ {b : Bool} {n : ℕ} {alive : Bool} {x : ℕ} {r : Row} (g : Unfinished b n alive x r) (l : length r ≡ width n) where
-  pub earned-summable : alive ≡ true → Summable n (set r (rewardColumn n) x)
-  earned-summable e =
-      record {
-        columns = length-set r (rewardColumn n) x ∙ l;
-        bound =
-            rw (sum-ext (cell (set r (rewardColumn n) x)) (cell r) (rewardColumn n) (λ j h. getD-set-other r (rewardColumn n) j x 0 (λ q. omega arith)))
-            (g .bound e);
-      }
-
-  pub earned-unpaid : b ≡ rounding → reward n (set r (rewardColumn n) x) ≡ 0
-  earned-unpaid e = getD-set-same r (rewardColumn n) x 0 (omega arith) ∙ g .unpaid e

@@ -3,30 +3,37 @@ use mathlib.Core.Path.{_≡_, refl, sym, ap, _∙_}
 use mathlib.Core.Logic.{⊎-elim}
 use mathlib.Core.Bool.{Bool, true, false}
 use mathlib.Core.List.{List}
-use Prim.Native.Nat.{ℕ, _+_, _-_, _*_, _≤_, _<_}
+use Prim.Native.Nat.{ℕ, _+_, _-_, _*_, _^_, _≤_, _<_}
 use native.Mathlib.Omega.{arith}
+use native.Mathlib.Nat.{zero-div}
+use lib.Count.{ones}
 use lib.Dec.{eqb}
-use lib.ListN.{length, getD, set, length-set}
+use lib.ListN.{length, getD, set, length-set, List·getD-eq-default}
 use lib.Seq.{ext-getD, getD-set-same, getD-set-other}
 use borrow.Author.Tests.{eq-eqb, ne-eqb, eqb-true, eqb-false}
 use Rattle.meaning.specs.Number.{sumTo, only, choose, bit}
-use Rattle.meaning.specs.Chain.{Chain, denominator, edgeCount, from, to, carried, flow, along}
-use Rattle.meaning.specs.Row.{cell, trapColumn, unknownColumn, total, rounding}
+use Rattle.meaning.specs.Chain.{Chain, denominator, edgeCount, from, to, carried, flow, along, Goal, PathTo, ToGoal}
+use Rattle.meaning.specs.Row.{cell, width, trapColumn, unknownColumn, total, rounding}
 use Rattle.meaning.specs.Step.{row, Sets, Right, given, firstRow, noRow, first}
 use Rattle.meaning.specs.Refusal.{Lent, Entry, workSize, WellFormed}
-use Rattle.theory.specs.Numbers.Sum.{same, below, sum-ext, sum-zero}
+use Rattle.theory.specs.Numbers.Sum.{same, below, sum-ext, sum-zero, sum-term}
 use Rattle.theory.specs.Numbers.Tab.{tab-ext}
+use Rattle.theory.specs.Numbers.Bits.{set-apart}
+use Rattle.theory.specs.Chains.Sets.{bit-below}
 use Rattle.theory.specs.Chains.Flow.{flow-ext}
 use Rattle.theory.specs.Stages.Given.{Fate, live, won, lost, LiveRow, goes-to, given-state, given-goal, given-trap, given-unknown, given-reward, given-length, given-total}
 use Rattle.theory.specs.Stages.First.{first-row}
-use Rattle.theory.specs.Outcomes.Formed.{few-states, few-edges, formed-fine, from-in, weight-small, denominator-small, reward-small, edge-reward-small}
+use Rattle.theory.specs.Outcomes.Formed.{few-states, few-edges, some-goal, goals-in, formed-fine, from-in, weight-small, denominator-small, reward-small, edge-reward-small}
+use Rattle.engines.specs.Packed.{weightsAt}
 use Rattle.engines.specs.Pay.{pays}
-use Rattle.engines.specs.Table.{rowAt, Renewed}
-use Rattle.engines.specs.First.{columnOf, share, Held, Gatherable, finished, finishedAt, Finishable, Makeable}
+use Rattle.engines.specs.Table.{partAt, rowAt, Renewed}
+use Rattle.engines.specs.Gather.{columnOf, share, Held, Gatherable}
+use Rattle.engines.specs.First.{Packable, finished, finishedAt, Finishable, Makeable}
 use Rattle.engines.specs.Turn.{Made}
-use Rattle.engines.proofs.Rows.{noRow-fit}
-use Rattle.engines.proofs.Tables.{kept-more, length-row}
-use Rattle.engines.proofs.Cells.{zero-row, share-dead, share-live}
+use Rattle.engines.proofs.Laws.{set-room}
+use Rattle.engines.proofs.Tables.{kept-more, length-row, states-row}
+use Rattle.engines.proofs.Cells.{share-dead, share-live}
+use Rattle.engines.proofs.Packing.{zero-row}
 
 flow-none : (edges : List ℕ) (i : ℕ) → flow edges i (λ _. 0) ≡ 0
 unfolding flow carried
@@ -96,6 +103,20 @@ module _ (c : Chain) (k : Sets) where
           sums = λ i h. omega (arith, a .fine .sums i h, a .small i h);
         }
 
+    -- A live state is no goal, so that an edge leaves it; and a goal is not live, so that a part has room for the number of the targets too.
+    leaves : {i : ℕ} → ToGoal c i → (Goal c i → ⊥) → i < n
+    leaves (PathTo.here i g) d = absurd (d g)
+    leaves (PathTo.step e l p) d = a .sources e l
+
+    live-state : (i : ℕ) → bit (k .live) i ≡ 1 → i < n
+    live-state i l = let q = a .right .live i .0 l in leaves (q .leads) (q .unwon)
+
+    live-room : weightsAt + ones (k .live) ≤ width n
+    live-room =
+        let g = a .goal .0 in
+        let d : bit (k .live) g ≡ 1 → ⊥ = λ l. a .right .live g .0 l .unwon (a .goal .1 .1) in
+        set-room n g (a .goal .1 .0) (k .live) live-state (omega arith) .1
+
     -- The sum of the weights to each column is what the chain gives.
     module _ (i : ℕ) (q : LiveRow c k i) where
       by-target : (f g : ℕ → ℕ) → ((t : ℕ) → t < n → Fate c k t → f t ≡ g t) → along c i f ≡ along c i g
@@ -137,7 +158,7 @@ module _ (c : Chain) (k : Sets) where
       space = omega (arith, z .kept .len, a .room)
 
       module _ (i : ℕ) (q : LiveRow c k i) where
-        live-cell : (j : ℕ) → j < n + 3 → cell (rowAt n v i) j ≡ cell (given c k pay 0 i) j
+        live-cell : (j : ℕ) → j < n + 3 → cell (partAt n v i) j ≡ cell (given c k pay 0 i) j
         unfolding flow
         live-cell j h =
             z .cells i j (q .0) (omega arith)
@@ -145,29 +166,49 @@ module _ (c : Chain) (k : Sets) where
             (λ e _. share-live n k (c .edges) e i j (q .1))
             ∙ flow-column i q j h
 
-        live-total : total n (rowAt n v i) ≡ denominator c i
+        live-total : total n (partAt n v i) ≡ denominator c i
         live-total =
-            sum-ext (cell (rowAt n v i)) (cell (given c k pay 0 i)) (n + 3) live-cell
+            sum-ext (cell (partAt n v i)) (cell (given c k pay 0 i)) (n + 3) live-cell
             ∙ given-total c k pay (a .fine) (a .right) i q
 
-        live-row : set (rowAt n v i) (n + 3) (pay i) ≡ given c k pay 0 i
+        live-row : set (partAt n v i) (n + 3) (pay i) ≡ given c k pay 0 i
         live-row =
-            let g = set (rowAt n v i) (n + 3) (pay i) in
-            let l : length (rowAt n v i) ≡ n + 4 = length-row n v space i (q .0) in
-            let w : length (set (rowAt n v i) (n + 3) (pay i)) ≡ n + 4 = length-set (rowAt n v i) (n + 3) (pay i) ∙ l in
+            let g = set (partAt n v i) (n + 3) (pay i) in
+            let l : length (partAt n v i) ≡ n + 4 = length-row n v space i (q .0) in
+            let w : length (set (partAt n v i) (n + 3) (pay i)) ≡ n + 4 = length-set (partAt n v i) (n + 3) (pay i) ∙ l in
             ext-getD 0 g (given c k pay 0 i) (w ∙ sym (given-length c k pay 0 i))
             (λ j h.
             ⊎-elim
             (λ (e : j ≡ n + 3).
-            rw e (getD-set-same (rowAt n v i) (n + 3) (pay i) 0 (omega arith) ∙ sym (given-reward c k pay 0 i)))
+            rw e (getD-set-same (partAt n v i) (n + 3) (pay i) 0 (omega arith) ∙ sym (given-reward c k pay 0 i)))
             (λ (d : j ≡ n + 3 → ⊥).
-            getD-set-other (rowAt n v i) (n + 3) j (pay i) 0 d ∙ live-cell j (omega arith))
+            getD-set-other (partAt n v i) (n + 3) j (pay i) 0 d ∙ live-cell j (omega arith))
             (same j (n + 3)))
 
-      dead-row : (i : ℕ) → i < n → (bit (k .live) i ≡ 1 → ⊥) → rowAt n v i ≡ noRow n
-      dead-row i h d =
-          zero-row n v space i h
-          (λ j l. z .cells i j h l ∙ sum-zero (share n k (c .edges) i j) (edgeCount (c .edges)) (λ e _. share-dead n k (c .edges) e i j d))
+        live-packable : Packable (k .live) (partAt n v i)
+        live-packable =
+            let s = states-row n v space i (q .0) in
+            record {
+              few = omega (arith, a .few);
+              inside = λ j l. omega (arith, live-state j l);
+              room = omega (arith, length-row n v space i (q .0), live-room);
+              outside = λ j h l.
+                  let h' : j < n = omega arith in
+                  live-cell j (omega arith) ∙ given-state c k pay 0 i j h' ∙ rw (ne-eqb (bit (k .live) j) 1 (omega arith));
+              fits = λ j h. omega (arith, live-total, a .small i (q .0), sum-term (cell (partAt n v i)) (n + 3) j (omega arith));
+            }
+
+      module _ (i : ℕ) (h : i < n) (d : bit (k .live) i ≡ 1 → ⊥) where
+        dead-cell : (j : ℕ) → cell (partAt n v i) j ≡ 0
+        dead-cell j =
+            ⊎-elim
+            (λ (l : j < width n).
+            z .cells i j h l ∙ sum-zero (share n k (c .edges) i j) (edgeCount (c .edges)) (λ e _. share-dead n k (c .edges) e i j d))
+            (λ (l : width n ≤ j). List·getD-eq-default (partAt n v i) 0 (omega (arith, length-row n v space i h)))
+            (below j (width n))
+
+        dead-row : partAt n v i ≡ noRow n
+        dead-row = zero-row n (length-row n v space i h) (λ j _. dead-cell j)
 
       pub makeable-finishable : Finishable b n (k .live) earnings v
       makeable-finishable =
@@ -176,8 +217,10 @@ module _ (c : Chain) (k : Sets) where
             room = space;
             gathered = λ i h.
                 record {
+                  size = length-row n v space i h;
+                  ready = λ e. live-packable i (h, eqb-true (bit (k .live) i) 1 e);
                   bound = λ e. omega (arith, live-total i (h, eqb-true (bit (k .live) i) 1 e), a .small i h);
-                  fit = λ e. rw (dead-row i h (eqb-false (bit (k .live) i) 1 e)) (noRow-fit b n);
+                  zero = λ e j. dead-cell i h (eqb-false (bit (k .live) i) 1 e) j;
                   unpaid = λ e. earn i h ∙ rw (a .unpaid e);
                 };
           }
@@ -205,12 +248,21 @@ module _ (c : Chain) (k : Sets) where
                 record {
                   kept = t;
                   same = tab-ext n (rowAt n u) _ (λ i h. y .all e i h ∙ first-at i h);
+                  packed = y .packed e;
                   fit = λ i h. rw (first-is i h) at (y .fit e i h);
                 };
             unfit = λ e.
                 let l = y .large e in
                 (l .0, (l .1 .0, (l .1 .1 .0, rw (first-is (l .1 .0) (l .1 .1 .0)) at (l .1 .1 .1))));
           }
+
+-- A goal set that is not empty, and holds states alone, holds one.
+formed-goal : (x : Entry) (l : Lent) → WellFormed x l → (g : ℕ) × ((g < l .chain .states) × Goal (l .chain) g)
+formed-goal x l formed =
+    let goals = l .chain .goals in
+    let d = set-apart goals 0 (λ e. omega (arith, some-goal x l formed)) in
+    let b : bit goals (d .0) ≡ 1 = omega (arith, d .1, zero-div (2 ^ d .0)) in
+    (d .0, (bit-below goals (l .chain .states) (d .0) (goals-in x l formed) b, b))
 
 -- What a well-formed input has. The bounds engine is lent no rewards.
 pub first-given : (b : Bool) (x : Entry) (l : Lent) (k : Sets) → WellFormed x l → workSize (l .chain .states) ≤ length (l .work) → (b ≡ rounding → x .rewards ≡ false) → Right (l .chain) k
@@ -223,6 +275,7 @@ first-given b x l k formed enough free right =
       sources = from-in x l formed;
       small = denominator-small x l formed;
       right = right;
+      goal = formed-goal x l formed;
       paid = λ e.
           record {
             few = few-states x l formed;

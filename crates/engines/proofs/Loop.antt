@@ -48,6 +48,10 @@ walk-copy m r {k} {p} w e j =
     dite (decLt j k) (λ h. w .new j h)
     (λ h. let g : k ≤ j = omega arith in w .old j g ∙ getD-zeros m j ∙ sym (List·getD-eq-default r 0 (omega arith)))
 
+-- The numbers before the first that is put in stay.
+pub walk-from : {f : ℕ → ℕ} {l : List ℕ} (k : ℕ) → k ≤ length l → ((j : ℕ) → j < k → getD l j 0 ≡ f j) → Walked f l k l
+walk-from k h e = record { soFar = h; len = refl; new = e; old = λ j b. refl }
+
 -- A list that is made zero.
 pub zeros : (i m : ℕ) → tabFrom {A = ℕ} i m (λ _. 0) ≡ replicate m 0
 unfolding tabFrom

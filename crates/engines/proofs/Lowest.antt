@@ -1,20 +1,19 @@
 -- The divisor of a row, and the row divided.
 use mathlib.Core.Path.{_≡_, sym, ap, _∙_}
-use mathlib.Core.Logic.{dite, ⊎-elim}
+use mathlib.Core.Logic.{⊎-elim}
 use mathlib.Core.List.{List, [], _∷_}
-use Prim.Native.Nat.{ℕ, zero, suc, _-_, _*_, _/_, _≤_, _<_}
-use native.Mathlib.Nat.{div-le-self, zero-div, div-one, mul-div-le, mod-one}
+use Prim.Native.Nat.{ℕ, zero, suc, _-_, _*_, _≤_, _<_}
+use native.Mathlib.Nat.{div-le-self, div-one, mul-div-le, mod-one}
 use native.Mathlib.Numerals.{sub-one}
-use native.Mathlib.Decide.{decLt}
 use native.Mathlib.Omega.{arith}
-use lib.ListN.{length, getD, drop, List·getD-eq-default}
+use lib.ListN.{length, getD, drop}
 use lib.Seq.{drop-cons, ext-getD}
 use borrow.Author.Tests.{eq-eqb, ne-eqb}
 use Rattle.meaning.specs.Number.{sumTo, gcd}
 use Rattle.meaning.specs.Row.{Row, cell, gcdOf, divisor, over, lowest}
 use Rattle.theory.specs.Numbers.Sum.{same, sum-le, sum-scale}
 use Rattle.theory.specs.Numbers.Gcd.{gcd-zero, gcd-step}
-use Rattle.theory.specs.Numbers.Tab.{tab-at, tab-length}
+use Rattle.theory.specs.Rows.Terms.{over-cell, over-length}
 
 pub gcdOf-more : (l : List ℕ) (j : ℕ) → 0 < j → j ≤ length l → gcdOf (drop (j - 1) l) ≡ gcd (getD l (j - 1) 0) (gcdOf (drop j l))
 unfolding gcdOf
@@ -31,28 +30,16 @@ gcdOf-one zero l h = h
 gcdOf-one (suc j) [] h = h
 gcdOf-one (suc j) (x ∷ l) h = rw (gcdOf-one j l h) (gcd-one x)
 
-pub over-length : (d : ℕ) (r : Row) → length (over d r) ≡ length r
-unfolding over
-over-length d r = tab-length 0 (length r) (λ j. cell r j / d)
-
-pub over-at : (d : ℕ) (r : Row) (j : ℕ) → cell (over d r) j ≡ cell r j / d
-unfolding over
-over-at d r j =
-    dite (decLt j (length r)) (λ h. tab-at (length r) (λ i. cell r i / d) 0 j h)
-    (λ h.
-    let l : length r ≤ j = omega arith in
-    List·getD-eq-default (over d r) 0 (rw (over-length d r) l) ∙ sym (zero-div d) ∙ ap (λ (x : ℕ). x / d) (sym (List·getD-eq-default r 0 l)))
-
 pub over-sum : (d : ℕ) (r : Row) (m : ℕ) → sumTo (cell (over d r)) m ≤ sumTo (cell r) m
-over-sum d r m = sum-le (cell (over d r)) (cell r) m (λ j h. omega (arith, over-at d r j, div-le-self (cell r j) d))
+over-sum d r m = sum-le (cell (over d r)) (cell r) m (λ j h. omega (arith, over-cell d r j, div-le-self (cell r j) d))
 
 pub over-parts : (d : ℕ) (r : Row) (m : ℕ) → d * sumTo (cell (over d r)) m ≤ sumTo (cell r) m
 over-parts d r m =
     rw (← sum-scale d (cell (over d r)) m)
-    (sum-le (λ j. d * cell (over d r) j) (cell r) m (λ j h. rw (over-at d r j) (mul-div-le (cell r j) d)))
+    (sum-le (λ j. d * cell (over d r) j) (cell r) m (λ j h. rw (over-cell d r j) (mul-div-le (cell r j) d)))
 
 over-one : (r : Row) → over 1 r ≡ r
-over-one r = ext-getD 0 (over 1 r) r (over-length 1 r) (λ j h. over-at 1 r j ∙ div-one (cell r j))
+over-one r = ext-getD 0 (over 1 r) r (over-length 1 r) (λ j h. over-cell 1 r j ∙ div-one (cell r j))
 
 pub divisor-one : (r : Row) → gcdOf r ≤ 1 → divisor r ≡ 1
 unfolding divisor

@@ -9,12 +9,21 @@ use native.Mathlib.Numerals.{add-one}
 use native.Mathlib.Decide.{decLt}
 use native.Mathlib.Omega.{arith}
 use lib.ListN.{length, getD, set, length-set, length-append, replicate, length-replicate, List·getD-append, List·getD-eq-default}
+use lib.Count.{ones}
+use lib.Dec.{eqb}
 use lib.Seq.{getD-set-same, getD-set-other}
-use Rattle.meaning.specs.Number.{sumTo}
+use borrow.Author.Tests.{eq-eqb, ne-eqb}
+use Rattle.meaning.specs.Number.{sumTo, choose, bit, present}
 use Rattle.meaning.specs.Chain.{mostStates}
+use Rattle.meaning.specs.Row.{cell}
 use Rattle.meaning.specs.Steps.{StepRecord, rowsTo, columnsOf, largestTaken, recordOf}
-use Rattle.engines.specs.Table.{rowAt, tableOf}
+use Rattle.theory.specs.Numbers.Sum.{same, last-or-below, sum-next}
 use Rattle.theory.specs.Numbers.Tab.{getD-zeros}
+use Rattle.engines.specs.Packed.{targetsOf, placeOf, goalAt, trapAt, unpacked, Packed}
+use Rattle.engines.specs.Table.{rowAt, tableOf}
+use Rattle.engines.proofs.Places.{place-none, place-suc, place-all}
+use Rattle.engines.proofs.Unpacked.{goal-stands, trap-stands}
+use Rattle.engines.proofs.Laws.{packed-few, packed-bit}
 use Rattle.engines.proofs.Removal.{row-is}
 use Rattle.engines.specs.Log.{recordNumbers, logSize, numbersOf, HoldsRecords, Logged, Roomy, LoggedMore}
 
@@ -107,6 +116,54 @@ counting-none f = record { sum = refl; few = omega arith }
 pub counting-more : {f : ℕ → ℕ} {i r x : ℕ} → Counting f i r → (x ≡ f i) × (x ≤ 1) → Counting f (i + 1) (r + x)
 unfolding sumTo
 counting-more z e = record { sum = rw add-one (omega (arith, z .sum, e .0)); few = omega (arith, z .few) }
+
+-- The columns of a packed row but that of s in which it has a weight: its targets but s, Goal and Trap.
+module _ {n : ℕ} {p : List ℕ} (h : Packed n p) where
+  pub present-bit : (j : ℕ) → j < n → present (cell (unpacked n p) j) ≡ bit (targetsOf p) j
+  present-bit j l =
+      ⊎-elim
+      (λ (e : bit (targetsOf p) j ≡ 1). rw (ne-eqb (cell (unpacked n p) j) 0 (λ z. omega (arith, packed-bit h j l .0 e))) (sym e))
+      (λ (d : bit (targetsOf p) j ≡ 1 → ⊥).
+      let z : cell (unpacked n p) j ≡ 0 = ⊎-elim (λ (e : cell (unpacked n p) j ≡ 0). e) (λ (f : cell (unpacked n p) j ≡ 0 → ⊥). absurd (d (packed-bit h j l .1 (omega arith)))) (same (cell (unpacked n p) j) 0) in
+      rw (eq-eqb (cell (unpacked n p) j) 0 z) (omega arith))
+      (same (bit (targetsOf p) j) 1)
+
+  module _ (s : ℕ) where
+    abbrev leads : ℕ → ℕ
+    leads j = choose (eqb j s) 0 (present (cell (unpacked n p) j))
+
+    leads-other : (j : ℕ) → j < n → (j ≡ s → ⊥) → leads j ≡ bit (targetsOf p) j
+    leads-other j l d = rw (ne-eqb j s d) (present-bit j l)
+
+    before-own : (m : ℕ) → m ≤ s → m ≤ n → sumTo leads m ≡ placeOf (targetsOf p) m
+    unfolding sumTo
+    before-own zero a b = sym (place-none (targetsOf p))
+    before-own (suc m) a b =
+        omega (arith, before-own m (omega arith) (omega arith), leads-other m (omega arith) (λ e. omega arith), place-suc (targetsOf p) m)
+
+    past-own : (m : ℕ) → s < m → m ≤ n → sumTo leads m + bit (targetsOf p) s ≡ placeOf (targetsOf p) m
+    unfolding sumTo
+    past-own zero a b = absurd (omega arith)
+    past-own (suc m) a b =
+        last-or-below a
+        (λ (e : s ≡ m).
+        let z : leads m ≡ 0 = rw (eq-eqb m s (sym e)) in
+        omega (arith, before-own m (omega arith) (omega arith), place-suc (targetsOf p) m, ap (bit (targetsOf p)) e))
+        (λ (l : s < m). omega (arith, past-own m l (omega arith), leads-other m (omega arith) (λ e. omega arith), place-suc (targetsOf p) m))
+
+    pub columns-packed : s < n → columnsOf n s (unpacked n p) + bit (targetsOf p) s ≡ ones (targetsOf p) + present (getD p goalAt 0) + present (getD p trapAt 0)
+    columns-packed l =
+        let g : leads n ≡ present (getD p goalAt 0) = rw (ne-eqb n s (λ e. omega arith)) (ap present (goal-stands n .here p)) in
+        let t : leads (n + 1) ≡ present (getD p trapAt 0) = rw (ne-eqb (n + 1) s (λ e. omega arith)) (ap present (trap-stands n .here p)) in
+        omega (
+          arith,
+          sum-next leads (n + 1) (n + 2) (omega arith),
+          sum-next leads n (n + 1) (omega arith),
+          past-own n l (omega arith),
+          place-all (targetsOf p) n (packed-few h),
+          g,
+          t,
+        )
 
 -- The record of the removal of s, from what was counted before and the divisor of the step.
 pub record-is : (n s : ℕ) (w : List ℕ) → s < n → {a b d : ℕ} → a ≡ rowsTo n s (tableOf n w) → b ≡ columnsOf n s (rowAt n w s)

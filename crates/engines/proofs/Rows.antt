@@ -2,27 +2,31 @@
 use mathlib.Core.Path.{_≡_, refl, sym, ap, subst, _∙_}
 use mathlib.Core.Logic.{dite, inl, inr}
 use mathlib.Core.Bool.{Bool, true, false}
+use mathlib.Core.List.{List}
 use Prim.Native.Nat.{ℕ, _+_, _-_, _*_, _^_, _≤_, _<_}
 use native.Mathlib.Nat.{mul-le-mul, zero-div, le-div-iff-mul-le}
 use native.Mathlib.Decide.{decLt}
 use native.Mathlib.Omega.{arith}
 use lib.Dec.{eqb}
-use lib.ListN.{length, set, replicate}
+use lib.ListN.{length, set}
 use lib.Seq.{getD-set-same, getD-set-other}
 use borrow.Author.Tests.{le-ltb, lt-ltb, eq-eqb, ne-eqb}
 use Rattle.meaning.specs.Number.{sumTo, choose}
 use Rattle.meaning.specs.Chain.{M}
-use Rattle.meaning.specs.Row.{Row, cell, total, reward, divisor, over, lowest, upTo, shiftOf, topped, roundedBy, rounded, bounded, settled, width, unknownColumn, rewardColumn}
+use Rattle.meaning.specs.Row.{Row, cell, total, reward, divisor, over, lowest, upTo, shiftOf, topped, roundedBy, rounded, bounded, settled, width, unknownColumn, rewardColumn, rounding}
 use Rattle.meaning.specs.Steps.{takenOut}
 use Rattle.meaning.specs.Step.{noRow, combined, renewed}
-use Rattle.theory.specs.Numbers.Sum.{sum-ext, sum-le, sum-zero, sum-next, sum-up, sum-mix, sum-term}
-use Rattle.theory.specs.Numbers.Tab.{tab-at, tab-length}
+use Rattle.theory.specs.Numbers.Sum.{sum-ext, sum-le, sum-zero, sum-next, sum-up, sum-mix}
+use Rattle.theory.specs.Numbers.Tab.{tab-at, tab-length, getD-zeros}
 use Rattle.theory.specs.Numbers.Shift.{pow-whole, shift-fits}
+use Rattle.theory.specs.Rows.Terms.{over-cell}
 use Rattle.engines.specs.declared.row.Settled.{Settled}
-use Rattle.engines.specs.Row.{Small, Summable, Fit, Tested, Became}
-use Rattle.theory.specs.Numbers.Tab.{getD-zeros}
+use Rattle.engines.specs.Packed.{unpacked, Packed}
+use Rattle.engines.specs.Row.{Summable, Fit, Removable, Tested, Became}
 use Rattle.engines.proofs.Loop.{zeros}
-use Rattle.engines.proofs.Lowest.{over-at, over-sum, over-parts}
+use Rattle.engines.proofs.Lowest.{over-parts}
+use Rattle.engines.proofs.Unpacked.{unpacked-length}
+use Rattle.engines.proofs.Laws.{packed-held, fit-small}
 
 topped-total : (n t : ℕ) (r : Row) → length r ≡ width n → sumTo (cell r) (unknownColumn n) ≤ t → total n (topped n t r) ≡ t
 topped-total n t r l h =
@@ -34,15 +38,6 @@ topped-total n t r l h =
     )
 
 -- Of a row that was divided, all columns but Unknown and Reward.
-module _ (n d : ℕ) (r q : Row) (e : q ≡ over d r) where
-  pub rest-le : sumTo (cell q) (unknownColumn n) ≤ total n r
-  rest-le =
-      rw e
-      (omega (arith, over-sum d r (unknownColumn n), sum-up (cell r) (unknownColumn n) (rewardColumn n) (omega arith)))
-
-  pub total-le : total n q ≤ total n r
-  total-le = rw e (over-sum d r (rewardColumn n))
-
 pub rest-up : (n k : ℕ) (r q : Row) → q ≡ over (2 ^ k) r → (t : ℕ) → t ≡ total n r → sumTo (cell q) (unknownColumn n) ≤ upTo t k
 rest-up n k r q e t et =
     rw (e, et)
@@ -76,8 +71,8 @@ module _ (n : ℕ) (r : Row) where
   bounded-off b e = rw e
 
   -- A row that earns nothing earns nothing once it is settled.
-  over-unpaid : (d : ℕ) → reward n r ≡ 0 → reward n (over d r) ≡ 0
-  over-unpaid d h = over-at d r (rewardColumn n) ∙ rw h (zero-div d)
+  pub over-unpaid : (d : ℕ) → reward n r ≡ 0 → reward n (over d r) ≡ 0
+  over-unpaid d h = over-cell d r (rewardColumn n) ∙ rw h (zero-div d)
 
 bounded-unpaid : (n : ℕ) (r : Row) → reward n r ≡ 0 → reward n (bounded true n r) ≡ 0
 unfolding roundedBy
@@ -91,63 +86,63 @@ settled-fit n r q b e eq h z =
     let y : reward n q ≡ 0 = rw eq (bounded-unpaid n (lowest r) (over-unpaid n r (divisor r) z)) in
     record { weights = h; earned = omega arith; unpaid = λ _. y }
 
-pub fit-small : {b : Bool} (n : ℕ) (r : Row) → Fit b n r → Small (width n) r
-fit-small n r h j b =
-    dite (decLt j (rewardColumn n)) (λ l. omega (arith, h .weights, sum-term (cell r) (rewardColumn n) j l))
-    (λ l. let e : j ≡ rewardColumn n = omega arith in rw e (h .earned))
-
 choose-le : (b : Bool) (x : ℕ) → choose b 0 x ≤ x
 choose-le true x = omega arith
 choose-le false x = omega arith
 
-module _ (b : Bool) (n s d : ℕ) (p r : Row) (l : length r ≡ width n) (hs : s < n) (hr : Fit b n r) (hp : Fit b n p) where
-  combined-at : (j : ℕ) → j < width n → cell (combined s d p r) j ≤ cell r j * d + cell r s * cell p j
-  unfolding combined
-  combined-at j h =
-      rw (tab-at (length r) (λ j. choose (eqb j s) 0 (cell r j * d + cell r s * cell p j)) 0 j (omega arith))
-      (choose-le (eqb j s) (cell r j * d + cell r s * cell p j))
+combined-at : (s d : ℕ) (p r : Row) (j : ℕ) → j < length r → cell (combined s d p r) j ≤ cell r j * d + cell r s * cell p j
+unfolding combined
+combined-at s d p r j h =
+    rw (tab-at (length r) (λ j. choose (eqb j s) 0 (cell r j * d + cell r s * cell p j)) 0 j h)
+    (choose-le (eqb j s) (cell r j * d + cell r s * cell p j))
 
-  combined-length : length (combined s d p r) ≡ length r
-  unfolding combined
-  combined-length = tab-length 0 (length r) _
+-- The new row of a part p that fits, once s is removed: v can be summed, and earns nothing in the bounds engine.
+module _ {b : Bool} {n s d : ℕ} {pivot y : List ℕ} (h : Removable b n s d pivot y) (p : List ℕ) {v : List ℕ} (f : Fit b n (unpacked n p)) (k : Packed n v)
+    (e : unpacked n v ≡ combined s d (unpacked n pivot) (unpacked n p)) where
+  new-at : (j : ℕ) → j < width n → cell (unpacked n v) j ≤ cell (unpacked n p) j * d + cell (unpacked n p) s * cell (unpacked n pivot) j
+  new-at j l = rw e (combined-at s d (unpacked n pivot) (unpacked n p) j (omega (arith, unpacked-length n p)))
 
-  pub combined-summable : d ≤ M → Summable n (combined s d p r)
-  combined-summable hd =
+  pub combined-summable : Summable n v
+  combined-summable =
+      let r = unpacked n p in
+      let x = unpacked n pivot in
       record {
-        columns = combined-length ∙ l;
+        size = k .size;
+        inside = k .inside;
+        held = packed-held (omega (arith, h .state)) k;
         bound = omega (
           arith,
-          sum-le (cell (combined s d p r)) (λ j. cell r j * d + cell r s * cell p j) (rewardColumn n) (λ j h. combined-at j (omega arith)),
-          sum-mix (cell r) (cell p) d (cell r s) (rewardColumn n),
-          mul-le-mul (hr .weights) hd,
-          mul-le-mul (fit-small n r hr s (omega arith)) (hp .weights),
+          sum-le (cell (unpacked n v)) (λ j. cell r j * d + cell r s * cell x j) (rewardColumn n) (λ j l. new-at j (omega arith)),
+          sum-mix (cell r) (cell x) d (cell r s) (rewardColumn n),
+          mul-le-mul (f .weights) (h .divisor),
+          mul-le-mul (fit-small n r f s (omega (arith, h .state))) (h .fit .weights),
         );
       }
 
-  pub combined-unpaid : b ≡ true → reward n (combined s d p r) ≡ 0
-  combined-unpaid e =
+  pub combined-unpaid : b ≡ rounding → reward n (unpacked n v) ≡ 0
+  combined-unpaid z =
       omega (
         arith,
-        combined-at (rewardColumn n) (omega arith),
-        ap (λ x. x * d) (hr .unpaid e),
-        ap (λ x. cell r s * x) (hp .unpaid e),
+        new-at (rewardColumn n) (omega arith),
+        ap (λ x. x * d) (f .unpaid z),
+        ap (λ x. cell (unpacked n p) s * x) (h .fit .unpaid z),
       )
 
--- A row that is made zero is that of a state that is not kept.
-pub zeros-noRow : (n : ℕ) (r : Row) → length r ≡ width n → replicate (length r) 0 ≡ noRow n
+-- The row of a state that is not kept.
+pub noRow-length : (n : ℕ) → length (noRow n) ≡ width n
 unfolding noRow
-zeros-noRow n r l = rw l (sym (zeros 0 (width n)))
+noRow-length n = tab-length 0 (width n) _
 
-noRow-at : (n j : ℕ) → cell (noRow n) j ≡ 0
+pub noRow-cell : (n j : ℕ) → cell (noRow n) j ≡ 0
 unfolding noRow
-noRow-at n j = rw (zeros 0 (width n)) (getD-zeros (width n) j)
+noRow-cell n j = rw (zeros 0 (width n)) (getD-zeros (width n) j)
 
 pub noRow-fit : (b : Bool) (n : ℕ) → Fit b n (noRow n)
 noRow-fit b n =
     record {
-      weights = omega (arith, sum-zero (cell (noRow n)) (rewardColumn n) (λ j _. noRow-at n j));
-      earned = omega (arith, noRow-at n (rewardColumn n));
-      unpaid = λ _. noRow-at n (rewardColumn n);
+      weights = omega (arith, sum-zero (cell (noRow n)) (rewardColumn n) (λ j _. noRow-cell n j));
+      earned = omega (arith, noRow-cell n (rewardColumn n));
+      unpaid = λ _. noRow-cell n (rewardColumn n);
     }
 
 module _ (b : Bool) (n s d : ℕ) (p r : Row) where
@@ -184,10 +179,11 @@ apart e = let z : _≡_ {A = ℕ} 0 1 = cc in omega arith
 pub tested-fit : {b : Bool} {n : ℕ} {r : Row} → Fit b n r → Tested b n r true
 tested-fit f = record { fit = λ _. f; large = λ e. absurd (apart (sym e)) }
 
--- A row that is known, whether it fits, and the divisor that was taken out of it.
-pub became : {b : Bool} {n : ℕ} {r : Row} {taken : ℕ} {v : Row} {answer : Settled} → v ≡ r → Tested b n v (answer .fits) → answer .divisor ≡ taken
-    → Became b n r taken v answer
-became {b} {n} {answer = answer} e t d = record { same = e; tested = subst (λ z. Tested b n z (answer .fits)) e t; told = d }
+-- A part that is packed, whose row is known and whether that fits, and the divisor that was taken out of it.
+pub became : {b : Bool} {n : ℕ} {r : Row} {taken : ℕ} {v : List ℕ} {answer : Settled} → unpacked n v ≡ r → Packed n v
+    → Tested b n (unpacked n v) (answer .fits) → answer .divisor ≡ taken → Became b n r taken v answer
+became {b} {n} {answer = answer} e k t d =
+    record { same = e; packed = k; tested = subst (λ z. Tested b n z (answer .fits)) e t; told = d }
 
 pub tested-total : {n : ℕ} {r : Row} → M < total n r → Tested false n r false
 tested-total h = record { fit = λ e. absurd (apart e); large = λ _. (refl, inl h) }

@@ -1,4 +1,4 @@
--- Rows of a table that lies in one list, and what a row that is lent and comes back leaves.
+-- Parts of a table that lies in one list, and what a part that is lent and comes back leaves.
 use mathlib.Core.Path.{_≡_, refl, sym, ap, _∙_}
 use mathlib.Core.Logic.{dite}
 use mathlib.Core.Bool.{Bool}
@@ -13,8 +13,9 @@ use borrow.Rule.Slice.PartMut.{putMid, drop-put, same-len-mid}
 use Rattle.meaning.specs.Row.{Row, width}
 use Rattle.meaning.specs.Refusal.{workSize}
 use Rattle.engines.specs.declared.row.Settled.{Settled}
+use Rattle.engines.specs.Packed.{statesOf, unpacked, Packed}
 use Rattle.engines.specs.Row.{Became}
-use Rattle.engines.specs.Table.{rowAt, Kept, Put, Placed}
+use Rattle.engines.specs.Table.{partAt, Kept, Put, Placed}
 
 pub kept-same : (n : ℕ) (w : List ℕ) → Kept n w w
 kept-same n w = record { len = refl; past = refl }
@@ -25,8 +26,8 @@ kept-more k l = record { len = l .len ∙ k .len; past = l .past ∙ k .past }
 pub row-end : (i n : ℕ) → i < n → i * width n + width n ≤ workSize n
 row-end i n h = omega (arith, mul-le-mul-right (width n) h)
 
--- The list with r in the place of row i.
-unfoldable withRow : ℕ → List ℕ → ℕ → Row → List ℕ
+-- The list with r in the place of the part of row i.
+unfoldable withRow : ℕ → List ℕ → ℕ → List ℕ → List ℕ
 withRow n w i r = take (i * width n) w ++ (r ++ drop (width n) (drop (i * width n) w))
 
 mid-drop : (a m : ℕ) (w r : List ℕ) → length r ≡ m → a + m ≤ length w → drop (a + m) (putMid a m w r) ≡ drop (a + m) w
@@ -36,31 +37,35 @@ mid-drop a m w r l h =
 
 -- Row i, which begins at a, as it is lent, and the table as it comes back.
 module _ (n i a : ℕ) (p : a ≡ i * width n) (w : List ℕ) where
-  pub lent : take (a + n + 4 - a) (drop a w) ≡ rowAt n w i
-  unfolding rowAt
+  pub lent : take (a + n + 4 - a) (drop a w) ≡ partAt n w i
+  unfolding partAt
   lent = let k : a + n + 4 - a ≡ width n = omega arith in rw (k, p)
 
-  back : (r : Row) → putMid a (a + n + 4 - a) w r ≡ withRow n w i r
+  back : (r : List ℕ) → putMid a (a + n + 4 - a) w r ≡ withRow n w i r
   unfolding withRow
   back r = let k : a + n + 4 - a ≡ width n = omega arith in rw (k, p)
 
 -- The number in column j of row i.
-pub row-cell : (n : ℕ) (w : List ℕ) (i j : ℕ) → j < width n → getD (rowAt n w i) j 0 ≡ getD w (i * width n + j) 0
-unfolding rowAt
+pub row-cell : (n : ℕ) (w : List ℕ) (i j : ℕ) → j < width n → getD (partAt n w i) j 0 ≡ getD w (i * width n + j) 0
+unfolding partAt
 row-cell n w i j h = getD-take (width n) (drop (i * width n) w) j 0 h ∙ getD-drop (i * width n) w j 0
 
 module _ (n : ℕ) (w : List ℕ) (room : workSize n ≤ length w) (i : ℕ) (b : i < n) where
-  pub length-row : length (rowAt n w i) ≡ width n
-  unfolding rowAt
+  pub length-row : length (partAt n w i) ≡ width n
+  unfolding partAt
   length-row =
       length-take-le (width n) (drop (i * width n) w) (simp length-drop (omega (arith, row-end i n b)))
 
-  module _ (r : Row) (l : length r ≡ width n) where
+  -- So it is of n states.
+  pub states-row : statesOf (partAt n w i) ≡ n
+  states-row = omega (arith, length-row)
+
+  module _ (r : List ℕ) (l : length r ≡ width n) where
     at-start : length (take (i * width n) w) ≡ i * width n
     at-start = length-take-le (i * width n) w (omega (arith, row-end i n b))
 
-    row-same : rowAt n (withRow n w i r) i ≡ r
-    unfolding rowAt withRow
+    row-same : partAt n (withRow n w i r) i ≡ r
+    unfolding partAt withRow
     row-same =
         ap (take (width n)) (drop-at (take (i * width n) w) (r ++ drop (width n) (drop (i * width n) w)) (i * width n) at-start)
         ∙ take-at r (drop (width n) (drop (i * width n) w)) (width n) l
@@ -91,12 +96,12 @@ module _ (n : ℕ) (w : List ℕ) (room : workSize n ≤ length w) (i : ℕ) (b 
         ∙ getD-drop e w (k - e) 0
         ∙ ap (λ (x : ℕ). getD w x 0) (sym q)
 
-row-other : (n : ℕ) (w : List ℕ) (room : workSize n ≤ length w) (i : ℕ) (b : i < n) (r : Row) (l : length r ≡ width n) (j : ℕ) → j < n
-    → (j ≡ i → ⊥) → rowAt n (withRow n w i r) j ≡ rowAt n w j
+row-other : (n : ℕ) (w : List ℕ) (room : workSize n ≤ length w) (i : ℕ) (b : i < n) (r : List ℕ) (l : length r ≡ width n) (j : ℕ) → j < n
+    → (j ≡ i → ⊥) → partAt n (withRow n w i r) j ≡ partAt n w j
 row-other n w room i b r l j c d =
     let v = withRow n w i r in
     let room' : workSize n ≤ length (withRow n w i r) = rw (length-with n w room i b r l) room in
-    ext-getD 0 (rowAt n v j) (rowAt n w j) (length-row n v room' j c ∙ sym (length-row n w room j c))
+    ext-getD 0 (partAt n v j) (partAt n w j) (length-row n v room' j c ∙ sym (length-row n w room j c))
     (λ k h.
     let h' : k < width n = omega (arith, length-row n v room' j c) in
     row-cell n v j k h'
@@ -111,25 +116,26 @@ drop-past e m v w h q =
     let k : e + (m - e) ≡ m = omega arith in
     rw k at (sym (drop-drop (m - e) e v) ∙ ap (drop (m - e)) q ∙ drop-drop (m - e) e w)
 
-put-with : (n : ℕ) (w : List ℕ) (room : workSize n ≤ length w) (i : ℕ) (b : i < n) (r : Row) (l : length r ≡ width n) → Put n w i r (withRow n w i r)
-put-with n w room i b r l =
+put-with : (n : ℕ) (w : List ℕ) (room : workSize n ≤ length w) (i : ℕ) (b : i < n) (q : List ℕ) {r : Row} → Packed n q → unpacked n q ≡ r → Put n w i r (withRow n w i q)
+put-with n w room i b q h e =
+    let l = h .size in
+    let s = row-same n w room i b q l in
     record {
       kept = record {
-        len = length-with n w room i b r l;
-        past = drop-past (i * width n + width n) (workSize n) (withRow n w i r) w (row-end i n b) (after-row n w room i b r l);
+        len = length-with n w room i b q l;
+        past = drop-past (i * width n + width n) (workSize n) (withRow n w i q) w (row-end i n b) (after-row n w room i b q l);
       };
-      here = row-same n w room i b r l;
-      other = row-other n w room i b r l;
+      packed = rw s h;
+      here = rw s e;
+      other = row-other n w room i b q l;
     }
 
--- A row that was lent as `lent` says, has become r, and is back.
-pub row-placed : (n : ℕ) (w : List ℕ) (room : workSize n ≤ length w) (i : ℕ) (h : i < n) (a : ℕ) (p : a ≡ i * width n) {b : Bool} {q r : Row} {taken : ℕ} {answer : Settled}
-    → length q ≡ length (take (a + n + 4 - a) (drop a w)) → Became b n r taken q answer → Placed b n w i r taken (putMid a (a + n + 4 - a) w q) answer
-row-placed n w room i h a p {q = q} l z =
+-- A part that was lent as `lent` says, has become q, which stands for r, and is back.
+pub row-placed : (n : ℕ) (w : List ℕ) (room : workSize n ≤ length w) (i : ℕ) (h : i < n) (a : ℕ) (p : a ≡ i * width n) {b : Bool} {q : List ℕ} {r : Row} {taken : ℕ} {answer : Settled}
+    → Became b n r taken q answer → Placed b n w i r taken (putMid a (a + n + 4 - a) w q) answer
+row-placed n w room i h a p {q = q} z =
     record {
-      put =
-          rw (back n i a p w q, ← z .same)
-          (put-with n w room i h q (l ∙ ap length (lent n i a p w) ∙ length-row n w room i h));
+      put = rw (back n i a p w q) (put-with n w room i h q (z .packed) (z .same));
       tested = z .tested;
       told = z .told;
     }

@@ -16,13 +16,14 @@ use Rattle.meaning.specs.Steps.{recordOf, recordsAlong}
 use Rattle.meaning.specs.Stop.{Unfit}
 use Rattle.theory.specs.Stages.Records.{records-few}
 use Rattle.engines.specs.Row.{Fit}
-use Rattle.engines.specs.Table.{tableOf, Fitting}
+use Rattle.engines.specs.Table.{tableOf, Spare, Fitting}
 use Rattle.engines.specs.Turn.{Reached, Made}
 use Rattle.engines.specs.Log.{Logged, Roomy, LoggedMore}
 use Rattle.engines.specs.Order.{UnstoppedWalk, Finished, Overflown, recordsWalked}
 use Rattle.engines.proofs.Rows.{apart}
 use Rattle.engines.proofs.Tables.{kept-same, kept-more}
 use Rattle.engines.proofs.Removal.{row-is}
+use Rattle.engines.proofs.Spare.{after-spare}
 use Rattle.engines.proofs.Noting.{logged-roomy}
 
 -- The turn of a state that goes, and of one that is passed over.
@@ -31,7 +32,7 @@ pub made-goes : {b : Bool} {n : ℕ} {t : Table} {w v : List ℕ} {r : Bool} (u 
 made-goes u g e z = rw e z
 
 reached-same : (b : Bool) (n : ℕ) (w : List ℕ) → Fitting b n w → Reached b n (tableOf n w) w w
-reached-same b n w h = record { kept = kept-same n w; same = refl; fit = λ i l. rw (row-is n w i l) (h .fit i l) }
+reached-same b n w h = record { kept = kept-same n w; same = refl; packed = h .packed; fit = λ i l. rw (row-is n w i l) (h .fit i l) }
 
 pub made-stays : {b : Bool} {n : ℕ} {w : List ℕ} (t : Table) (g : Bool) → g ≡ false → Fitting b n w
     → Made b n (choose g t (tableOf n w)) w w true
@@ -44,12 +45,14 @@ fit-unfit b n t f u =
     ⊎-elim (λ l. omega (arith, h .weights)) (λ l. omega (arith, h .earned)) (u .1 .1 .1)
 
 -- A table that is reached is ready for the walk.
-pub reached-fitting : {b : Bool} {n : ℕ} {t : Table} {w v : List ℕ} → n ≤ mostStates → workSize n ≤ length w → Reached b n t w v → Fitting b n v
-reached-fitting {n = n} {v = v} few room z =
+pub reached-fitting : {b : Bool} {n : ℕ} {t : Table} {w v : List ℕ} → n ≤ mostStates → workSize n ≤ length w → Spare n t → Reached b n t w v → Fitting b n v
+reached-fitting {n = n} {v = v} few room spare z =
     record {
       few = few;
       room = omega (arith, z .kept .len);
+      packed = z .packed;
       fit = λ i h. rw (← z .same, row-is n v i h) at (z .fit i h);
+      spare = rw (z .same) spare;
     }
 
 -- The tables of the walk that begins with the table in w.
@@ -75,7 +78,7 @@ module _ {b : Bool} {n : ℕ} {go : ℕ → Bool} {o : List ℕ} {w : List ℕ} 
 
   module _ {p : ℕ} {v : List ℕ} (z : Eliminating b n go o w p v) where
     pub eliminating-fitting : Fitting b n w → Fitting b n v
-    eliminating-fitting h = reached-fitting (h .few) (h .room) (z .reached)
+    eliminating-fitting h = reached-fitting (h .few) (h .room) (after-spare b n go o (tableOf n w) (h .spare) p) (z .reached)
 
     -- The turn at position p, which speaks of the table in v.
     module _ (l : p < n) {u : List ℕ} {r : Bool}
@@ -93,7 +96,7 @@ module _ {b : Bool} {n : ℕ} {go : ℕ → Bool} {o : List ℕ} {w : List ℕ} 
             clear = λ q c.
                 dite (decLt q (suc p)) (λ k. z .clear q (omega arith))
                 (λ k. let a : q ≡ suc p = omega arith in rw a (fit-unfit b n (tables b n go o w (suc p)) (m .fit)));
-            reached = record { kept = kept-more (z .reached .kept) (m .kept); same = m .same; fit = m .fit };
+            reached = record { kept = kept-more (z .reached .kept) (m .kept); same = m .same; packed = m .packed; fit = m .fit };
           })
 
       pub eliminating-overflown : r ≡ false → Overflown b n (tables b n go o w) w u p

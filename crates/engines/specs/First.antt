@@ -1,57 +1,35 @@
--- The first rows: what is gathered along the edges, what is made of it, and what is asked of the chain.
+-- The first rows: what is made of the gathered weights, and what is asked of the chain.
 use mathlib.Core.Path.{_≡_}
 use mathlib.Core.Bool.{Bool, true, false}
-use mathlib.Core.List.{List, []}
+use mathlib.Core.List.{List}
 use Prim.Native.Nat.{ℕ, _+_, _^_, _≤_, _<_}
+use lib.Count.{ones}
 use lib.Dec.{eqb}
 use lib.ListN.{length, getD, set}
-use Rattle.meaning.specs.Number.{only, choose, bit}
-use Rattle.meaning.specs.Chain.{mostStates, M, Chain, denominator, edgeCount, from, to, weight, carried, rowSum}
-use Rattle.meaning.specs.Row.{Row, cell, width, total, goalColumn, trapColumn, rewardColumn, divisor, settled, rounding}
+use Rattle.meaning.specs.Number.{choose, bit}
+use Rattle.meaning.specs.Chain.{mostStates, M, Chain, denominator, edgeCount, from, Goal}
+use Rattle.meaning.specs.Row.{Row, cell, width, total, rewardColumn, divisor, settled, rounding}
 use Rattle.meaning.specs.Step.{Sets, Right}
 use Rattle.meaning.specs.Refusal.{workSize}
 use Rattle.theory.specs.Chains.Fine.{Fine}
 use Rattle.engines.specs.Pay.{Earnable}
-use Rattle.engines.specs.Row.{Fit}
-use Rattle.engines.specs.Table.{rowAt, Kept}
+use Rattle.engines.specs.Packed.{statesOf, weightsAt, unpacked, Packed}
+use Rattle.engines.specs.Table.{partAt}
 
--- The column of a target in the row of a live state: its own where it is live, else Goal where it has a path to a goal, since then it is one,
--- else Trap.
-unfoldable pub columnOf : ℕ → Sets → ℕ → ℕ
-columnOf n k t =
-    choose (eqb (bit (k .live) t) 1) t (choose (eqb (bit (k .good) t) 1) (goalColumn n) (trapColumn n))
+-- A row that was gathered by columns in its own part can be packed: its weights are to states of the set live, which leaves a state out, and fit.
+pub record Packable (live : ℕ) (p : List ℕ) : Type 0 where
+  pub few : statesOf p ≤ mostStates
+  pub inside : (j : ℕ) → bit live j ≡ 1 → j < statesOf p
+  pub room : weightsAt + ones live ≤ length p
+  pub outside : (j : ℕ) → j < statesOf p → bit live j ≡ 0 → cell p j ≡ 0
+  pub fits : (j : ℕ) → j < statesOf p → cell p j ≤ M
 
--- What edge e brings to column j of row i: nothing where i is not live.
-unfoldable pub share : ℕ → Sets → List ℕ → ℕ → ℕ → ℕ → ℕ
-share n k edges i j e = only (eqb (bit (k .live) i) 1) (carried edges i (λ t. only (eqb (columnOf n k t) j) 1) e)
+-- p has become v: the gathered row with what it earns, packed.
+pub record PackedFrom (earns : ℕ) (p v : List ℕ) : Type 0 where
+  pub packed : (n : ℕ) → length p ≡ width n → Packed n v
+  pub row : (n : ℕ) → length p ≡ width n → unpacked n v ≡ set p (rewardColumn n) earns
 
--- In v each number of the table is that of w and what `more` says of its row and column.
-pub record Added (n : ℕ) (more : ℕ → ℕ → ℕ) (w v : List ℕ) : Type 0 where
-  pub kept : Kept n w v
-  pub cells : (i j : ℕ) → i < n → j < width n → cell (rowAt n v i) j ≡ cell (rowAt n w i) j + more i j
-
--- In v the table is what `held` says of each row and column.
-pub record Held (n : ℕ) (held : ℕ → ℕ → ℕ) (w v : List ℕ) : Type 0 where
-  pub kept : Kept n w v
-  pub cells : (i j : ℕ) → i < n → j < width n → cell (rowAt n v i) j ≡ held i j
-
--- Edge e can be added to the table in w.
-pub record Addable (n : ℕ) (edges : List ℕ) (e : ℕ) (w : List ℕ) : Type 0 where
-  pub few : n ≤ mostStates
-  pub room : workSize n ≤ length w
-  pub source : from edges e < n
-  pub target : to edges e < n
-  pub small : (j : ℕ) → j < width n → cell (rowAt n w (from edges e)) j + weight edges e ≤ M
-
--- The edges can be gathered in the table in w.
-pub record Gatherable (n : ℕ) (edges w : List ℕ) : Type 0 where
-  pub few : n ≤ mostStates
-  pub room : workSize n ≤ length w
-  pub sources : (e : ℕ) → e < edgeCount edges → from edges e < n
-  pub targets : (e : ℕ) → e < edgeCount edges → to edges e < n
-  pub sums : (i : ℕ) → i < n → rowSum edges i ≤ M
-
--- A row that is gathered, with what it earns, and settled; the row of a state that is not live stays.
+-- A row that is gathered, with what it earns, and settled; the row of a state that is not live, for which nothing is gathered, stays.
 unfoldable pub finished : Bool → ℕ → Bool → ℕ → Row → Row
 finished b n alive earns r = choose alive (settled b n (set r (rewardColumn n) earns)) r
 
@@ -59,24 +37,26 @@ finished b n alive earns r = choose alive (settled b n (set r (rewardColumn n) e
 unfoldable pub finishedDivisor : ℕ → Bool → ℕ → Row → ℕ
 finishedDivisor n alive earns r = choose alive (divisor (set r (rewardColumn n) earns)) 1
 
--- What is known of a gathered row: the row of a live state can be summed, that of another fits, and the bounds engine earns nothing.
-pub record Unfinished (b : Bool) (n : ℕ) (alive : Bool) (earns : ℕ) (r : Row) : Type 0 where
+-- What is known of a gathered row: that of a live state can be packed and summed, that of another is zero, and the bounds engine earns nothing.
+pub record Unfinished (b : Bool) (n : ℕ) (alive : Bool) (live earns : ℕ) (r : Row) : Type 0 where
+  pub size : length r ≡ width n
+  pub ready : alive ≡ true → Packable live r
   pub bound : alive ≡ true → total n r < 2 ^ 63
-  pub fit : alive ≡ false → Fit b n r
+  pub zero : alive ≡ false → (j : ℕ) → cell r j ≡ 0
   pub unpaid : b ≡ rounding → earns ≡ 0
 
 -- Row i of the table in w, finished; pay says what its state earns.
 abbrev pub finishedAt : Bool → ℕ → ℕ → List ℕ → List ℕ → ℕ → Row
-finishedAt b n live pay w i = finished b n (eqb (bit live i) 1) (getD pay i 0) (rowAt n w i)
+finishedAt b n live pay w i = finished b n (eqb (bit live i) 1) (getD pay i 0) (partAt n w i)
 
 -- Each row of the table in w can be finished.
 pub record Finishable (b : Bool) (n live : ℕ) (pay w : List ℕ) : Type 0 where
   pub few : n ≤ mostStates
   pub room : workSize n ≤ length w
-  pub gathered : (i : ℕ) → i < n → Unfinished b n (eqb (bit live i) 1) (getD pay i 0) (rowAt n w i)
+  pub gathered : (i : ℕ) → i < n → Unfinished b n (eqb (bit live i) 1) live (getD pay i 0) (partAt n w i)
 
--- What the first rows are made from: a chain whose denominators fit, its own sets, room, and where a turn earns, rewards that fit; in the
--- bounds engine it does not.
+-- What the first rows are made from: a chain with a goal whose denominators fit, its own sets, room, and where a turn earns, rewards that fit;
+-- in the bounds engine it does not.
 pub record Makeable (b p : Bool) (c : Chain) (k : Sets) (rewards work : List ℕ) : Type 0 where
   pub few : c .states ≤ mostStates
   pub room : workSize (c .states) ≤ length work
@@ -84,5 +64,6 @@ pub record Makeable (b p : Bool) (c : Chain) (k : Sets) (rewards work : List ℕ
   pub sources : (e : ℕ) → e < edgeCount (c .edges) → from (c .edges) e < c .states
   pub small : (i : ℕ) → i < c .states → denominator c i ≤ M
   pub right : Right c k
+  pub goal : (g : ℕ) × ((g < c .states) × Goal c g)
   pub paid : p ≡ true → Earnable (c .states) (c .denominators) (c .edges) rewards
   pub unpaid : b ≡ rounding → p ≡ false

@@ -1,3 +1,5 @@
+pub mod Packed
+pub mod Filled
 pub mod Row
 pub mod Table
 pub mod Turn
@@ -7,6 +9,7 @@ pub mod Answer
 pub mod Looking
 pub mod Told
 pub mod Pay
+pub mod Gather
 pub mod First
 pub mod Run
 pub mod Trace

@@ -1,4 +1,4 @@
--- A table in one list, row after row.
+-- A table of packed rows in one list, part after part.
 use mathlib.Core.Path.{_≡_}
 use mathlib.Core.Bool.{Bool, true, false}
 use mathlib.Core.List.{List}
@@ -6,36 +6,50 @@ use Prim.Native.Nat.{ℕ, _*_, _≤_, _<_}
 use lib.ListN.{length, take, drop}
 use Rattle.meaning.specs.Number.{tabFrom}
 use Rattle.meaning.specs.Chain.{mostStates}
-use Rattle.meaning.specs.Row.{Row, width, exact}
+use Rattle.meaning.specs.Row.{Row, cell, width, exact}
 use Rattle.meaning.specs.Refusal.{workSize}
-use Rattle.meaning.specs.Step.{Table}
+use Rattle.meaning.specs.Step.{Table, row}
 use Rattle.meaning.specs.Stop.{Large}
+use Rattle.engines.specs.Packed.{unpacked, Packed}
 use Rattle.engines.specs.Row.{Fit, Tested}
 use Rattle.engines.specs.declared.row.Settled.{Settled}
 
--- Row i of the table in w.
-unfoldable pub rowAt : ℕ → List ℕ → ℕ → Row
-rowAt n w i = take (width n) (drop (i * width n) w)
+-- The numbers of row i of the table in w: its own part, and the row that this stands for.
+unfoldable pub partAt : ℕ → List ℕ → ℕ → List ℕ
+partAt n w i = take (width n) (drop (i * width n) w)
+
+abbrev pub rowAt : ℕ → List ℕ → ℕ → Row
+rowAt n w i = unpacked n (partAt n w i)
 
 abbrev pub tableOf : ℕ → List ℕ → Table
 tableOf n w = tabFrom 0 n (rowAt n w)
 
--- The work table holds n rows, and each of them fits.
+-- A state that no row has a weight to, a goal for one, in a table whose rows have all columns.
+pub record Spare (n : ℕ) (t : Table) : Type 0 where
+  pub state : ℕ
+  pub inside : state < n
+  pub none : (i : ℕ) → cell (row t i) state ≡ 0
+  pub wide : (i : ℕ) → i < n → length (row t i) ≡ width n
+
+-- The work table holds n packed rows, each of them fits, and two of them together have room in one part.
 pub record Fitting (b : Bool) (n : ℕ) (w : List ℕ) : Type 0 where
   pub few : n ≤ mostStates
   pub room : workSize n ≤ length w
+  pub packed : (i : ℕ) → i < n → Packed n (partAt n w i)
   pub fit : (i : ℕ) → i < n → Fit b n (rowAt n w i)
+  pub spare : Spare n (tableOf n w)
 
 -- v is as long as w, and the same past the table.
 pub record Kept (n : ℕ) (w v : List ℕ) : Type 0 where
   pub len : length v ≡ length w
   pub past : drop (workSize n) v ≡ drop (workSize n) w
 
--- v is w with r in the place of row i.
+-- v is w with a part in the place of row i that stands for r.
 pub record Put (n : ℕ) (w : List ℕ) (i : ℕ) (r : Row) (v : List ℕ) : Type 0 where
   pub kept : Kept n w v
+  pub packed : Packed n (partAt n v i)
   pub here : rowAt n v i ≡ r
-  pub other : (j : ℕ) → j < n → (j ≡ i → ⊥) → rowAt n v j ≡ rowAt n w j
+  pub other : (j : ℕ) → j < n → (j ≡ i → ⊥) → partAt n v j ≡ partAt n w j
 
 -- Row i of w has become r, in v, and the answer says whether it fits, and which divisor was taken out.
 pub record Placed (b : Bool) (n : ℕ) (w : List ℕ) (i : ℕ) (r : Row) (taken : ℕ) (v : List ℕ) (answer : Settled) : Type 0 where
@@ -43,9 +57,10 @@ pub record Placed (b : Bool) (n : ℕ) (w : List ℕ) (i : ℕ) (r : Row) (taken
   pub tested : Tested b n r (answer .fits)
   pub told : answer .divisor ≡ taken
 
--- In v each row k of w has become g k, and fits; or some g k does not.
+-- In v each row k of w has become g k, is packed, and fits; or some g k does not.
 pub record Renewed (b : Bool) (g : ℕ → Row) (n : ℕ) (w v : List ℕ) (answer : Bool) : Type 0 where
   pub kept : Kept n w v
   pub all : answer ≡ true → (k : ℕ) → k < n → rowAt n v k ≡ g k
+  pub packed : answer ≡ true → (k : ℕ) → k < n → Packed n (partAt n v k)
   pub fit : answer ≡ true → (k : ℕ) → k < n → Fit b n (g k)
   pub large : answer ≡ false → (b ≡ exact) × ((k : ℕ) × ((k < n) × Large n (g k)))

@@ -1,9 +1,13 @@
 // The elimination on the rows of a lent table of 64-bit numbers: exact, or with rows rounded where they do not fit.
 pub mod answer;
+mod bits;
 pub mod entry;
 mod first;
+mod gather;
 mod log;
 mod looking;
+mod merge;
+mod part;
 mod pay;
 mod row;
 mod run;

@@ -2,74 +2,84 @@
 ghost use mathlib.Core.Path.{_≡_};
 ghost use mathlib.Core.Bool.{true};
 ghost use mathlib.Core.List.{List, [], _∷_, _++_};
-ghost use Prim.Native.Nat.{_≤_, _<_};
+ghost use Prim.Native.Nat.{ℕ, _≤_, _<_};
 ghost use lib.ListN.{length, getD};
-ghost use Rattle.meaning.specs.Number.{choose, present};
+ghost use Rattle.meaning.specs.Number.{choose, bit, present};
 ghost use Rattle.meaning.specs.Chain.{mostStates};
-ghost use Rattle.meaning.specs.Row.{width};
 ghost use Rattle.meaning.specs.Refusal.{workSize};
 ghost use Rattle.meaning.specs.Step.{removed};
 ghost use Rattle.meaning.specs.Steps.{StepRecord, rowsTo, columnsOf, recordOf};
-ghost use Rattle.engines.specs.Table.{tableOf, rowAt, Fitting};
+ghost use Rattle.engines.specs.Packed.{statesOf, unpacked, Packed};
+ghost use Rattle.engines.specs.Table.{partAt, tableOf, rowAt, Fitting};
 ghost use Rattle.engines.specs.Turn.{Made};
 ghost use Rattle.engines.specs.Log.{logSize, HoldsRecords, Roomy, LoggedMore};
 use crate::answer::Trace;
-use crate::row::UNKNOWN;
+use crate::bits::count;
+use crate::part::GOAL;
+use crate::part::TRAP;
 use crate::step::remove;
 use crate::work::row_start;
 use chain::Chain;
+use chain::set::holds;
 
-// 1 for a weight, and 0 for none or for the state's own.
-fn weighed(x: u64, own: bool) -> u64
-    ensures { λ r. ⌜ (r ≡ choose own 0 (present x)) × (r ≤ 1) ⌝ }
+// 1 where a set holds the state s, and 0 where it does not or is that of the state's own row.
+fn counted(targets: u64, s: usize, own: bool) -> u64
+    ensures { λ r. ⌜ (r ≡ choose own 0 (bit targets s)) × (r ≤ 1) ⌝ }
 {
     if own {
         return 0;
     }
+    if holds(targets, s) {
+        return 1;
+    }
+    0
+}
+
+// 1 for a weight, and 0 for none.
+fn weighed(x: u64) -> u64
+    ensures { λ r. ⌜ (r ≡ present x) × (r ≤ 1) ⌝ }
+{
     if x == 0 {
         return 0;
     }
     1
 }
 
-// How many rows but that of s have a weight to s.
+// How many rows but that of s have a weight to s: those whose targets have s.
 fn rows_to(work: &[u64], n: usize, s: usize) -> u64
-    requires { ⌜ (n ≤ mostStates) × (workSize n ≤ length (now work)) × (s < n) ⌝ }
+    requires { ⌜ (n ≤ mostStates) × (workSize n ≤ length (now work)) × (s < n) × ((i : ℕ) → i < n → Packed n (partAt n (now work) i)) ⌝ }
     ensures { λ r. ⌜ r ≡ rowsTo n s (tableOf n (now (work .entry))) ⌝ }
 {
     let mut rows = 0;
     let mut i = 0;
     while i < n {
-        let a = row_start(n, i) + s;
-        rows += weighed(work[a], i == s);
+        let a = row_start(n, i);
+        rows += counted(work[a], s, i == s);
         i += 1;
     }
     rows
 }
 
-// In how many columns but its own the row of s has a weight.
-fn columns_in(row: &[u64], n: usize, s: usize) -> u64
-    requires { ⌜ (n ≤ mostStates) × (length (now row) ≡ width n) ⌝ }
-    ensures { λ r. ⌜ r ≡ columnsOf n s (now (row .entry)) ⌝ }
+// In how many columns but its own the row of s has a weight: its other targets, Goal and Trap.
+fn columns_in(part: &[u64], s: usize) -> u64
+    requires { let n = statesOf (now part) in ⌜ (n ≤ mostStates) × (s < n) × Packed n (now part) ⌝ }
+    ensures { λ r.
+        let p = now (part .entry) in
+        let n = statesOf p in
+        ⌜ r ≡ columnsOf n s (unpacked n p) ⌝ }
 {
-    let m = n + UNKNOWN;
-    let mut columns = 0;
-    let mut j = 0;
-    while j < m {
-        columns += weighed(row[j], j == s);
-        j += 1;
-    }
-    columns
+    let targets = part[0];
+    count(targets) as u64 + weighed(part[GOAL]) + weighed(part[TRAP]) - counted(targets, s, false)
 }
 
 // The same, in the work table.
 fn columns_of(work: &[u64], n: usize, s: usize) -> u64
-    requires { ⌜ (n ≤ mostStates) × (workSize n ≤ length (now work)) × (s < n) ⌝ }
+    requires { ⌜ (n ≤ mostStates) × (workSize n ≤ length (now work)) × (s < n) × Packed n (partAt n (now work) s) ⌝ }
     ensures { λ r. ⌜ r ≡ columnsOf n s (rowAt n (now (work .entry)) s) ⌝ }
 {
     let a = row_start(n, s);
     let e = a + n + Chain::BESIDE;
-    columns_in(&work[a..e], n, s)
+    columns_in(&work[a..e], s)
 }
 
 // Puts a record behind the others.

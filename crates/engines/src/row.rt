@@ -1,21 +1,20 @@
-// One row: its lowest terms, its total, and how it is rounded.
+// One packed row: its lowest terms, its total, and how it is rounded.
 ghost use mathlib.Core.Path.{_≡_};
 ghost use mathlib.Core.Bool.{true, false};
 ghost use Prim.Native.Nat.{_^_, _<_, _≤_};
 ghost use lib.ListN.{length};
-ghost use Rattle.meaning.specs.Chain.{M};
+ghost use Rattle.meaning.specs.Chain.{mostStates, M};
 ghost use Rattle.meaning.specs.Number.{sumTo};
 ghost use Rattle.meaning.specs.Row.{cell, total, reward, gcdOf, divisor, over, lowest, upTo, shiftOf, rounded, bounded, settled};
+ghost use Rattle.engines.specs.Packed.{endOfPart, statesOf, unpacked, Packed};
 ghost use Rattle.engines.specs.Row.{Summable, Tested, Became};
+use crate::merge::squeeze;
+use crate::part::GOAL;
+use crate::part::REWARD;
+use crate::part::UNKNOWN;
+use crate::part::end;
 use chain::Chain;
 use chain::fraction::gcd;
-
-// A row has the n states, Goal, Trap, Unknown and Reward: Goal is in column n, the others so far behind it. All before Reward make up the total.
-pub(crate) const TRAP: usize = 1;
-
-pub(crate) const UNKNOWN: usize = 2;
-
-pub(crate) const REWARD: usize = 3;
 
 // What became of a new row: whether it fits, and the divisor that was taken out of it. Of a table of rows that all fit it is the largest of these.
 pub(crate) struct Settled {
@@ -52,7 +51,7 @@ fn divide(row: &mut [u64], d: u64)
 }
 
 // Brings a row to lowest terms, and answers the divisor that it took out. A row of zeros stays, and so does a row whose divisor is 1.
-pub(crate) fn reduce(row: &mut [u64]) -> u64
+fn reduce(row: &mut [u64]) -> u64
     ensures { λ r. ⌜ (now (row .exit) ≡ lowest (now (row .entry))) × (r ≡ divisor (now (row .entry))) ⌝ }
 {
     let g = common(row);
@@ -63,18 +62,28 @@ pub(crate) fn reduce(row: &mut [u64]) -> u64
     g
 }
 
-// The sum of the first m numbers of a row.
-pub(crate) fn sum(row: &[u64], m: usize) -> u64
-    requires { ⌜ (m ≤ length (now row)) × (sumTo (cell (now row)) m < 2 ^ 63) ⌝ }
-    ensures { λ r. ⌜ r ≡ sumTo (cell (now (row .entry))) m ⌝ }
+// The sum of some numbers.
+fn sum(row: &[u64]) -> u64
+    requires { ⌜ sumTo (cell (now row)) (length (now row)) < 2 ^ 63 ⌝ }
+    ensures { λ r. ⌜ r ≡ sumTo (cell (now (row .entry))) (length (now (row .entry))) ⌝ }
 {
     let mut t = 0;
     let mut j = 0;
-    while j < m {
+    while j < row.len() {
         t += row[j];
         j += 1;
     }
     t
+}
+
+// The total of a packed row, whose numbers end at e.
+pub(crate) fn total(part: &[u64], e: usize) -> u64
+    requires { ⌜ Summable (statesOf (now part)) (now part) × (e ≡ endOfPart (now part)) ⌝ }
+    ensures { λ r.
+        let p = now (part .entry) in
+        ⌜ r ≡ total (statesOf p) (unpacked (statesOf p) p) ⌝ }
+{
+    sum(&part[GOAL..e])
 }
 
 // A total divided by 2 ^ k and rounded up.
@@ -109,56 +118,75 @@ fn lower(row: &mut [u64], k: u64)
     }
 }
 
-// Rounds a row: the total up, each number but Unknown down, and Unknown takes what the total lacks.
-pub(crate) fn round(row: &mut [u64], n: usize)
-    requires { ⌜ Summable n (now row) ⌝ }
-    ensures { λ _. ⌜ (now (row .exit) ≡ rounded n (now (row .entry))) × (total n (now (row .exit)) ≤ M) ⌝ }
+// Rounds a packed row, whose numbers end at e and whose total is t: the total up, each number but Unknown down, and Unknown takes what the total
+// lacks. A weight that has become 0 is left out.
+fn round(part: &mut [u64], e: usize, t: u64)
+    requires { let n = statesOf (now part) in
+        ⌜ (n ≤ mostStates) × Packed n (now part) × (e ≡ endOfPart (now part)) × Summable n (now part) × (t ≡ total n (unpacked n (now part))) × (reward n (unpacked n (now part)) ≡ 0) ⌝ }
+    ensures { λ _.
+        let p = now (part .entry) in
+        let n = statesOf p in
+        let v = now (part .exit) in
+        ⌜ Packed n v × (unpacked n v ≡ rounded n (unpacked n p)) × (total n (unpacked n v) ≤ M) ⌝ }
 {
-    let t = sum(row, n + REWARD);
     let k = shift(t);
-    lower(row, k);
-    let q = sum(row, n + UNKNOWN);
-    row[n + UNKNOWN] = up(t, k) - q;
+    lower(&mut part[REWARD..e], k);
+    let q = total(part, e) - part[UNKNOWN];
+    part[UNKNOWN] = up(t, k) - q;
+    squeeze(part);
 }
 
-// Rounds a row whose total does not fit.
-fn bound(row: &mut [u64], n: usize)
-    requires { ⌜ Summable n (now row) ⌝ }
-    ensures { λ _. ⌜ (now (row .exit) ≡ bounded true n (now (row .entry))) × (total n (now (row .exit)) ≤ M) ⌝ }
+// Rounds a packed row whose total does not fit.
+fn bound(part: &mut [u64], e: usize)
+    requires { let n = statesOf (now part) in
+        ⌜ (n ≤ mostStates) × Packed n (now part) × (e ≡ endOfPart (now part)) × Summable n (now part) × (reward n (unpacked n (now part)) ≡ 0) ⌝ }
+    ensures { λ _.
+        let p = now (part .entry) in
+        let n = statesOf p in
+        let v = now (part .exit) in
+        ⌜ Packed n v × (unpacked n v ≡ bounded true n (unpacked n p)) × (total n (unpacked n v) ≤ M) ⌝ }
 {
-    if sum(row, n + REWARD) <= Chain::LIMIT {
+    let t = total(part, e);
+    if t <= Chain::LIMIT {
         return;
     }
-    round(row, n);
+    round(part, e, t);
 }
 
-// Whether the total and the Reward of a row fit, where rows are exact.
-fn fits(row: &[u64], n: usize) -> bool
-    requires { ⌜ Summable n (now row) ⌝ }
-    ensures { λ r. ⌜ Tested false n (now (row .entry)) r ⌝ }
+// Whether the total and the Reward of a packed row fit, where rows are exact.
+fn fits(part: &[u64], e: usize) -> bool
+    requires { ⌜ Summable (statesOf (now part)) (now part) × (e ≡ endOfPart (now part)) ⌝ }
+    ensures { λ r.
+        let p = now (part .entry) in
+        ⌜ Tested false (statesOf p) (unpacked (statesOf p) p) r ⌝ }
 {
-    if Chain::LIMIT < sum(row, n + REWARD) {
+    if Chain::LIMIT < total(part, e) {
         return false;
     }
-    if Chain::LIMIT < row[n + REWARD] {
+    if Chain::LIMIT < part[REWARD] {
         return false;
     }
     true
 }
 
-// Brings a new row to what is kept of it. A rounded row always fits.
-pub(crate) fn settle(row: &mut [u64], n: usize, rounding: bool) -> Settled
-    requires { ⌜ Summable n (now row) × (rounding ≡ true → reward n (now row) ≡ 0) ⌝ }
-    ensures { λ r. ⌜ Became rounding n (settled rounding n (now (row .entry))) (divisor (now (row .entry))) (now (row .exit)) r ⌝ }
+// Brings a new packed row to what is kept of it. A rounded row always fits.
+pub(crate) fn settle(part: &mut [u64], rounding: bool) -> Settled
+    requires { let n = statesOf (now part) in
+        ⌜ (n ≤ mostStates) × Packed n (now part) × Summable n (now part) × (rounding ≡ true → reward n (unpacked n (now part)) ≡ 0) ⌝ }
+    ensures { λ r.
+        let p = now (part .entry) in
+        let n = statesOf p in
+        ⌜ Became rounding n (settled rounding n (unpacked n p)) (divisor (unpacked n p)) (now (part .exit)) r ⌝ }
 {
-    let divisor = reduce(row);
+    let e = end(part);
+    let divisor = reduce(&mut part[REWARD..e]);
     if rounding {
-        bound(row, n);
+        bound(part, e);
         return Settled {
             fits: true,
             divisor,
         };
     }
-    let fits = fits(row, n);
+    let fits = fits(part, e);
     Settled { fits, divisor }
 }

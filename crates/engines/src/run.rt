@@ -1,11 +1,12 @@
 // The elimination, from the first rows to the start's row.
 ghost use mathlib.Core.Path.{_≡_};
 ghost use mathlib.Core.List.{[]};
-ghost use Prim.Native.Nat.{_<_};
+ghost use Prim.Native.Nat.{_≤_, _<_};
 ghost use lib.ListN.{length};
-ghost use Rattle.meaning.specs.Row.{width};
+ghost use Rattle.meaning.specs.Chain.{mostStates};
 ghost use Rattle.meaning.specs.Outcome.{cleared};
 ghost use Rattle.chain.specs.Lent.{lent};
+ghost use Rattle.engines.specs.Packed.{statesOf, unpacked, Packed};
 ghost use Rattle.engines.specs.Row.{Fit};
 ghost use Rattle.engines.specs.Table.{rowAt, Kept, Fitting};
 ghost use Rattle.survey.specs.Sets.{setsOf};
@@ -13,8 +14,9 @@ ghost use Rattle.engines.specs.Pay.{pays};
 ghost use Rattle.engines.specs.Log.{Logged};
 ghost use Rattle.engines.specs.Run.{endOf, Begun, runs, finishedIn, recordsRun};
 use crate::first::first_rows;
-use crate::row::REWARD;
-use crate::row::UNKNOWN;
+use crate::part::GOAL;
+use crate::part::REWARD;
+use crate::part::UNKNOWN;
 use crate::step::outside;
 use crate::walk::Walk;
 use crate::walk::eliminate;
@@ -47,15 +49,19 @@ pub(crate) enum Course {
 }
 
 // The start's row at the end.
-fn last(row: &[u64], n: usize, start: usize, rounding: bool) -> Course
-    requires { ⌜ (length (now row) ≡ width n) × (start < n) × Fit rounding n (now row) ⌝ }
-    ensures { λ r. ⌜ r ≡ endOf n start (now (row .entry)) ⌝ }
+fn last(part: &[u64], start: usize, rounding: bool) -> Course
+    requires { let n = statesOf (now part) in
+        ⌜ (n ≤ mostStates) × (start < n) × Packed n (now part) × Fit rounding n (unpacked n (now part)) ⌝ }
+    ensures { λ r.
+        let p = now (part .entry) in
+        let n = statesOf p in
+        ⌜ r ≡ endOf n start (unpacked n p) ⌝ }
 {
     Course::Ends {
-        goal: row[n],
-        unknown: row[n + UNKNOWN],
-        reward: row[n + REWARD],
-        outside: outside(row, n, start, rounding),
+        goal: part[GOAL],
+        unknown: part[UNKNOWN],
+        reward: part[REWARD],
+        outside: outside(part, start, rounding),
     }
 }
 
@@ -66,7 +72,7 @@ fn last_of(work: &[u64], n: usize, start: usize, rounding: bool) -> Course
 {
     let a = row_start(n, start);
     let e = a + n + Chain::BESIDE;
-    last(&work[a..e], n, start, rounding)
+    last(&work[a..e], start, rounding)
 }
 
 // What the figures are read off where no row is made: the chance is 1 or 0.

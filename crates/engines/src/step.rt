@@ -1,96 +1,85 @@
-// A step: one state is removed from the table, one row at a time.
+// A step: one state is removed from the table, one packed row at a time.
 ghost use mathlib.Core.Path.{_≡_};
 ghost use mathlib.Core.Bool.{true};
-ghost use Prim.Native.Nat.{ℕ, _+_, _*_, _<_, _≤_, max};
-ghost use lib.ListN.{length, getD};
+ghost use Prim.Native.Nat.{ℕ, _<_, _≤_, max};
+ghost use lib.ListN.{length};
 ghost use lib.Dec.{eqb};
 ghost use Rattle.meaning.specs.Chain.{mostStates, M};
-ghost use Rattle.meaning.specs.Number.{choose, largest};
+ghost use Rattle.meaning.specs.Number.{largest};
 ghost use Rattle.meaning.specs.Row.{width, divisor, settled};
 ghost use Rattle.meaning.specs.Refusal.{workSize};
 ghost use Rattle.meaning.specs.Step.{combined, renewed, outside, removed};
 ghost use Rattle.meaning.specs.Steps.{takenOut, largestTaken};
-ghost use Rattle.engines.specs.Row.{Small, Fit, Became};
-ghost use Rattle.engines.specs.Table.{rowAt, tableOf, Placed, Renewed, Fitting};
+ghost use Rattle.engines.specs.Packed.{statesOf, unpacked, Packed, Room};
+ghost use Rattle.engines.specs.Row.{Fit, Removable, Became};
+ghost use Rattle.engines.specs.Table.{partAt, rowAt, tableOf, Placed, Renewed, Fitting};
 ghost use Rattle.engines.specs.Turn.{Made};
-use crate::row::REWARD;
+use crate::merge::replace;
+use crate::part::end;
+use crate::part::load;
+use crate::part::spread;
+use crate::part::weight;
 use crate::row::Settled;
 use crate::row::settle;
-use crate::row::sum;
+use crate::row::total;
 use crate::work::clear;
 use crate::work::row_start;
 use chain::Chain;
-
-// A cell of a row that the row of a state is put into: x of the row, p of the state's row, w the weight to the state.
-fn merge(x: u64, d: u64, w: u64, p: u64, gone: bool) -> u64
-    requires { ⌜ (x ≤ M) × (d ≤ M) × (w ≤ M) × (p ≤ M) ⌝ }
-    ensures { λ r. ⌜ r ≡ choose gone 0 (x * d + w * p) ⌝ }
-{
-    if gone { 0 } else { x * d + w * p }
-}
-
-// Puts the row of state s, whose D is d, in the place of a row's weight to s.
-pub(crate) fn combine(row: &mut [u64], pivot: &[u64; Chain::WIDTH], s: usize, d: u64)
-    requires { let m = length (now row) in
-        ⌜ (s < m) × (m ≤ width mostStates) × (d ≤ M) × Small m (now row) × Small m (now pivot) ⌝ }
-    ensures { λ _. ⌜ now (row .exit) ≡ combined s d (now (pivot .entry)) (now (row .entry)) ⌝ }
-{
-    let w = row[s];
-    let mut j = 0;
-    while j < row.len() {
-        row[j] = merge(row[j], d, w, pivot[j], j == s);
-        j += 1;
-    }
-}
+use chain::set::holds;
 
 // The row of another state, which has a weight to s, once s is removed.
 fn change(
-    row: &mut [u64],
-    n: usize,
+    part: &mut [u64],
     s: usize,
     d: u64,
     pivot: &[u64; Chain::WIDTH],
+    y: &[u64; Chain::WIDTH],
     rounding: bool,
 ) -> Settled
-    requires { ⌜ (length (now row) ≡ width n) × (n ≤ mostStates) × (s < n) × (d ≤ M) × Fit rounding n (now row) × Fit rounding n (now pivot) ⌝ }
+    requires { let n = statesOf (now part) in
+        ⌜ (n ≤ mostStates) × Removable rounding n s d (now pivot) (now y) × Packed n (now part) × Fit rounding n (unpacked n (now part)) × Room (length (now part)) (now part) (now pivot) ⌝ }
     ensures { λ r.
-        let z = combined s d (now (pivot .entry)) (now (row .entry)) in
-        ⌜ Became rounding n (settled rounding n z) (divisor z) (now (row .exit)) r ⌝ }
+        let p = now (part .entry) in
+        let n = statesOf p in
+        let z = combined s d (unpacked n (now (pivot .entry))) (unpacked n p) in
+        ⌜ Became rounding n (settled rounding n z) (divisor z) (now (part .exit)) r ⌝ }
 {
-    combine(row, pivot, s, d);
-    settle(row, n, rounding)
+    replace(part, pivot, y, s, d);
+    settle(part, rounding)
 }
 
-// A row once s is removed: the row of s itself where `own` holds. A row with no weight to s is only read at s.
+// A row once s is removed: the row of s itself where `own` holds. Of a row with no weight to s only the targets are read.
 fn renew(
-    row: &mut [u64],
+    part: &mut [u64],
     own: bool,
-    n: usize,
     s: usize,
     d: u64,
     pivot: &[u64; Chain::WIDTH],
+    y: &[u64; Chain::WIDTH],
     rounding: bool,
 ) -> Settled
-    requires { ⌜ (length (now row) ≡ width n) × (n ≤ mostStates) × (s < n) × (d ≤ M) × Fit rounding n (now row) × Fit rounding n (now pivot) ⌝ }
+    requires { let n = statesOf (now part) in
+        ⌜ (n ≤ mostStates) × Removable rounding n s d (now pivot) (now y) × Packed n (now part) × Fit rounding n (unpacked n (now part)) × Room (length (now part)) (now part) (now pivot) ⌝ }
     ensures { λ r.
-        let p = now (pivot .entry) in
-        let z = now (row .entry) in
-        ⌜ Became rounding n (renewed rounding n s d p own z) (takenOut s d p own z) (now (row .exit)) r ⌝ }
+        let z = now (part .entry) in
+        let n = statesOf z in
+        let p = unpacked n (now (pivot .entry)) in
+        ⌜ Became rounding n (renewed rounding n s d p own (unpacked n z)) (takenOut s d p own (unpacked n z)) (now (part .exit)) r ⌝ }
 {
     if own {
-        clear(row);
+        clear(part);
         return Settled {
             fits: true,
             divisor: 1,
         };
     }
-    if row[s] == 0 {
+    if !holds(part[0], s) {
         return Settled {
             fits: true,
             divisor: 1,
         };
     }
-    change(row, n, s, d, pivot, rounding)
+    change(part, s, d, pivot, y, rounding)
 }
 
 // Renews row i of the table. The rest of the work table is as it was.
@@ -101,41 +90,33 @@ fn renew_row(
     s: usize,
     d: u64,
     pivot: &[u64; Chain::WIDTH],
+    y: &[u64; Chain::WIDTH],
     rounding: bool,
 ) -> Settled
     requires { let w = now work in
-        ⌜ (workSize n ≤ length w) × (n ≤ mostStates) × (i < n) × (s < n) × (d ≤ M) × Fit rounding n (rowAt n w i) × Fit rounding n (now pivot) ⌝ }
+        ⌜ (workSize n ≤ length w) × (n ≤ mostStates) × (i < n) × Removable rounding n s d (now pivot) (now y) × Packed n (partAt n w i) × Fit rounding n (rowAt n w i) × Room (width n) (partAt n w i) (now pivot) ⌝ }
     ensures { λ r.
         let w = now (work .entry) in
-        let p = now (pivot .entry) in
+        let p = unpacked n (now (pivot .entry)) in
         let z = rowAt n w i in
         ⌜ Placed rounding n w i (renewed rounding n s d p (eqb i s) z) (takenOut s d p (eqb i s) z) (now (work .exit)) r ⌝ }
 {
     let a = row_start(n, i);
     let e = a + n + Chain::BESIDE;
-    renew(&mut work[a..e], i == s, n, s, d, pivot, rounding)
-}
-
-// A copy of a row.
-fn load(row: &[u64]) -> [u64; Chain::WIDTH]
-    requires { ⌜ length (now row) ≤ width mostStates ⌝ }
-    ensures { λ r. ⌜ ((j : ℕ) → getD r j 0 ≡ getD (now (row .entry)) j 0) ⌝ }
-{
-    let mut p = [0u64; Chain::WIDTH];
-    let mut j = 0;
-    while j < row.len() {
-        p[j] = row[j];
-        j += 1;
-    }
-    p
+    renew(&mut work[a..e], i == s, s, d, pivot, y, rounding)
 }
 
 // D of state s, whose row this is.
-pub(crate) fn outside(row: &[u64], n: usize, s: usize, rounding: bool) -> u64
-    requires { ⌜ (length (now row) ≡ width n) × (s < n) × Fit rounding n (now row) ⌝ }
-    ensures { λ r. ⌜ (r ≡ outside n s (now (row .entry))) × (r ≤ M) ⌝ }
+pub(crate) fn outside(part: &[u64], s: usize, rounding: bool) -> u64
+    requires { let n = statesOf (now part) in
+        ⌜ (n ≤ mostStates) × (s < n) × Packed n (now part) × Fit rounding n (unpacked n (now part)) ⌝ }
+    ensures { λ r.
+        let p = now (part .entry) in
+        let n = statesOf p in
+        ⌜ (r ≡ outside n s (unpacked n p)) × (r ≤ M) ⌝ }
 {
-    sum(row, n + REWARD) - row[s]
+    let e = end(part);
+    total(part, e) - weight(part, s)
 }
 
 // The larger of two numbers.
@@ -152,19 +133,20 @@ fn renew_all(
     s: usize,
     d: u64,
     pivot: &[u64; Chain::WIDTH],
+    y: &[u64; Chain::WIDTH],
     rounding: bool,
 ) -> Settled
-    requires { ⌜ Fitting rounding n (now work) × (s < n) × (d ≤ M) × Fit rounding n (now pivot) ⌝ }
+    requires { ⌜ Fitting rounding n (now work) × Removable rounding n s d (now pivot) (now y) × ((i : ℕ) → i < n → Room (width n) (partAt n (now work) i) (now pivot)) ⌝ }
     ensures { λ r.
         let w = now (work .entry) in
-        let p = now (pivot .entry) in
+        let p = unpacked n (now (pivot .entry)) in
         ⌜ Renewed rounding (λ k. renewed rounding n s d p (eqb k s) (rowAt n w k)) n w (now (work .exit)) (r .fits)
         × (r .fits ≡ true → r .divisor ≡ largest (λ k. takenOut s d p (eqb k s) (rowAt n w k)) n) ⌝ }
 {
     let mut divisor = 1;
     let mut i = 0;
     while i < n {
-        let r = renew_row(work, i, n, s, d, pivot, rounding);
+        let r = renew_row(work, i, n, s, d, pivot, y, rounding);
         if !r.fits {
             return r;
         }
@@ -187,7 +169,8 @@ pub(crate) fn remove(work: &mut [u64], n: usize, s: usize, rounding: bool) -> Se
 {
     let a = row_start(n, s);
     let e = a + n + Chain::BESIDE;
-    let d = outside(&work[a..e], n, s, rounding);
+    let d = outside(&work[a..e], s, rounding);
     let pivot = load(&work[a..e]);
-    renew_all(work, n, s, d, &pivot, rounding)
+    let y = spread(&work[a..e]);
+    renew_all(work, n, s, d, &pivot, &y, rounding)
 }

@@ -1,39 +1,42 @@
-use mathlib.Core.Path.{_∙_}
-use lib.ListN.{length-set}
+use mathlib.Core.Path.{refl}
 use borrow.Author.Needs.{needs}
 use Rattle.engines.specs.First.{finished, finishedDivisor}
-use Rattle.engines.proofs.Rows.{tested-fit, became}
-use Rattle.engines.proofs.Cells.{earned-summable, earned-unpaid}
+use Rattle.engines.proofs.Packing.{finish-settles, zero-stays}
 use Rattle.engines.proofs.first.finish.Statement.{statement}
 use Rattle.engines.proofs.first.finish.Tie as tie
 
+pack-requires : tie.Need-pack-requires
+pack-requires c κs =
+    let t = c .before in
+    t .before .before .pre .ready (t .if1 .taken)
+
 settle-requires : tie.Need-settle-requires
 settle-requires c κs =
-    let h = c .before .before .before .pre in
-    (earned-summable (h .2) (h .0) (c .before .if1 .taken), earned-unpaid (h .2) (h .0))
-
-same-length : tie.Need-same-length
-same-length c = c .before .before .settle .kept .0 ∙ simp length-set
+    let k = c .before .before .before in
+    let t = k .before .before in
+    rw (k .pack .kept .0) (finish-settles (t .before .before .pre) (t .if1 .taken) (k .pack .ensures))
 
 returns : tie.Need-returns
 unfolding finished finishedDivisor
 returns c =
-    rw (c .before .before .before .before .if1 .taken) (c .before .before .settle .ensures)
+    let k = c .before .before .before .before .before .before in
+    let t = k .before .before in
+    let h = t .before .before .pre in
+    rw (t .if1 .taken) (rw (k .pack .kept .0, k .pack .ensures .row _ (h .size)) at (c .before .before .settle .ensures))
 
 returns-2 : tie.Need-returns-2
 unfolding finished finishedDivisor
 returns-2 c =
+    let h = c .before .before .pre in
     let e = c .if1 .left in
-    became (rw e) (tested-fit (c .before .before .pre .2 .fit e)) (rw e)
+    rw e (zero-stays _ (h .size) (h .zero e) refl refl)
 
 pub finish-spec : {M : Type 1} → statement M
 finish-spec =
     tie.close
     (tie.spec
-    (λ c. search needs)
-    (λ c. search needs)
-    (λ c. search needs)
+    pack-requires
     settle-requires
-    same-length
+    (λ c. search needs)
     returns
     returns-2)

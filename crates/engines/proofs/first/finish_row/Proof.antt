@@ -1,5 +1,5 @@
 use borrow.Author.Needs.{needs}
-use Rattle.engines.proofs.Tables.{lent, row-placed, length-row}
+use Rattle.engines.proofs.Tables.{lent, row-placed, states-row}
 use Rattle.engines.proofs.first.finish_row.Statement.{statement}
 use Rattle.engines.proofs.first.finish_row.Tie as tie
 
@@ -9,8 +9,8 @@ finish-requires c κs =
     let s = b .before .before in
     let a = s .args in
     let h = s .pre in
-    let e = lent (a .n) (a .i) _ (b .row-start .ensures .0) (a .work .now) in
-    (rw e (length-row (a .n) (a .work .now) (h .0) (a .i) (h .2)), h .1, rw (e, c .holds .ensures) (h .3))
+    let w = a .work .now in
+    rw (lent (a .n) (a .i) _ (b .row-start .ensures .0) w, states-row (a .n) w (h .0) (a .i) (h .2), c .holds .ensures) (h .3)
 
 returns : tie.Need-returns
 returns c =
@@ -21,8 +21,8 @@ returns c =
     let h = s .pre in
     let w = a .work .now in
     let at = b .row-start .ensures .0 in
-    row-placed (a .n) w (h .0) (a .i) (h .2) _ at (c .before .before .finish .kept .0)
-    (rw (d .holds .ensures, lent (a .n) (a .i) _ at w) at (c .before .before .finish .ensures))
+    row-placed (a .n) w (h .0) (a .i) (h .2) _ at
+    (rw (d .holds .ensures, lent (a .n) (a .i) _ at w, states-row (a .n) w (h .0) (a .i) (h .2)) at (c .before .before .finish .ensures))
 
 pub finish-row-spec : {M : Type 1} → statement M
 finish-row-spec =

@@ -1,51 +1,49 @@
-use Prim.Native.Nat.{ℕ, _+_, _-_, _≤_}
-use mathlib.Core.Path.{_≡_}
+use Prim.Native.Nat.{_≤_}
 use native.Mathlib.Omega.{arith}
-use lib.Dec.{eqb}
 use borrow.Author.Needs.{needs}
-use Rattle.meaning.specs.Number.{choose, present}
-use Rattle.meaning.specs.Row.{Row, cell}
-use Rattle.engines.proofs.Noting.{Counting, counting-none, counting-more}
+use Rattle.meaning.specs.Chain.{mostStates}
+use Rattle.engines.specs.Packed.{targetsOf, statesOf}
+use Rattle.engines.proofs.Places.{place-all, place-below}
+use Rattle.engines.proofs.Laws.{packed-few}
+use Rattle.engines.proofs.Noting.{columns-packed}
 use Rattle.engines.proofs.log.columns_in.Statement.{statement}
 use Rattle.engines.proofs.log.columns_in.Tie as tie
 
--- Whether column j counts.
-abbrev leads : ℕ → Row → ℕ → ℕ
-leads s r j = choose (eqb j s) 0 (present (cell r j))
+-- A row has no more targets than there are states.
+few : (c : tie.After-count) → c .count .result ≤ mostStates
+few c =
+    let t = c .before .before .before in
+    let p = t .args .part .now in
+    omega (arith, c .count .ensures, place-all (targetsOf p) (statesOf p) (packed-few (t .pre .2)), place-below (targetsOf p) (statesOf p), t .pre .0)
 
-abbrev Inv-loop : tie.InvT-loop
-Inv-loop row n s m columns₀ j₀ columns j = Counting (leads s row) j columns × (j ≤ n + 2)
+sub-result : tie.Need-sub-result
+sub-result c =
+    let v = c .before in
+    let w = v .before .before in
+    let k = w .before .before in
+    let t = k .before .before .before in
+    omega (arith, columns-packed (t .pre .2) (t .args .s) (t .pre .1), k .count .ensures, w .weighed .ensures .0, v .weighed2 .ensures .0, c .counted .ensures .0)
 
-abbrev μ-loop : tie.MeasureT-loop
-μ-loop row n s m columns₀ j₀ columns j = m - j
-
-loop-holds : tie.Need-loop-holds Inv-loop μ-loop
-loop-holds c = (counting-none _, omega arith)
-
-loop-again : tie.Need-loop-again Inv-loop μ-loop
-loop-again c =
-    let test = c .before .before in
-    (counting-more (test .before .loop .inv .0) (c .weighed .ensures), omega (arith, test .loop-test .taken))
-
-returns : tie.Need-returns Inv-loop μ-loop
+returns : tie.Need-returns
 returns c =
-    let z = c .before .loop .inv in
-    let e : c .before .loop .j ≡ c .before .before .before .args .n + 2 = omega (arith, z .1, c .loop-test .left) in
-    rw e at (z .0 .sum)
+    let v = c .before in
+    let w = v .before .before in
+    let k = w .before .before in
+    let t = k .before .before .before in
+    omega (arith, columns-packed (t .pre .2) (t .args .s) (t .pre .1), k .count .ensures, w .weighed .ensures .0, v .weighed2 .ensures .0, c .counted .ensures .0)
 
 pub columns-in-spec : {M : Type 1} → statement M
 columns-in-spec =
     tie.close
     (tie.spec
-    Inv-loop
-    μ-loop
-    (λ c. search needs)
-    loop-holds
-    (λ c. search needs)
     (λ c. search needs)
     (λ c κs. search needs)
     (λ c. search needs)
+    (λ c κs. search needs)
+    (λ c. omega (arith, few (c .before .before), c .weighed .ensures .1))
     (λ c. search needs)
-    (λ c. search needs)
-    loop-again
+    (λ c κs. search needs)
+    (λ c. let w = c .before .before in omega (arith, few (w .before .before), w .weighed .ensures .1, c .weighed2 .ensures .1))
+    (λ c κs. search needs)
+    sub-result
     returns)

@@ -1,21 +1,23 @@
 use borrow.Author.Needs.{needs}
-use Rattle.engines.proofs.Tables.{lent, length-row}
+use Rattle.engines.proofs.Tables.{lent, states-row}
 use Rattle.engines.proofs.log.columns_of.Statement.{statement}
 use Rattle.engines.proofs.log.columns_of.Tie as tie
 
 columns-in-requires : tie.Need-columns-in-requires
 columns-in-requires c κs =
     let b = c .before in
-    let s = b .before .before in
-    let a = s .args in
-    let h = s .pre in
-    (h .0, rw (lent (a .n) (a .s) _ (b .row-start .ensures .0) (a .work .now)) (length-row (a .n) (a .work .now) (h .1) (a .s) (h .2)))
+    let t = b .before .before in
+    let a = t .args in
+    let h = t .pre in
+    rw (lent (a .n) (a .s) _ (b .row-start .ensures .0) (a .work .now), states-row (a .n) (a .work .now) (h .1) (a .s) (h .2)) (h .0, h .2, h .3)
 
 returns : tie.Need-returns
 returns c =
     let b = c .before .before in
-    let a = b .before .before .args in
-    rw (lent (a .n) (a .s) _ (b .row-start .ensures .0) (a .work .now)) at (c .columns-in .ensures)
+    let t = b .before .before in
+    let a = t .args in
+    let h = t .pre in
+    rw (lent (a .n) (a .s) _ (b .row-start .ensures .0) (a .work .now), states-row (a .n) (a .work .now) (h .1) (a .s) (h .2)) at (c .columns-in .ensures)
 
 pub columns-of-spec : {M : Type 1} → statement M
 columns-of-spec =

@@ -8,6 +8,12 @@ use Rattle.engines.proofs.log.remove_noted.Tie as tie
 returns : tie.Need-returns
 returns c = (c .before .before .remove .ensures .0, λ rs h. inl (c .before .before .before .before .if1 .taken))
 
+columns-of-requires : tie.Need-columns-of-requires
+columns-of-requires c κs =
+    let t = c .before .before .before .before .before .before in
+    let h = t .pre in
+    (h .0 .few, h .0 .room, h .1, h .0 .packed (t .args .s) (h .1))
+
 returns-2 : tie.Need-returns-2
 returns-2 c =
     let r = c .before .before .before .before in
@@ -40,7 +46,7 @@ remove-noted-spec =
     (λ c. search needs)
     returns
     (λ c κs. search needs)
-    (λ c κs. search needs)
+    columns-of-requires
     (λ c κs. search needs)
     (λ c. search needs)
     returns-2

@@ -1,16 +1,18 @@
 use Prim.Native.Nat.{ℕ, _-_, _≤_}
-use mathlib.Core.Path.{_≡_}
+use mathlib.Core.Path.{_≡_, ap, _∙_}
 use mathlib.Core.List.{List}
 use native.Mathlib.Omega.{arith}
 use lib.Dec.{eqb}
+use lib.ListN.{getD}
 use borrow.Author.Needs.{needs}
 use Rattle.meaning.specs.Number.{choose, present}
 use Rattle.meaning.specs.Row.{cell}
 use Rattle.meaning.specs.Step.{row}
-use Rattle.engines.specs.Table.{tableOf}
+use Rattle.engines.specs.Packed.{targetsOf}
+use Rattle.engines.specs.Table.{partAt, tableOf}
 use Rattle.engines.proofs.Tables.{row-cell}
 use Rattle.engines.proofs.Removal.{row-is}
-use Rattle.engines.proofs.Noting.{Counting, counting-none, counting-more}
+use Rattle.engines.proofs.Noting.{Counting, counting-none, counting-more, present-bit}
 use Rattle.engines.proofs.log.rows_to.Statement.{statement}
 use Rattle.engines.proofs.log.rows_to.Tie as tie
 
@@ -36,8 +38,10 @@ loop-again c =
     let b = test .loop-test .taken in
     let i = test .before .loop .i in
     let w = a .work .now in
-    let e = row-cell (a .n) w i (a .s) (omega (arith, test .before .before .before .pre .2)) in
-    (counting-more (z .0) (rw (row-is (a .n) w i b, e, ← at .row-start .ensures .0) (c .weighed .ensures)), omega arith)
+    let h = test .before .before .before .pre in
+    let e : targetsOf (partAt (a .n) w i) ≡ getD w (at .row-start .result) 0 =
+    row-cell (a .n) w i 0 (omega arith) ∙ ap (λ q. getD w q 0) (omega (arith, at .row-start .ensures .0)) in
+    (counting-more (z .0) (rw (row-is (a .n) w i b, present-bit (h .3 i b) (a .s) (h .2), e) (c .counted .ensures)), omega arith)
 
 returns : tie.Need-returns Inv-loop μ-loop
 returns c =
@@ -53,7 +57,6 @@ rows-to-spec =
     μ-loop
     loop-holds
     (λ c κs. search needs)
-    (λ c. search needs)
     (λ c. search needs)
     (λ c. search needs)
     (λ c κs. search needs)

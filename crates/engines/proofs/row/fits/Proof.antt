@@ -1,5 +1,7 @@
 use native.Mathlib.Omega.{arith}
 use borrow.Author.Needs.{needs}
+use Rattle.engines.specs.Packed.{statesOf}
+use Rattle.engines.proofs.Unpacked.{reward-stands}
 use Rattle.engines.proofs.Rows.{tested-total, tested-reward, tested-exact}
 use Rattle.engines.proofs.row.fits.Statement.{statement}
 use Rattle.engines.proofs.row.fits.Tie as tie
@@ -8,20 +10,14 @@ returns : tie.Need-returns
 returns c = tested-total (omega arith)
 
 returns-2 : tie.Need-returns-2
-returns-2 c = tested-reward (omega arith)
+returns-2 c =
+    let p = c .before .before .before .before .before .args .part .now in
+    tested-reward (omega (arith, reward-stands (statesOf p) .here p))
 
 returns-3 : tie.Need-returns-3
-returns-3 c = tested-exact (omega arith) (omega arith)
+returns-3 c =
+    let p = c .before .before .before .before .before .args .part .now in
+    tested-exact (omega arith) (omega (arith, reward-stands (statesOf p) .here p))
 
 pub fits-spec : {M : Type 1} → statement M
-fits-spec =
-    tie.close
-    (tie.spec
-    (λ c. search needs)
-    (λ c κs. search needs)
-    returns
-    (λ c. search needs)
-    (λ c. search needs)
-    (λ c. search needs)
-    returns-2
-    returns-3)
+fits-spec = tie.close (tie.spec (λ c κs. search needs) returns (λ c. search needs) returns-2 returns-3)

@@ -11,11 +11,12 @@ use Rattle.chain.specs.Lent.{lent as lentTo}
 use Rattle.survey.specs.Sets.{setsOf}
 use Rattle.engines.specs.Pay.{pays}
 use Rattle.engines.specs.Run.{Begun}
-use Rattle.engines.specs.Table.{rowAt, tableOf, Kept}
+use Rattle.engines.specs.Table.{rowAt, tableOf, Spare, Kept}
 use Rattle.engines.specs.Order.{going, Finished}
 use Rattle.engines.specs.declared.walk.Walk.the-variants.{Done}
 use Rattle.engines.specs.Turn.{Reached}
 use Rattle.engines.proofs.Tables.{kept-same, kept-more}
+use Rattle.engines.proofs.Spare.{after-spare, first-spare}
 use Rattle.engines.proofs.Turns.{reached-fitting}
 use Rattle.engines.proofs.Course.{runs-won, runs-lost, unlogged, start-live, stops-first, logged-first, stops-unfit, logged-unfit, reads, logged-through, walk-done, walk-kept, walk-inside}
 use Rattle.engines.proofs.run.follow.Statement.{statement}
@@ -34,6 +35,12 @@ pay c = pays (c .args .e .paid) (l c .chain) (l c .rewards)
 
 begun : (c : tie.Start) → Begun (c .args .e .rounding) (c .args .e .paid) (l c) (k c)
 begun c = c .pre .0
+
+-- No first row has a weight to a goal.
+spare : (c : tie.Start) → Spare (c .args .e .chain .states) (first (c .args .e .rounding) (l c .chain) (k c) (pay c) (λ _. 0))
+spare c =
+    let a = begun c .asked in
+    first-spare (c .args .e .rounding) (l c .chain) (k c) (pay c) (λ _. 0) (a .right) (a .goal .0) (a .goal .1 .0) (a .goal .1 .1)
 
 -- The start is a goal, or has no path to one.
 won-by : (c : tie.After-no-row) → bit (c .before .before .before .before .before .before .before .before .before .before .before .args .e .chain .goals) (c .before .before .before .before .before .before .before .before .before .before .before .args .e .chain .start) ≡ 1
@@ -92,7 +99,7 @@ eliminate-requires c κs =
     let at = c .before .before .before .before .before in
     let s = start-of (at .before .before) in
     let z = at .first-rows .ensures .reached (not-false _ (c .before .before .if3 .left)) in
-    ((reached-fitting (begun s .asked .few) (begun s .asked .room) z, begun s .orders, s .pre .1), begun s .inside)
+    ((reached-fitting (begun s .asked .few) (begun s .asked .room) (spare s) z, begun s .orders, s .pre .1), begun s .inside)
 
 -- The walk, and what it began with.
 abbrev begun-at : tie.After-eliminate → tie.Else2
@@ -143,7 +150,7 @@ last-of-requires c κs =
     let at = c .before .before .before .before .before .before .before in
     let s = from at in
     let z = begins at .kept .len in
-    (reached-fitting (begun s .asked .few) (omega (arith, begun s .asked .room)) (done at (c .before .enum-told .given .1) .reached), begun s .start)
+    (reached-fitting (begun s .asked .few) (omega (arith, begun s .asked .room)) (after-spare _ _ (going (s .args .e)) (s .args .order .now) _ (rw (begins at .same) (spare s)) (s .args .e .chain .states)) (done at (c .before .enum-told .given .1) .reached), begun s .start)
 
 same-length-4 : tie.Need-same-length-4
 same-length-4 c = kept (c .before .before .before .before .before .before .before .before) .len

@@ -1,5 +1,5 @@
 use borrow.Author.Needs.{needs}
-use Rattle.engines.proofs.Tables.{lent, length-row}
+use Rattle.engines.proofs.Tables.{lent, states-row}
 use Rattle.engines.proofs.run.last_of.Statement.{statement}
 use Rattle.engines.proofs.run.last_of.Tie as tie
 
@@ -9,14 +9,15 @@ last-requires c κs =
     let t = b .before .before in
     let a = t .args in
     let h = t .pre in
-    let e = lent (a .n) (a .start) _ (b .row-start .ensures .0) (a .work .now) in
-    (rw e (length-row (a .n) (a .work .now) (h .0 .room) (a .start) (h .1)), h .1, rw e (h .0 .fit (a .start) (h .1)))
+    rw (lent (a .n) (a .start) _ (b .row-start .ensures .0) (a .work .now), states-row (a .n) (a .work .now) (h .0 .room) (a .start) (h .1))
+    (h .0 .few, h .1, h .0 .packed (a .start) (h .1), h .0 .fit (a .start) (h .1))
 
 returns : tie.Need-returns
 returns c =
     let b = c .before .before in
-    let a = b .before .before .args in
-    rw (lent (a .n) (a .start) _ (b .row-start .ensures .0) (a .work .now)) at (c .last .ensures)
+    let t = b .before .before in
+    let a = t .args in
+    rw (lent (a .n) (a .start) _ (b .row-start .ensures .0) (a .work .now), states-row (a .n) (a .work .now) (t .pre .0 .room) (a .start) (t .pre .1)) at (c .last .ensures)
 
 pub last-of-spec : {M : Type 1} → statement M
 last-of-spec =

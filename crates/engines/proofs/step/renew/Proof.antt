@@ -1,35 +1,70 @@
-use mathlib.Core.Path.{sym, _∙_}
+use Prim.Native.Nat.{_<_}
+use mathlib.Core.Path.{_≡_, sym, ap, _∙_}
+use native.Mathlib.Omega.{arith}
+use lib.ListN.{replicate}
 use borrow.Author.Needs.{needs}
-use Rattle.engines.proofs.Rows.{renewed-own, renewed-none, renewed-some, taken-own, taken-none, taken-some, tested-fit, became, noRow-fit, zeros-noRow}
+use borrow.Author.Tests.{not-true, not-false, eqb-true, eqb-false}
+use Rattle.meaning.specs.Row.{cell, width}
+use Rattle.engines.specs.Packed.{statesOf, unpacked}
+use Rattle.engines.proofs.Laws.{packed-bit, packed-none, unpacked-none}
+use Rattle.engines.proofs.Rows.{renewed-own, renewed-none, renewed-some, taken-own, taken-none, taken-some, tested-fit, became, noRow-fit}
 use Rattle.engines.proofs.step.renew.Statement.{statement}
 use Rattle.engines.proofs.step.renew.Tie as tie
 
 returns : tie.Need-returns
 returns c =
-    let s = c .before .before .before .before .before .before in
-    let a = s .args in
-    let e = c .before .before .clear .ensures ∙ zeros-noRow (a .n) (a .row .now) (s .pre .0) in
-    became
-    (e ∙ sym (renewed-own (a .rounding) (a .n) (a .s) (a .d) (a .pivot .now) (a .row .now) (a .own) (c .before .before .before .before .if1 .taken)))
-    (rw e (tested-fit (noRow-fit (a .rounding) (a .n))))
-    (sym (taken-own (a .s) (a .d) (a .pivot .now) (a .row .now) (a .own) (c .before .before .before .before .if1 .taken)))
+    let k = c .before .before in
+    let y = k .before .before in
+    let t = y .before .before in
+    let a = t .args in
+    let n = statesOf (a .part .now) in
+    let p = unpacked n (a .pivot .now) in
+    let r = unpacked n (a .part .now) in
+    let e : k .clear .last .0 ≡ replicate (width n) 0 = k .clear .ensures ∙ ap (λ m. replicate m 0) (t .pre .2 .size) in
+    rw e
+    (became
+    (unpacked-none n ∙ sym (renewed-own (a .rounding) n (a .s) (a .d) p r (a .own) (y .if1 .taken)))
+    (packed-none n)
+    (rw (unpacked-none n) (tested-fit (noRow-fit (a .rounding) n)))
+    (sym (taken-own (a .s) (a .d) p r (a .own) (y .if1 .taken))))
+
+-- Whether the row has a weight to s: its targets say so.
+none-there : (c : tie.Then2) → let a = c .before .before .before .before .before .args in cell (unpacked (statesOf (a .part .now)) (a .part .now)) (a .s) ≡ 0
+none-there c =
+    let t = c .before .before .before .before .before in
+    let a = t .args in
+    let h = t .pre in
+    let d = eqb-false _ _ (sym (c .before .holds .ensures) ∙ not-true _ (c .if2 .taken)) in
+    let z : 0 < cell (unpacked (statesOf (a .part .now)) (a .part .now)) (a .s) → ⊥ = λ l. d (packed-bit (h .2) (a .s) (h .1 .state) .1 l) in
+    omega arith
+
+some-there : (c : tie.Else2) → let a = c .before .before .before .before .before .args in cell (unpacked (statesOf (a .part .now)) (a .part .now)) (a .s) ≡ 0 → ⊥
+some-there c e =
+    let t = c .before .before .before .before .before in
+    let h = t .pre in
+    omega (arith, packed-bit (h .2) (t .args .s) (h .1 .state) .0 (eqb-true _ _ (sym (c .before .holds .ensures) ∙ not-false _ (c .if2 .left))))
 
 returns-2 : tie.Need-returns-2
 returns-2 c =
-    let s = c .before .before .before .before in
-    let a = s .args in
-    became
-    (sym (renewed-none (a .rounding) (a .n) (a .s) (a .d) (a .pivot .now) (a .row .now) (a .own) (c .before .before .if1 .left) (c .if2 .taken)))
-    (tested-fit (s .pre .4))
-    (sym (taken-none (a .s) (a .d) (a .pivot .now) (a .row .now) (a .own) (c .before .before .if1 .left) (c .if2 .taken)))
+    let y = c .before .before .before in
+    let t = y .before .before in
+    let a = t .args in
+    let h = t .pre in
+    let n = statesOf (a .part .now) in
+    let p = unpacked n (a .pivot .now) in
+    let r = unpacked n (a .part .now) in
+    became (sym (renewed-none (a .rounding) n (a .s) (a .d) p r (a .own) (y .if1 .left) (none-there c))) (h .2) (tested-fit (h .3))
+    (sym (taken-none (a .s) (a .d) p r (a .own) (y .if1 .left) (none-there c)))
 
 returns-3 : tie.Need-returns-3
 returns-3 c =
-    let s = c .before .before .before .before .before .before in
-    let a = s .before .before .args in
-    let y = s .if1 .left in
-    let z = c .before .before .before .before .if2 .left in
-    rw (renewed-some (a .rounding) (a .n) (a .s) (a .d) (a .pivot .now) (a .row .now) (a .own) y z, taken-some (a .s) (a .d) (a .pivot .now) (a .row .now) (a .own) y z)
+    let z = c .before .before .before .before in
+    let y = z .before .before .before in
+    let a = y .before .before .args in
+    let n = statesOf (a .part .now) in
+    let p = unpacked n (a .pivot .now) in
+    let r = unpacked n (a .part .now) in
+    rw (renewed-some (a .rounding) n (a .s) (a .d) p r (a .own) (y .if1 .left) (some-there z), taken-some (a .s) (a .d) p r (a .own) (y .if1 .left) (some-there z))
     (c .before .before .change .ensures)
 
 pub renew-spec : {M : Type 1} → statement M

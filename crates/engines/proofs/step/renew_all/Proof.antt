@@ -9,6 +9,7 @@ use Rattle.meaning.specs.Number.{largest}
 use Rattle.meaning.specs.Row.{Row}
 use Rattle.meaning.specs.Step.{renewed}
 use Rattle.meaning.specs.Steps.{takenOut}
+use Rattle.engines.specs.Packed.{unpacked}
 use Rattle.engines.specs.Table.{rowAt}
 use Rattle.engines.proofs.Rows.{apart}
 use Rattle.engines.proofs.Removal.{Renewing, renewing-none, renewing-more, renewing-all, renewing-stop, largest-more}
@@ -20,12 +21,12 @@ abbrev taken : ℕ → ℕ → ℕ → Row → List ℕ → ℕ → ℕ
 taken n s d p w k = takenOut s d p (eqb k s) (rowAt n w k)
 
 abbrev Inv-loop : tie.InvT-loop
-Inv-loop work₀ n s d pivot rounding divisor₀ i₀ work divisor i =
-    Renewing rounding (λ k. renewed rounding n s d pivot (eqb k s) (rowAt n work₀ k)) n work₀ i work
-    × (divisor ≡ largest (taken n s d pivot work₀) i)
+Inv-loop work₀ n s d pivot y rounding divisor₀ i₀ work divisor i =
+    Renewing rounding (λ k. renewed rounding n s d (unpacked n pivot) (eqb k s) (rowAt n work₀ k)) n work₀ i work
+    × (divisor ≡ largest (taken n s d (unpacked n pivot) work₀) i)
 
 abbrev μ-loop : tie.MeasureT-loop
-μ-loop work₀ n s d pivot rounding divisor₀ i₀ work divisor i = n - i
+μ-loop work₀ n s d pivot y rounding divisor₀ i₀ work divisor i = n - i
 
 loop-holds : tie.Need-loop-holds Inv-loop μ-loop
 unfolding largest
@@ -37,7 +38,7 @@ renew-row-requires c κs =
     let h = p .before .before .pre in
     let z = p .loop .inv .0 in
     let b = c .before .loop-test .taken in
-    (omega (arith, h .0 .room, z .kept .len), h .0 .few, b, h .1, h .2, rw (z .old _ (omega arith) b) (h .0 .fit _ b), h .3)
+    rw (z .old _ (omega arith) b) (omega (arith, h .0 .room, z .kept .len), h .0 .few, b, h .1, h .0 .packed _ b, h .0 .fit _ b, h .2 _ b)
 
 returns : tie.Need-returns Inv-loop μ-loop
 returns c =
@@ -57,7 +58,7 @@ loop-again c =
     let b = test .loop-test .taken in
     let a = test .before .before .before .args in
     let e = rw (z .0 .old _ (omega arith) b) at (at .renew-row .ensures) in
-    (renewing-more (z .0) b e (not-false _ (c .before .if1 .left)), largest-more (taken (a .n) (a .s) (a .d) (a .pivot .now) (a .work .now)) (z .1) (e .told) (c .larger .ensures))
+    (renewing-more (z .0) b e (not-false _ (c .before .if1 .left)), largest-more (taken (a .n) (a .s) (a .d) (unpacked (a .n) (a .pivot .now)) (a .work .now)) (z .1) (e .told) (c .larger .ensures))
 
 returns-2 : tie.Need-returns-2 Inv-loop μ-loop
 returns-2 c =

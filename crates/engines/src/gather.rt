@@ -1,0 +1,77 @@
+// The weights of the edges, gathered by columns in one pass. While they are gathered a row's own part has a number for each column: the n states,
+// then Goal in column n and Trap, Unknown and Reward behind it.
+ghost use mathlib.Core.Path.{_≡_};
+ghost use Prim.Native.Nat.{_+_, _<_, _≤_};
+ghost use lib.ListN.{length, set};
+ghost use Rattle.meaning.specs.Number.{sumTo};
+ghost use Rattle.meaning.specs.Chain.{mostStates, M, edgeCount};
+ghost use Rattle.meaning.specs.Row.{cell, width};
+ghost use Rattle.meaning.specs.Refusal.{workSize};
+ghost use Rattle.engines.specs.Table.{partAt};
+ghost use Rattle.survey.specs.Sets.{setsOf};
+ghost use Rattle.engines.specs.Gather.{columnOf, share, Changed, Added, Held, Addable, Gatherable};
+use crate::work::clear_work;
+use crate::work::row_start;
+use chain::Chain;
+use chain::edge;
+use chain::set::holds;
+use survey::Sets;
+
+// How far Trap and Unknown stand behind Goal.
+pub(crate) const TRAP_BEHIND: usize = 1;
+
+pub(crate) const UNKNOWN_BEHIND: usize = 2;
+
+// The column of a target in the row of a live state. A target that is not live and has a path to a goal is a goal.
+fn column(t: usize, n: usize, sets: Sets) -> usize
+    requires { ⌜ (t < n) × (n ≤ mostStates) ⌝ }
+    ensures { λ r. ⌜ (r ≡ columnOf n (setsOf sets) t) × (r < width n) ⌝ }
+{
+    if holds(sets.live, t) {
+        return t;
+    }
+    if holds(sets.good, t) {
+        return n;
+    }
+    n + TRAP_BEHIND
+}
+
+// Adds x to the number in column j of row i.
+fn add(work: &mut [u64], n: usize, i: usize, j: usize, x: u64)
+    requires { ⌜ (n ≤ mostStates) × (workSize n ≤ length (now work)) × (i < n) × (j < width n) × (cell (partAt n (now work) i) j + x ≤ M) ⌝ }
+    ensures { λ _.
+        let r = partAt n (now (work .entry)) i in
+        ⌜ Changed n (now (work .entry)) i (set r j (cell r j + x)) (now (work .exit)) ⌝ }
+{
+    let p = row_start(n, i) + j;
+    work[p] += x;
+}
+
+// Adds the weight of edge e to the row of its source, where that is live.
+fn carry(work: &mut [u64], n: usize, sets: Sets, edges: &[u64], e: usize)
+    requires { ⌜ Addable n (now edges) e (now work) ⌝ }
+    ensures { λ _. ⌜ Added n (λ i j. share n (setsOf sets) (now (edges .entry)) i j e) (now (work .entry)) (now (work .exit)) ⌝ }
+{
+    let i = edge::from(edges, e) as usize;
+    if !holds(sets.live, i) {
+        return;
+    }
+    let j = column(edge::to(edges, e) as usize, n, sets);
+    add(work, n, i, j, edge::weight(edges, e));
+}
+
+// Gathers the weights of all edges, in one pass.
+pub(crate) fn gather(work: &mut [u64], n: usize, sets: Sets, edges: &[u64])
+    requires { ⌜ Gatherable n (now edges) (now work) ⌝ }
+    ensures { λ _.
+        let es = now (edges .entry) in
+        ⌜ Held n (λ i j. sumTo (share n (setsOf sets) es i j) (edgeCount es)) (now (work .entry)) (now (work .exit)) ⌝ }
+{
+    clear_work(work, n);
+    let count = edge::count(edges);
+    let mut e = 0;
+    while e < count {
+        carry(work, n, sets, edges, e);
+        e += 1;
+    }
+}
