@@ -7,5 +7,6 @@ pub mod Gcd
 pub mod Bits
 pub mod Digits
 pub mod Shift
+pub mod Twos
 pub mod Every
 pub mod Search
