@@ -2,8 +2,8 @@
 use mathlib.Core.Path.{_≡_, sym, ap, _∙_}
 use mathlib.Core.Logic.{⊎-elim}
 use mathlib.Core.List.{List, [], _∷_}
-use Prim.Native.Nat.{ℕ, zero, suc, _-_, _*_, _≤_, _<_}
-use native.Mathlib.Nat.{div-le-self, div-one, mul-div-le, mod-one}
+use Prim.Native.Nat.{ℕ, zero, suc, _-_, _*_, _/_, _^_, _≤_, _<_}
+use native.Mathlib.Nat.{div-le-self, div-one, mul-div-le, mod-one, div-div-eq-div-mul}
 use native.Mathlib.Numerals.{sub-one}
 use native.Mathlib.Omega.{arith}
 use lib.ListN.{length, getD, drop}
@@ -13,6 +13,7 @@ use Rattle.meaning.specs.Number.{sumTo, gcd}
 use Rattle.meaning.specs.Row.{Row, cell, gcdOf, divisor, over, lowest}
 use Rattle.theory.specs.Numbers.Sum.{same, sum-le, sum-scale}
 use Rattle.theory.specs.Numbers.Gcd.{gcd-zero, gcd-step}
+use Rattle.theory.specs.Numbers.Twos.{Twos}
 use Rattle.theory.specs.Rows.Terms.{over-cell, over-length}
 
 pub gcdOf-more : (l : List ℕ) (j : ℕ) → 0 < j → j ≤ length l → gcdOf (drop (j - 1) l) ≡ gcd (getD l (j - 1) 0) (gcdOf (drop j l))
@@ -58,3 +59,16 @@ divisor-large r g e h = let d : gcdOf r ≡ 0 → ⊥ = λ z. omega arith in rw 
 
 pub lowest-over : (r q : Row) (g : ℕ) → g ≡ gcdOf r → 1 < g → q ≡ over g r → q ≡ lowest r
 lowest-over r q g e h k = k ∙ ap (λ (d : ℕ). over d r) (divisor-large r g e h)
+
+-- A row divided twice, and a divisor whose twos are taken out first.
+over-over : (p q : ℕ) (r : Row) → over q (over p r) ≡ over (p * q) r
+over-over p q r =
+    ext-getD 0 (over q (over p r)) (over (p * q) r)
+    (over-length q (over p r) ∙ over-length p r ∙ sym (over-length (p * q) r))
+    (λ j h. over-cell q (over p r) j ∙ ap (λ x. x / q) (over-cell p r j) ∙ div-div-eq-div-mul (cell r j) p q ∙ sym (over-cell (p * q) r j))
+
+pub over-twos : (d k : ℕ) (r s : Row) → Twos 64 d k → s ≡ over (2 ^ k) r → over (d / 2 ^ k) s ≡ over d r
+over-twos d k r s w e = ap (over (d / 2 ^ k)) e ∙ over-over (2 ^ k) (d / 2 ^ k) r ∙ ap (λ x. over x r) (w .whole)
+
+pub over-even : (d k : ℕ) (r s : Row) → Twos 64 d k → d / 2 ^ k ≡ 1 → s ≡ over (2 ^ k) r → s ≡ over d r
+over-even d k r s w o e = sym (over-one s) ∙ ap (λ x. over x s) (sym o) ∙ over-twos d k r s w e

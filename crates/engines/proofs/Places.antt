@@ -3,7 +3,7 @@ use Prim.Native.Nat.{ℕ, zero, suc, _+_, _-_, _/_, _%_, _^_, _≤_, _<_, min}
 use mathlib.Core.Path.{_≡_, refl, sym, ap, _∙_}
 use mathlib.Core.Logic.{⊎-elim}
 use native.Mathlib.Omega.{arith}
-use native.Mathlib.Nat.{mod-lt, mod-one, mod-eq-of-lt, pow-succ', zero-div}
+use native.Mathlib.Nat.{mod-lt, mod-one, mod-eq-of-lt, zero-div}
 use lib.Pow.{mod-pow-add, pow-pos, split}
 use lib.Bits.{bitAnd, and-step, and-self}
 use lib.Count.{ones, onesIn, ones-cat, trailingZeros}
@@ -11,6 +11,7 @@ use lib.Dec.{eqb}
 use borrow.Author.Tests.{eq-eqb, ne-eqb}
 use Rattle.meaning.specs.Number.{sumTo, only, bit}
 use Rattle.theory.specs.Numbers.Sum.{same, below, last-or-below}
+use Rattle.theory.specs.Numbers.Twos.{twos}
 use Rattle.theory.specs.Chains.Sets.{bit-zero, bit-suc}
 use Rattle.engines.specs.Packed.{placeOf}
 use Rattle.engines.specs.Filled.{Lowest}
@@ -111,16 +112,7 @@ zeros-below (suc k) s (suc i) h =
     bit-suc s i ∙ zeros-below k (s / 2) i (omega arith)
 
 pub one-at : (k s : ℕ) → 0 < s → s < 2 ^ k → (bit s (trailingZeros k s) ≡ 1) × (trailingZeros k s < k)
-unfolding trailingZeros
-one-at zero s h l = absurd (omega arith)
-one-at (suc k) s h l =
-    ⊎-elim
-    (λ (e : s % 2 ≡ 0).
-    let r = one-at k (s / 2) (omega arith) (omega (arith, pow-succ' 2 k)) in
-    rw e (bit-suc s _ ∙ r .0, omega (arith, r .1)))
-    (λ (d : s % 2 ≡ 0 → ⊥).
-    let e : s % 2 ≡ 1 = omega arith in rw e (bit-zero s ∙ e, omega arith))
-    (same (s % 2) 0)
+one-at k s h l = let w = twos k s h l in (w .odd, w .less)
 
 -- A set and the number before it have the others of its states in common.
 module _ (s : ℕ) where

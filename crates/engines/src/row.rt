@@ -1,7 +1,7 @@
 // One packed row: its lowest terms, its total, and how it is rounded.
 ghost use mathlib.Core.Path.{_≡_};
 ghost use mathlib.Core.Bool.{true, false};
-ghost use Prim.Native.Nat.{_^_, _<_, _≤_};
+ghost use Prim.Native.Nat.{ℕ, _^_, _<_, _≤_};
 ghost use lib.ListN.{length};
 ghost use Rattle.meaning.specs.Chain.{mostStates, M};
 ghost use Rattle.meaning.specs.Number.{sumTo};
@@ -38,8 +38,20 @@ fn common(row: &[u64]) -> u64
     g
 }
 
-// Divides each number of a row.
-fn divide(row: &mut [u64], d: u64)
+// Divides each number of a row by 2 ^ k.
+fn lower(row: &mut [u64], k: u64)
+    requires { ⌜ k < 64 ⌝ }
+    ensures { λ _. ⌜ now (row .exit) ≡ over (2 ^ k) (now (row .entry)) ⌝ }
+{
+    let mut j = 0;
+    while j < row.len() {
+        row[j] = row[j] >> k;
+        j += 1;
+    }
+}
+
+// Divides each number of a row, by a division each.
+fn quotients(row: &mut [u64], d: u64)
     requires { ⌜ 0 < d ⌝ }
     ensures { λ _. ⌜ now (row .exit) ≡ over d (now (row .entry)) ⌝ }
 {
@@ -48,6 +60,20 @@ fn divide(row: &mut [u64], d: u64)
         row[j] = row[j] / d;
         j += 1;
     }
+}
+
+// Divides each number of a row, by a shift for the twos of the divisor and by a division only for an odd rest.
+fn divide(row: &mut [u64], d: u64)
+    requires { ⌜ 0 < d ⌝ }
+    ensures { λ _. ⌜ now (row .exit) ≡ over d (now (row .entry)) ⌝ }
+{
+    let k = u64::trailing_zeros(d) as u64;
+    lower(row, k);
+    let q = d >> k;
+    if q == 1 {
+        return;
+    }
+    quotients(row, q);
 }
 
 // Brings a row to lowest terms, and answers the divisor that it took out. A row of zeros stays, and so does a row whose divisor is 1.
@@ -94,28 +120,28 @@ fn up(t: u64, k: u64) -> u64
     (t + (1 << k) - 1) >> k
 }
 
+// A shift, no larger than the least that brings a total down to the largest: one place less leaves 32 binary digits or more.
+fn nearly(t: u64) -> u64
+    requires { ⌜ t < 2 ^ 63 ⌝ }
+    ensures { λ r. ⌜ (r ≤ 33) × ((j : ℕ) → j < r → M < upTo t j) ⌝ }
+{
+    let z = u64::leading_zeros(t) as u64;
+    if 33 < z {
+        return 0;
+    }
+    33 - z
+}
+
 // The least shift that brings a total down to the largest.
 fn shift(t: u64) -> u64
     requires { ⌜ t < 2 ^ 63 ⌝ }
     ensures { λ r. ⌜ (r ≡ shiftOf t) × (r ≤ 33) ⌝ }
 {
-    let mut k = 0;
+    let mut k = nearly(t);
     while Chain::LIMIT < up(t, k) {
         k += 1;
     }
     k
-}
-
-// Divides each number of a row by 2 ^ k.
-fn lower(row: &mut [u64], k: u64)
-    requires { ⌜ k < 64 ⌝ }
-    ensures { λ _. ⌜ now (row .exit) ≡ over (2 ^ k) (now (row .entry)) ⌝ }
-{
-    let mut j = 0;
-    while j < row.len() {
-        row[j] = row[j] >> k;
-        j += 1;
-    }
 }
 
 // Rounds a packed row, whose numbers end at e and whose total is t: the total up, each number but Unknown down, and Unknown takes what the total

@@ -1,45 +1,44 @@
-use Prim.Native.Nat.{_-_, _/_}
+use mathlib.Core.Path.{_∙_}
 use native.Mathlib.Omega.{arith}
+use lib.Count.{trailing-le, trailingZeros}
 use borrow.Author.Needs.{needs}
-use lib.ListN.{length, getD}
-use Rattle.meaning.specs.Row.{over}
-use Rattle.engines.proofs.Loop.{Walked, walk-none, walk-at, walk-more, walk-all}
+use Rattle.theory.specs.Numbers.Twos.{Twos, twos}
+use Rattle.engines.proofs.Lowest.{over-twos, over-even}
 use Rattle.engines.proofs.row.divide.Statement.{statement}
 use Rattle.engines.proofs.row.divide.Tie as tie
 
-abbrev Inv-loop : tie.InvT-loop
-Inv-loop row₀ d j₀ row j = Walked (λ k. getD row₀ k 0 / d) row₀ j row
+divisor-twos : (c : tie.After-slice-known) → Twos 64 (c .before .args .d) (trailingZeros 64 (c .before .args .d))
+divisor-twos c = twos 64 (c .before .args .d) (omega arith) (omega arith)
 
-abbrev μ-loop : tie.MeasureT-loop
-μ-loop row₀ d j₀ row j = length row₀ - j
+cast-k : tie.Need-cast-k
+cast-k c = record { fits = omega (arith, trailing-le 64 (c .before .args .d)) }
 
-loop-holds : tie.Need-loop-holds Inv-loop μ-loop
-loop-holds c = walk-none
+lower-requires : tie.Need-lower-requires
+lower-requires c κs = divisor-twos (c .before) .less
 
-loop-again : tie.Need-loop-again Inv-loop μ-loop
-loop-again c =
-    let p = c .before .before in
-    let w = p .loop .inv in
-    walk-more w (omega arith) (rw (walk-at w))
+shr-q : tie.Need-shr-q
+shr-q c = divisor-twos (c .before .before .before .before) .less
 
-returns : tie.Need-returns Inv-loop μ-loop
-unfolding over
-returns c = walk-all (c .before .loop .inv) (omega arith)
+quotients-requires : tie.Need-quotients-requires
+quotients-requires c κs = omega (arith, divisor-twos (c .before .before .before .before .before .before) .odd)
+
+returns : tie.Need-returns
+returns c = over-even _ _ _ _ (divisor-twos (c .before .before .before .before .before)) (omega arith) (c .before .before .before .lower .ensures)
+
+returns-2 : tie.Need-returns-2
+returns-2 c =
+    let k = c .before .before .before .before .before .before .before in
+    c .before .before .quotients .ensures ∙ over-twos _ _ _ _ (divisor-twos (k .before .before)) (k .lower .ensures)
 
 pub divide-spec : {M : Type 1} → statement M
 divide-spec =
     tie.close
     (tie.spec
-    Inv-loop
-    μ-loop
-    loop-holds
+    cast-k
+    lower-requires
+    shr-q
     (λ c. search needs)
+    returns
+    quotients-requires
     (λ c. search needs)
-    (λ c. search needs)
-    (λ c. search needs)
-    (λ c. search needs)
-    (λ c. search needs)
-    (λ c. search needs)
-    loop-again
-    (λ c. search needs)
-    returns)
+    returns-2)
