@@ -42,3 +42,6 @@ pub mod Cases
 pub mod Demand
 -- The requests that came after: planning copies.
 pub mod Copies
+-- The requests that came after: choosing an order, and a chain file with the chosen order.
+pub mod Choice
+pub mod Reorder
