@@ -10,3 +10,4 @@ pub mod Shift
 pub mod Twos
 pub mod Every
 pub mod Search
+pub mod Least

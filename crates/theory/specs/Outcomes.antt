@@ -17,6 +17,10 @@ pub mod Steps
 pub mod StepsComputed
 pub mod StepsChance
 pub mod StepsStates
+pub mod Turns
+pub mod TurnsCounted
+pub mod Choice
+pub mod ChoiceExists
 pub mod EdgeRewards
 pub mod OldRewards
 pub mod Listed

@@ -3,6 +3,7 @@ pub mod Leads
 pub mod Removal
 pub mod Given
 pub mod First
+pub mod Weighs
 pub mod Stage
 pub mod Fits
 pub mod Unrounded
