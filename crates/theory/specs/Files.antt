@@ -19,3 +19,4 @@ pub mod CallOne
 pub mod CallRead
 pub mod CallBounds
 pub mod CallFile
+pub mod Reorder

@@ -17,8 +17,8 @@ use Rattle.theory.specs.Chains.Fine.{Fine}
 use Rattle.theory.specs.Chains.Sets.{right-exists}
 use Rattle.theory.specs.Outcomes.Formed.{formed-fine, start-in, goals-in, from-in}
 use Rattle.theory.specs.Outcomes.Look.{LookResult, look}
-use Rattle.theory.specs.Outcomes.Turns.{Alike, alike-back, Turns, left-alike, turns-alike, turns-more, going-state}
-use Rattle.theory.specs.Outcomes.TurnsCounted.{seen, turns-room, turns-all}
+use Rattle.theory.specs.Outcomes.Turns.{Alike, alike-back, Turns, left-alike, turns-alike, turns-more, products-alike, going-state}
+use Rattle.theory.specs.Outcomes.TurnsCounted.{seen, turns-few, turns-room, turns-all}
 
 module _ (c : Chain) (k : Sets) (fine : Fine c) (right : Right c k) (start : c .start < c .states) where
   abbrev n : ℕ
@@ -79,27 +79,34 @@ module _ (c : Chain) (k : Sets) (fine : Fine c) (right : Right c k) (start : c .
       (λ (f : (i : ℕ) → Left c k o p i → ⊥). record { order = o; count = p; size = e; turns = t; done = f })
       (found o p t)
 
+  -- The turns until none is left, and then the states passed over.
+  module _ {o : List ℕ} {m : ℕ} (size : length o ≡ n) (turns : Turns c k o m) (done : (i : ℕ) → Left c k o m i → ⊥) where
+    abbrev pub whole : List ℕ
+    whole = take m o ++ passedOver go n
+
+    front-length : length (take m o) ≡ m
+    front-length = length-take-le m o (omega (arith, size, turns-few c k fine right start turns))
+
+    whole-front : Alike o whole m
+    whole-front =
+        record { entry = λ q h. sym (List·getD-append (take m o) (passedOver go n) 0 q (omega (arith, front-length, h)) ∙ getD-take m o q 0 h) }
+
+    pub chosen-whole : Chosen c k whole m
+    chosen-whole =
+        record {
+          size = length-append (take m o) (passedOver go n) ∙ omega (arith, front-length, turns-all c k fine right start turns done);
+          turns = turns-alike c k whole-front turns .turn;
+          done = λ i y. done i (left-alike c k (alike-back whole-front) y);
+          rest = drop-at (take m o) (passedOver go n) m front-length;
+        }
+
+    pub whole-products : productsTo c k o m ≡ productsTo c k whole m
+    whole-products = products-alike c k whole-front
+
   pub chosen-exists : (o : List ℕ) × (m : ℕ) × Chosen c k o m
-  chosen-exists = finished (ends n (replicate n 0) 0 (length-replicate n 0) (record { turn = λ q l. absurd (omega arith) }) (omega arith))
-    where
-      finished : Ended → (o : List ℕ) × (m : ℕ) × Chosen c k o m
-      finished x =
-          let m = x .count in
-          let front = take m (x .order) in
-          let rest = passedOver go n in
-          let all = turns-all c k fine right start (x .turns) (x .done) in
-          let l : length front ≡ m = length-take-le m (x .order) (omega (arith, x .size, all)) in
-          let a : Alike (x .order) (front ++ rest) m =
-          record { entry = λ q h. sym (List·getD-append front rest 0 q (omega (arith, l, h)) ∙ getD-take m (x .order) q 0 h) } in (
-            front ++ rest,
-            m,
-            record {
-              size = length-append front rest ∙ omega (arith, l, all);
-              turns = λ p h. turns-alike c k a (x .turns) .turn p h;
-              done = λ i y. x .done i (left-alike c k (alike-back a) y);
-              rest = drop-at front rest m l;
-            },
-          )
+  chosen-exists =
+      let x = ends n (replicate n 0) 0 (length-replicate n 0) (record { turn = λ q l. absurd (omega arith) }) (omega arith) in
+      (whole (x .size) (x .turns) (x .done), x .count, chosen-whole (x .size) (x .turns) (x .done))
 
 -- The part has an outcome for every input and every list.
 pub choice-exists : (l : Lent) (before : List ℕ) → (a : Choice) × (after : List ℕ) × ChoiceOutcome l before a after

@@ -73,14 +73,14 @@ pub data Into (n goals : ℕ) (k : Sets) (t j : ℕ) : Type 0 where
   trap : j ≡ trapColumn n → (bit (k .good) t ≡ 1 → ⊥) → Into n goals k t j
 
 -- Edge e gives the row of i, which is live, a weight in column j.
-pub record Brings (c : Chain) (k : Sets) (i j e : ℕ) : Type 0 where
-  pub source : from (c .edges) e ≡ i
+pub record Brings (n goals : ℕ) (edges : List ℕ) (k : Sets) (i j e : ℕ) : Type 0 where
+  pub source : from edges e ≡ i
   pub live : bit (k .live) i ≡ 1
-  pub into : Into (c .states) (c .goals) k (to (c .edges) e) j
+  pub into : Into n goals k (to edges e) j
 
 -- So does one of the first m edges.
-abbrev pub Brought : Chain → Sets → ℕ → ℕ → ℕ → Type 0
-Brought c k i j m = (e : ℕ) × ((e < m) × Brings c k i j e)
+abbrev pub Brought : ℕ → ℕ → List ℕ → Sets → ℕ → ℕ → ℕ → Type 0
+Brought n goals edges k m i j = (e : ℕ) × ((e < m) × Brings n goals edges k i j e)
 
 -- The first rows.
 module _ (c : Chain) (k : Sets) (pay : ℕ → ℕ) where
@@ -105,8 +105,8 @@ module _ (c : Chain) (k : Sets) (pay : ℕ → ℕ) where
       (λ _. no-length n)
 
   module _ (fine : Fine c) where
-    abbrev Found : ℕ → ℕ → Type 0
-    Found i j = Brought c k i j (edgeCount (c .edges))
+    abbrev pub Found : ℕ → ℕ → Type 0
+    Found i j = Brought n (c .goals) (c .edges) k (edgeCount (c .edges)) i j
 
     -- The columns of a row as the chain gives it.
     module _ (i : ℕ) (alive : bit (k .live) i ≡ 1) where
