@@ -20,19 +20,17 @@ module _ {a b : Numbers} (e : a ≡ b) where
   size-of = ap (λ (a : Numbers). a .written) e
 
 -- A file has bytes, and a refusal a number.
-filed : Writing → Type 0
+abbrev pub filed : Writing → Type 0
 filed (Length n) = 0 < n
 filed (Refused number place) = 0 < number
 
 is-filed : {l : Lent} {after : List ℕ} (r : Writing) → WriteOutcome l (told r) after → filed r
-unfolding filed
 is-filed (Length n) (refused k p z e d) = absurd (omega (arith, number-of e, refused-places k p z))
 is-filed (Length n) (written w f x e d) = omega (arith, size-of e, file-of-size x)
 is-filed (Refused n p) (refused k q z e d) = omega (arith, number-of e, refused-places k q z)
 is-filed (Refused n p) (written w f x e d) = absurd (omega (arith, size-of e, file-of-size x))
 
-filed-one : (r r′ : Writing) → filed r → filed r′ → told r ≡ told r′ → r ≡ r′
-unfolding filed
+pub filed-one : (r r′ : Writing) → filed r → filed r′ → told r ≡ told r′ → r ≡ r′
 filed-one (Length n) (Length m) a b e = ap (λ (n : ℕ). Length n) (size-of e)
 filed-one (Length n) (Refused m p) a b e = absurd (omega (arith, number-of e))
 filed-one (Refused n p) (Length m) a b e = absurd (omega (arith, number-of e))

@@ -8,13 +8,19 @@ use Rattle.choice.proofs.columns.leads.Statement.{statement}
 use Rattle.choice.proofs.columns.leads.Tie as tie
 
 returns : tie.Need-returns
-returns c = (rw (eq-eqb _ _ (c .if1 .taken)), omega arith)
+returns c = let a = c .before .before .args in (rw (eq-eqb (a .j) (a .s) (c .if1 .taken)), omega arith)
 
 returns-2 : tie.Need-returns-2
-returns-2 c = (rw (ne-eqb _ _ (c .before .before .before .if1 .left)) (sym (eqb-true _ 1 (sym (c .before .holds .ensures) ∙ c .if2 .taken))), omega arith)
+returns-2 c =
+    let other = c .before .before .before in
+    let a = other .before .before .args in
+    (rw (ne-eqb (a .j) (a .s) (other .if1 .left)) (sym (eqb-true _ 1 (sym (c .before .holds .ensures) ∙ c .if2 .taken))), omega arith)
 
 returns-3 : tie.Need-returns-3
-returns-3 c = (rw (ne-eqb _ _ (c .before .before .before .if1 .left)) (zero-bit _ _ (sym (c .before .holds .ensures) ∙ c .if2 .left)), omega arith)
+returns-3 c =
+    let other = c .before .before .before in
+    let a = other .before .before .args in
+    (rw (ne-eqb (a .j) (a .s) (other .if1 .left)) (zero-bit _ _ (sym (c .before .holds .ensures) ∙ c .if2 .left)), omega arith)
 
 pub leads-spec : {M : Type 1} → statement M
 leads-spec =
