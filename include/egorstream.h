@@ -44,8 +44,9 @@ extern "C" {
 /* The request is wrong: the caller must be mended. */
 
 /*
- * The mode is above 2. For egorstream_write: the number of states is not 1 to 64, a table's length
- * does not fit it, the edge numbers are not in fours, or there are no edges or over 4,096.
+ * The mode is above 2. For egorstream_order: the list is not as long as the chain has states. For
+ * egorstream_write: the number of states is not 1 to 64, a table's length does not fit it, the edge
+ * numbers are not in fours, or there are no edges or over 4,096.
  */
 #define EGORSTREAM_MODE_OR_LENGTH_WRONG UINT32_C(1)
 /*
@@ -170,6 +171,37 @@ struct egorstream_stepped {
  */
 struct egorstream_stepped egorstream_steps(const uint8_t *file, size_t file_length,
                                            struct egorstream_step *list, size_t list_length);
+
+/*
+ * What egorstream_order answers: 0, 0 and the sum of the products; or a refusal's number and place, and
+ * 0.
+ */
+struct egorstream_ordered {
+    uint32_t number;
+    uint32_t place;
+    uint64_t sum;
+};
+
+/*
+ * Chooses an order for the chain of a file and writes it into a list: at each turn the live state, not
+ * the start, with the least product of the rows that lead to it and the columns that it leads to, as
+ * egorstream_steps counts them, the lowest number on a tie; then the states passed over, rising. The
+ * file's own order is not looked at.
+ *
+ * file, file_length      The bytes of a chain file, as above.
+ * list, list_length      Room for as many numbers as the chain has states, which is byte 6 of the file:
+ *                        no less and no more. It is aligned as uint64_t is, and does not overlap the
+ *                        file.
+ *
+ * The sum is what the rows times the columns of a step list with that order add up to, where it ends in
+ * the chance. Nothing says that the order is the best, or that it meets no EGORSTREAM_NO_FIT.
+ *
+ * The file is tested first, then the list's length, where another is
+ * EGORSTREAM_MODE_OR_LENGTH_WRONG, then the chain; EGORSTREAM_ORDER_WRONG and EGORSTREAM_NO_FIT never
+ * come. A refusal leaves the whole list as it was. The stack of egorstream_chance is enough.
+ */
+struct egorstream_ordered egorstream_order(const uint8_t *file, size_t file_length, uint64_t *list,
+                                           size_t list_length);
 
 /* What egorstream_write answers: 0, 0 and the file's length; or a refusal's number and place, and 0. */
 struct egorstream_written {

@@ -1,5 +1,6 @@
 // The calls from C.
 mod call;
+mod order;
 mod reply;
 mod steps;
 mod write;
@@ -8,6 +9,8 @@ pub use call::MODE_BOUNDS;
 pub use call::MODE_DEFAULT;
 pub use call::MODE_EXACT;
 pub use call::egorstream_chance;
+pub use order::Ordered;
+pub use order::egorstream_order;
 pub use reply::ANSWER_LENGTH;
 pub use steps::Stepped;
 pub use steps::egorstream_steps;
