@@ -102,7 +102,7 @@ def gateway():
     0 begun, 1 the gateway, 2 to 5 the stores, 6 all is well, 7 lost: the goal
 
     The order removes the gateway first, and each store then leads to all four: the exact numbers have no fit after three steps. With the gateway last in the
-    order they fit: chance 2421953/481015391.
+    order, as reorder chooses it, they fit: chance 2421953/481015391.
     """
     rows = [{1: 1}, {2: 1, 3: 1, 4: 1, 5: 1}]
     rows += [{store + 1: 496, 1: 3, 7: 1} for store in (2, 3, 4, 5)]

@@ -1,7 +1,7 @@
 /*
  * Calls the C entries on requests that come on standard input, one after the other, so that a program on any machine can try them.
  *
- * A request begins with a 4-byte number in the machine's order: 0 for the chance, 1 for the writer, 2 for the step list.
+ * A request begins with a 4-byte number in the machine's order: 0 for the chance, 1 for the writer, 2 for the step list, 3 for an order.
  *
  * The chance: five such numbers (mode, file length, memory length, where the answer begins in the memory, answer length), then the file,
  * then the memory. The reply: two such numbers (what the entry returned, whether the file is unchanged), then the memory as the entry left
@@ -14,6 +14,9 @@
  * The step list: four such numbers (file length, memory length, where the list begins in the memory, how many records it has), then the file,
  * then the memory. The reply: six such numbers (number, place, count, numerator, denominator, whether the file is unchanged), then the memory.
  * The memory has a length, and the list a beginning, that is a multiple of 8.
+ *
+ * An order: the same, with a list of so many 8-byte numbers. The reply: four such numbers (number, place, sum, whether the file is unchanged), then
+ * the memory.
  *
  * A file, a table, a list or a buffer that is empty is handed over as a null pointer. The file, the tables and the memory end where a page begins that nobody may touch: who
  * reads or writes past them is stopped.
@@ -202,6 +205,17 @@ static void list_steps(void)
     tell_lent(reply, 6, &lent);
 }
 
+static void choose_order(void)
+{
+    uint32_t request[4];
+    take(request, sizeof request);
+    struct lent lent = lend(request[0], request[1]);
+    uint64_t *list = request[3] == 0 ? NULL : (uint64_t *)(void *)(lent.memory + request[2]);
+    struct egorstream_ordered ordered = egorstream_order(file_of(&lent), lent.file_length, list, request[3]);
+    uint32_t reply[4] = {ordered.number, ordered.place, in_four_bytes(ordered.sum), unchanged(&lent)};
+    tell_lent(reply, 4, &lent);
+}
+
 int main(void)
 {
     uint32_t kind;
@@ -210,8 +224,10 @@ int main(void)
             answer();
         } else if (kind == 1) {
             write_file();
-        } else {
+        } else if (kind == 2) {
             list_steps();
+        } else {
+            choose_order();
         }
     }
     return 0;

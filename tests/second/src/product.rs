@@ -22,6 +22,7 @@ pub fn driver() -> PathBuf {
 /// The programs that read a chain file.
 pub const NIGHTCHANCE: &str = "nightchance";
 pub const NIGHTSTEPS: &str = "nightsteps";
+pub const REORDER: &str = "reorder";
 /// The program that is given a plan.
 pub const PLANCOPIES: &str = "plancopies";
 
@@ -42,6 +43,10 @@ static WAY: LazyLock<Vec<String>> = LazyLock::new(|| {
 });
 
 fn start(program: &Path, words: &[String]) -> Child {
+    start_with(program, words, Stdio::inherit())
+}
+
+fn start_with(program: &Path, words: &[String], complaints: Stdio) -> Child {
     let mut command = match WAY.split_first() {
         None => Command::new(program),
         Some((runner, words)) => {
@@ -51,7 +56,7 @@ fn start(program: &Path, words: &[String]) -> Child {
         }
     };
     command.args(words);
-    command.stdin(Stdio::piped()).stdout(Stdio::piped()).stderr(Stdio::inherit());
+    command.stdin(Stdio::piped()).stdout(Stdio::piped()).stderr(complaints);
     command.spawn().unwrap_or_else(|error| panic!("{command:?} does not start: {error}"))
 }
 
@@ -123,6 +128,13 @@ impl Driver {
         Ok(Stepped { number, place, count, numerator, denominator, file_unchanged })
     }
 
+    fn order(&mut self, listing: &Listing, memory: &mut [u8]) -> io::Result<Ordered> {
+        let Listing { file, start, room } = *listing;
+        let numbers = [3, file.len(), memory.len(), start, room];
+        let [number, place, sum, unchanged] = self.ask(&numbers, file, memory)?;
+        Ok(Ordered { number, place, sum, file_unchanged: unchanged == 1 })
+    }
+
     /// How a driver ended on which a call failed with this error.
     fn ended(mut self, error: io::Error) -> io::Error {
         drop(self.requests.take());
@@ -191,8 +203,8 @@ pub fn write(writing: &Writing, memory: &mut [u8]) -> io::Result<Written> {
     asked(|driver| driver.write(writing, memory))
 }
 
-/// One call of the step list's entry. The list, of so many records, is the part of the memory from
-/// `start` on.
+/// One call of the step list's entry, or of the one that chooses an order. The list, of so many records
+/// or numbers, is the part of the memory from `start` on.
 pub struct Listing<'a> {
     pub file: &'a [u8],
     pub start: usize,
@@ -212,6 +224,27 @@ pub struct Stepped {
 /// What the step list's entry returns; `memory` then holds what it left there.
 pub fn steps(listing: &Listing, memory: &mut [u8]) -> io::Result<Stepped> {
     asked(|driver| driver.steps(listing, memory))
+}
+
+#[derive(Debug, PartialEq, Eq)]
+pub struct Ordered {
+    pub number: u32,
+    pub place: u32,
+    pub sum: u32,
+    pub file_unchanged: bool,
+}
+
+/// What the entry that chooses an order returns; `memory` then holds what it left there.
+pub fn order(listing: &Listing, memory: &mut [u8]) -> io::Result<Ordered> {
+    asked(|driver| driver.order(listing, memory))
+}
+
+/// What `reorder` writes to standard output and to standard error for this file.
+pub fn reordered(file: &[u8]) -> io::Result<(Vec<u8>, Vec<u8>)> {
+    let mut child = start_with(&program(REORDER), &[], Stdio::piped());
+    let _ = child.stdin.take().expect("it is piped").write_all(file);
+    let output = child.wait_with_output()?;
+    Ok((output.stdout, output.stderr))
 }
 
 /// What a program prints for this file on its standard input.

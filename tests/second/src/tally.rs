@@ -25,7 +25,8 @@ pub enum Asked {
 /// The columns of the table.
 const ASKED: usize = 7;
 
-/// What a call of the step list's entry, or `nightsteps`, met; each is a line after the table.
+/// What a call of the step list's entry, of the one that chooses an order, `nightsteps` or `reorder`
+/// met; each is a line after the table.
 #[derive(Clone, Copy)]
 pub enum Met {
     Through,
@@ -37,10 +38,16 @@ pub enum Met {
     Longer,
     Divided,
     PrintedLater,
+    OrderWithSum,
+    OrderWithTwelve,
+    OrderLengthWrong,
+    OrderRefused,
+    Rewritten,
+    NotRewritten,
 }
 
 /// Each kind in words, and how often a run meets it at least.
-const MET: [(&str, u64); 9] = [
+const MET: [(&str, u64); 15] = [
     ("step lists of answers", 5_000),
     ("step lists of answers with no step", 300),
     ("step lists that end in 12 after some steps", 2_000),
@@ -50,6 +57,12 @@ const MET: [(&str, u64); 9] = [
     ("step lists in more room", 2_000),
     ("step lists with a divisor above 1", 2_000),
     ("step lists printed that end in 12 after some steps", 500),
+    ("chosen orders whose sum is the step list's", 2_000),
+    ("chosen orders that end in 12 all the same", 300),
+    ("lists for an order of another length", 2_000),
+    ("orders refused by the file or the chain", 2_000),
+    ("files written with the chosen order", 500),
+    ("files refused by reorder", 300),
 ];
 
 /// The numbers that a file's bytes, a mode and an answer's length can give; 0 is an answer. 11 needs

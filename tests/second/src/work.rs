@@ -3,6 +3,7 @@
 use crate::block;
 use crate::chain::{Chain, MOST_STATES};
 use crate::compare;
+use crate::compare_choice;
 use crate::compare_steps;
 use crate::damage::{self, Request, DAMAGES, RECORDS_WRONG};
 use crate::damage_lent::{self, LENT_DAMAGES};
@@ -178,9 +179,11 @@ fn one_chain(tally: &mut Tally, seed: u64, place: u64, with_report: bool) {
     let tables = Tables::of(&chain);
     compare::writer(tally, case, &tables, buffer_length(&mut random, tables.file_length()));
     compare_steps::entry(tally, case, &file, list_length(&mut random, chain.states()));
+    compare_choice::entry(tally, case, &file, order_length(&mut random, chain.states()));
     if with_report {
         compare::report(tally, case, &file);
         compare_steps::program(tally, case, &file);
+        compare_choice::program(tally, case, &file);
     }
 }
 
@@ -228,9 +231,12 @@ fn one_damage(tally: &mut Tally, seed: u64, place: u64, with_report: bool) {
     compare::entry(tally, case, &request, Asked::EntryOnDamage);
     let any = random.below(MOST_STATES + 6);
     compare_steps::entry(tally, case, &request.file, random.pick(&[MOST_STATES, any]));
+    let own = request.file.get(block::FIRST_RECORD).map_or(0, |&n| usize::from(n));
+    compare_choice::entry(tally, case, &request.file, random.pick(&[own, own, any]));
     if with_report || damage.0 == RECORDS_WRONG {
         compare::report(tally, case, &request.file);
         compare_steps::program(tally, case, &request.file);
+        compare_choice::program(tally, case, &request.file);
     }
 }
 
@@ -261,6 +267,11 @@ fn one_grown(tally: &mut Tally, seed: u64) {
 fn list_length(random: &mut Random, n: usize) -> usize {
     let more = n + random.below(MOST_STATES);
     random.pick(&[n, n, more, more, n - 1, 0])
+}
+
+/// n numbers, one less, one more, or none.
+fn order_length(random: &mut Random, n: usize) -> usize {
+    random.pick(&[n, n, n, n, n - 1, n + 1, 0])
 }
 
 /// Every number of copies in turn, with weights and words of all kinds.
