@@ -1,4 +1,4 @@
-# make report prints the report of a chain file, make steps its step list; make plan prints the chance that a job loses all its copies; make test
+# make report prints the report of a chain file, make steps its step list; make reorder writes it with the chosen order; make plan prints the chance that a job loses all its copies; make test
 # runs the gate; make memory runs a sample of it under valgrind; make bench times; make fmt lays every file of Rattle out.
 CHAIN ?= examples/address.chain
 COPIES ?= 3
@@ -6,13 +6,16 @@ LOSS ?= 1
 REBUILD ?= 20
 FINISH ?= 100
 
-.PHONY: report steps plan test memory fmt bench
+.PHONY: report steps reorder plan test memory fmt bench
 
 report: target/bin/nightchance
 	@tests/x86-64 run target/bin/nightchance <"$(CHAIN)"
 
 steps: target/bin/nightsteps
 	@tests/x86-64 run target/bin/nightsteps <"$(CHAIN)"
+
+reorder: target/bin/reorder
+	@tests/x86-64 run target/bin/reorder <"$(CHAIN)"
 
 plan: target/bin/plancopies
 	@tests/x86-64 run target/bin/plancopies $(COPIES) $(LOSS) $(REBUILD) $(FINISH)

@@ -78,6 +78,31 @@ static void time_steps(const struct bench_file *file)
     bench_line(file, "steps", result, timing);
 }
 
+/* An order that is chosen. */
+struct choosing {
+    const struct bench_file *file;
+    uint64_t list[EGORSTREAM_MOST_STATES];
+    struct egorstream_ordered ordered;
+};
+
+static void call_order(void *work)
+{
+    struct choosing *choosing = work;
+    choosing->ordered = egorstream_order(choosing->file->bytes, choosing->file->length, choosing->list,
+                                         choosing->file->bytes[6]);
+}
+
+static void time_order(const struct bench_file *file)
+{
+    static struct choosing choosing;
+    choosing.file = file;
+    struct bench_timing timing = bench_time(call_order, &choosing);
+    if (choosing.ordered.number != EGORSTREAM_ANSWERED) {
+        bench_fail(file->name, "no order is chosen");
+    }
+    bench_line(file, "order", "-", timing);
+}
+
 /* The tables of a file, for the writer. It trusts the file, which the entry took for well formed. */
 struct tables {
     const struct bench_file *file;
@@ -174,6 +199,7 @@ int main(int argc, char **argv)
         time_mode(&file, "exact", EGORSTREAM_MODE_EXACT);
         time_mode(&file, "bounds", EGORSTREAM_MODE_BOUNDS);
         time_steps(&file);
+        time_order(&file);
         time_write(&file);
     }
     return EXIT_SUCCESS;

@@ -16,6 +16,7 @@ NAMES = {
     "exact": "entry exact",
     "bounds": "entry bounds",
     "steps": "entry steps",
+    "order": "entry order",
     "write": "entry write",
     "dixon": "FLINT Dixon",
     "dixon:solver": "FLINT Dixon, alone",
@@ -26,7 +27,7 @@ NAMES = {
 }
 ENTRY = ("exact", "bounds")
 # What is a time of the product's own code.
-OWN = (*ENTRY, "steps", "write")
+OWN = (*ENTRY, "steps", "order", "write")
 FLINT = ("dixon", "size")
 # What starts from the file's bytes and has a result.
 COMPARED = (*ENTRY, *FLINT, "lapack")
@@ -123,8 +124,8 @@ def said(measurement):
 
 
 def ratio(measurement, entry):
-    """How many times as long as a call of the entry. A refusal is no answer, and writing no chance: they are not compared."""
-    if measurement is entry or measurement.what == "write" or measurement.refusal() is not None or entry.refusal() is not None:
+    """How many times as long as a call of the entry. A refusal is no answer, and an order or a file no chance: they are not compared."""
+    if measurement is entry or measurement.what in ("order", "write") or measurement.refusal() is not None or entry.refusal() is not None:
         return "-"
     times = measurement.median / entry.median
     return f"{times:,.0f}" if times >= 100 else f"{times:.3g}"
