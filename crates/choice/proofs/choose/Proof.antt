@@ -25,7 +25,10 @@ returns : tie.Need-returns
 returns c = record { outcome = list-wrong (c .if1 .taken) refl refl; proper = omega arith }
 
 order-all-requires : tie.Need-order-all-requires
-order-all-requires c κs = let s = known (c .before .before .before .before .of .ensures) (c .before .before .sets .given .1) in (_, record { formed = s .0; right = s .1; size = c .before .before .before .before .before .if1 .left })
+order-all-requires c κs =
+    let of = c .before .before .before .before in
+    let s = known (of .of .ensures) (c .before .before .sets .given .1) in
+    (_, record { formed = s .0; right = s .1; size = of .before .if1 .left })
 
 returns-2 : tie.Need-returns-2
 returns-2 c =

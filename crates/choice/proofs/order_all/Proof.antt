@@ -12,13 +12,24 @@ without-requires : tie.Need-without-requires
 without-requires c κs = surveyed-start _ _ _ _ _ (c .before .before .before .pre .1)
 
 take-requires : tie.Need-take-requires
-take-requires c κs = let s = c .before .before .before .before .before .before .pre .1 in (_, _, ready _ _ _ _ _ s _ (c .before .before .without .ensures) _ (c .before .before .before .first .ensures))
+take-requires c κs =
+    let s = c .before .before .before .before .before .before .pre .1 in (_, _, ready _ _ _ _ _ s _ (c .before .before .without .ensures) _ (c .before .before .before .first .ensures))
 
 put-rest-requires : tie.Need-put-rest-requires
-put-rest-requires c κs = let s = c .before .before .before .before .before .before .before .before .before .before .before .pre .1 in (rest-fits _ _ _ _ _ s _ (c .before .before .before .before .before .before .before .without .ensures) _ _ (c .before .before .before .before .take .ensures _ _ (ready _ _ _ _ _ s _ (c .before .before .before .before .before .before .before .without .ensures) _ (c .before .before .before .before .before .before .before .before .first .ensures))), surveyed-few _ _ _ _ _ s)
+put-rest-requires c κs =
+    let without = c .before .before .before .before .before .before .before in
+    let first = without .before in
+    let s = first .before .before .before .pre .1 in
+    let w = without .without .ensures in
+    (rest-fits _ _ _ _ _ s _ w _ _ (c .before .before .before .before .take .ensures _ _ (ready _ _ _ _ _ s _ w _ (first .first .ensures))), surveyed-few _ _ _ _ _ s)
 
 returns : tie.Need-returns
-returns c = λ d s. let w = c .before .before .before .before .before .before .before .before .before .before .without .ensures in ordered _ _ _ _ _ s _ w _ _ (c .before .before .before .before .before .before .before .take .ensures _ _ (ready _ _ _ _ _ s _ w _ (c .before .before .before .before .before .before .before .before .before .before .before .first .ensures))) _ (c .before .before .put-rest .ensures)
+returns c =
+    let take = c .before .before .before .before .before .before .before in
+    let without = take .before .before .before in
+    let w = without .without .ensures in
+    λ d s.
+    ordered _ _ _ _ _ s _ w _ _ (take .take .ensures _ _ (ready _ _ _ _ _ s _ w _ (without .before .first .ensures))) _ (c .before .before .put-rest .ensures)
 
 pub order-all-spec : {M : Type 1} → statement M
 order-all-spec =

@@ -62,10 +62,15 @@ slice-aggregate-rewrite-4 : tie.Need-slice-aggregate-rewrite-4
 slice-aggregate-rewrite-4 c = sym (length-take-le _ _ (opening (c .before .before .before .before) .rewards))
 
 returns-2 : tie.Need-returns-2
-returns-2 c = ReorderOutcome.file-refused (c .before .before .before .before .before .before .before .before .before .before .before .before .if1 .left) _ _ (file-refused room (refused-at c .read .ensures) (c .before .number .given .1)) refl refl
+returns-2 c =
+    let r = refused-at c in
+    ReorderOutcome.file-refused (r .before .before .before .before .before .if1 .left) _ _ (file-refused room (r .read .ensures) (c .before .number .given .1)) refl refl
 
 returns-3 : tie.Need-returns-3
-returns-3 c = c .before .before .before .rewrite .ensures _ (λ j. omega (arith, c .before .before .before .before .before .before .before .before .before .before .before .before .before .before .before .before .before .before .before .before .before .before .before .shared-slice-known .given j)) (opening (c .before .before .before .before .before .before .before .before .before) .holds)
+returns-3 c =
+    let rewrite = c .before .before .before in
+    let known = rewrite .before .before .before .before .before .before in
+    rewrite .rewrite .ensures _ (λ j. omega (arith, known .before .before .before .before .before .before .before .before .before .before .before .before .before .before .shared-slice-known .given j)) (opening known .holds)
 
 pub reorder-spec : {M : Type 1} → statement M
 reorder-spec =

@@ -20,10 +20,17 @@ unfolding sumTo
 loop-holds c = (refl, omega arith, omega arith)
 
 loop-again : tie.Need-loop-again Inv-loop μ-loop
-loop-again c = let l = c .before .before .loop in (omega (arith, sum-next (counts (c .before .before .before .before .args .columns .now) (c .before .before .before .before .args .s)) (l .j) (l .j + 1) (omega arith), c .leads .ensures, l .inv), omega arith, omega arith)
+loop-again c =
+    let l = c .before .before .loop in
+    let a = c .before .before .before .before .args in
+    (omega (arith, sum-next (counts (a .columns .now) (a .s)) (l .j) (l .j + 1) (omega arith), c .leads .ensures, l .inv), omega arith, omega arith)
 
 returns : tie.Need-returns Inv-loop μ-loop
-returns c = let l = c .before .loop in let e : l .j ≡ c .before .before .before .args .n + 2 = omega arith in (l .inv .0 ∙ ap (sumTo (counts (c .before .before .before .args .columns .now) (c .before .before .before .args .s))) e, omega arith)
+returns c =
+    let l = c .before .loop in
+    let a = c .before .before .before .args in
+    let e : l .j ≡ a .n + 2 = omega arith in
+    (l .inv .0 ∙ ap (sumTo (counts (a .columns .now) (a .s))) e, omega arith)
 
 pub columns-of-spec : {M : Type 1} → statement M
 columns-of-spec =

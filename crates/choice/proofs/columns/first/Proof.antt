@@ -21,10 +21,15 @@ loop-holds : tie.Need-loop-holds Inv-loop μ-loop
 loop-holds c = (gathered-none _ _ _ _, omega arith)
 
 loop-again : tie.Need-loop-again Inv-loop μ-loop
-loop-again c = (gathered-more _ _ _ _ (c .before .before .before .before .loop .e) (c .before .before .before .before .loop .inv .0) (c .before .carry .ensures), omega arith)
+loop-again c =
+    let l = c .before .before .before .before .loop in (gathered-more _ _ _ _ (l .e) (l .inv .0) (c .before .carry .ensures), omega arith)
 
 returns : tie.Need-returns Inv-loop μ-loop
-returns c = let l = c .before .loop in let e : l .e ≡ edgeCount (c .before .before .before .before .args .edges .now) = omega (arith, c .before .before .count .ensures, l .inv .1) in rw e at (l .inv .0)
+returns c =
+    let l = c .before .loop in
+    let count = c .before .before in
+    let e : l .e ≡ edgeCount (count .before .before .args .edges .now) = omega (arith, count .count .ensures, l .inv .1) in
+    rw e at (l .inv .0)
 
 pub first-spec : {M : Type 1} → statement M
 first-spec =

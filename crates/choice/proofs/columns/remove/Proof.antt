@@ -16,10 +16,15 @@ loop-holds : tie.Need-loop-holds Inv-loop μ-loop
 loop-holds c = (passing-none _ _ _, omega arith)
 
 loop-again : tie.Need-loop-again Inv-loop μ-loop
-loop-again c = let l = c .before .before .before .loop in (passing-more _ (omega (arith, c .before .before .before .before .before .before .before .pre, l .inv .1)) (l .inv .0) (c .passed-on .ensures), omega arith)
+loop-again c =
+    let l = c .before .before .before .loop in
+    (passing-more _ (omega (arith, c .before .before .before .before .before .before .before .pre, l .inv .1)) (l .inv .0) (c .passed-on .ensures), omega arith)
 
 returns : tie.Need-returns Inv-loop μ-loop
-returns c = let l = c .before .loop in emptied (c .before .before .before .before .before .args .n) (l .inv .0) (c .before .before .without .ensures) (omega arith) (omega (arith, c .before .before .before .before .before .pre))
+returns c =
+    let l = c .before .loop in
+    let s = c .before .before .before .before .before in
+    emptied (s .args .n) (l .inv .0) (c .before .before .without .ensures) (omega arith) (omega (arith, s .pre))
 
 pub remove-spec : {M : Type 1} → statement M
 remove-spec =

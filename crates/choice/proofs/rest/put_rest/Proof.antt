@@ -18,13 +18,21 @@ loop-holds : tie.Need-loop-holds Inv-loop μ-loop
 loop-holds c = (filling-none _ _ _, omega arith)
 
 put-requires : tie.Need-put-requires Inv-loop μ-loop
-put-requires c κs = let l = c .before .before .loop in let h = c .before .loop-test .taken in let e = c .before .before .before .before .pre .0 in (filling-room _ _ _ (l .inv .0) _ h e, filling-most _ _ _ (l .inv .0) _ h e)
+put-requires c κs =
+    let l = c .before .before .loop in
+    let h = c .before .loop-test .taken in
+    let e = c .before .before .before .before .pre .0 in
+    (filling-room _ _ _ (l .inv .0) _ h e, filling-most _ _ _ (l .inv .0) _ h e)
 
 loop-again : tie.Need-loop-again Inv-loop μ-loop
 loop-again c = (filling-more _ _ _ (c .before .before .before .before .before .loop .inv .0) (c .before .before .put .ensures), omega arith)
 
 returns : tie.Need-returns Inv-loop μ-loop
-returns c = let l = c .before .loop in let a = c .before .before .before .args in let e : l .i ≡ a .n = omega arith in filling-all (a .going) (a .m) (a .order .now) (rw e at (l .inv .0)) (c .before .before .before .pre .0)
+returns c =
+    let l = c .before .loop in
+    let a = c .before .before .before .args in
+    let e : l .i ≡ a .n = omega arith in
+    filling-all (a .going) (a .m) (a .order .now) (rw e at (l .inv .0)) (c .before .before .before .pre .0)
 
 pub put-rest-spec : {M : Type 1} → statement M
 put-rest-spec =

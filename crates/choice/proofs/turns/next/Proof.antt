@@ -21,7 +21,12 @@ loop-again : tie.Need-loop-again Inv-loop μ-loop
 loop-again c = (c .better .ensures, omega arith)
 
 returns : tie.Need-returns Inv-loop μ-loop
-returns c = let l = c .before .loop in let a = c .before .before .before .args in let pre = c .before .before .before .pre in let e : l .i ≡ a .n = omega arith in best-picked (a .left) (a .n) (productIn (a .n) (a .columns .now)) (l .pick) (pre .1) (pre .2) (rw e at (l .inv .0))
+returns c =
+    let l = c .before .loop in
+    let s = c .before .before .before in
+    let a = s .args in
+    let e : l .i ≡ a .n = omega arith in
+    best-picked (a .left) (a .n) (productIn (a .n) (a .columns .now)) (l .pick) (s .pre .1) (s .pre .2) (rw e at (l .inv .0))
 
 pub next-spec : {M : Type 1} → statement M
 next-spec =
