@@ -45,3 +45,5 @@ pub mod Copies
 -- The requests that came after: choosing an order, and a chain file with the chosen order.
 pub mod Choice
 pub mod Reorder
+-- Chains that are nearly a line: what their order is to have, and the sum that has a limit then.
+pub mod Line
