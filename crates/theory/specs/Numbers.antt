@@ -9,5 +9,6 @@ pub mod Digits
 pub mod Shift
 pub mod Twos
 pub mod Every
+pub mod Window
 pub mod Search
 pub mod Least

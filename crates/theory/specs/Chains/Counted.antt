@@ -7,7 +7,7 @@ use native.Mathlib.Omega.{arith}
 use native.Mathlib.Nat.{mod-eq-of-lt, mod-lt, mod-one, zero-div}
 use lib.Pow.{mod-pow-add, pow-pos}
 use lib.Count.{ones, onesIn, ones-cat}
-use Rattle.meaning.specs.Number.{bit}
+use Rattle.meaning.specs.Number.{sumTo, only, bit}
 use Rattle.meaning.specs.Chain.{Goal}
 use Rattle.meaning.specs.Step.{Sets}
 use Rattle.meaning.specs.Refusal.{Lent, Entry, WellFormed}
@@ -53,6 +53,18 @@ module _ (P : ℕ → Type 0) (s : ℕ) (set : (i : ℕ) → (bit s i ≡ 1) ↔
 
   pub count-ones : (n : ℕ) → s < 2 ^ n → Count P n (ones s)
   count-ones n h = subst (λ z. Count P n (ones z)) (mod-eq-of-lt h) (low-ones n)
+
+-- What a test of the property sums to is its count.
+module _ (P : ℕ → Type 0) (f : ℕ → Bool) (law : (i : ℕ) → (f i ≡ true) ↔ P i) where
+  pub count-sum : {n k : ℕ} → Count P n k → k ≡ sumTo (λ i. only (f i) 1) n
+  unfolding sumTo
+  count-sum none = refl
+  count-sum (one {n} p a) = rw (law n .1 p) (omega (arith, count-sum a))
+  count-sum (skip {n} {k} d a) = at (count-sum a) (f n) refl
+    where
+      at : k ≡ sumTo (λ i. only (f i) 1) n → (b : Bool) → f n ≡ b → k ≡ sumTo (λ i. only (f i) 1) n + only b 1
+      at rest true e = absurd (d (law n .0 e))
+      at rest false e = omega (arith, rest)
 
 -- A test of one thing has one answer.
 test-one : {P : Type 0} (b b′ : Bool) → (b ≡ true) ↔ P → (b′ ≡ true) ↔ P → b ≡ b′

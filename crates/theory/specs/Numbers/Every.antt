@@ -1,4 +1,4 @@
--- A list of n different numbers below n holds each of them.
+-- A list of n different numbers below n holds each of them, and a sum over them goes along it.
 use Prim.Native.Nat.{ℕ, _≤_, _<_}
 use mathlib.Core.Path.{_≡_, refl, sym, _∙_}
 use mathlib.Core.Logic.{⊎-elim}
@@ -7,7 +7,19 @@ use native.Mathlib.Omega.{arith}
 use lib.Dec.{eqb}
 use borrow.Author.Tests.{eq-eqb, ne-eqb, eqb-true}
 use Rattle.meaning.specs.Number.{sumTo, only}
-use Rattle.theory.specs.Numbers.Sum.{same, sum-ext, sum-tight, sum-swap, sum-one, sum-alone, sum-find}
+use Rattle.theory.specs.Numbers.Sum.{same, below, sum-ext, sum-tight, sum-swap, sum-one, sum-alone, sum-find}
+
+-- Where no number of the list stands before, no two places have one number.
+pub apart-once : (n : ℕ) (f : ℕ → ℕ) → ((p : ℕ) → p < n → (q : ℕ) → q < p → f q ≡ f p → ⊥) → (p q : ℕ) → p < n → q < n → f p ≡ f q → p ≡ q
+apart-once n f new p q h k e =
+    ⊎-elim
+    (λ (a : p < q). absurd (new q k p a e))
+    (λ (a : q ≤ p).
+    ⊎-elim
+    (λ (b : q < p). absurd (new p h q b (sym e)))
+    (λ (b : p ≤ q). omega arith)
+    (below q p))
+    (below p q)
 
 module _ (n : ℕ) (f : ℕ → ℕ) (inside : (p : ℕ) → p < n → f p < n) (once : (p q : ℕ) → p < n → q < n → f p ≡ f q → p ≡ q) where
   count : ℕ → ℕ
@@ -49,3 +61,16 @@ module _ (n : ℕ) (f : ℕ → ℕ) (inside : (p : ℕ) → p < n → f p < n) 
       let e : count i ≡ 1 = sum-tight count (λ _. 1) n (λ i _. count-small i) count-all i h in
       let w = sum-find (λ p. only (eqb (f p) i) 1) n (omega arith) in
       (w .0, w .1, hit i (w .0) (w .2))
+
+  -- So a sum over all of them is a sum along the list.
+  pub sum-every : (g : ℕ → ℕ) → sumTo g n ≡ sumTo (λ p. g (f p)) n
+  sum-every g =
+      sum-ext g (λ i. sumTo (λ p. only (eqb (f p) i) (g i)) n) n
+      (λ i h.
+      let w = holds-every i h in
+      sym
+      (sum-alone (λ p. only (eqb (f p) i) (g i)) n (w .0) (w .1)
+      (λ p l d. rw (ne-eqb (f p) i (λ e. d (once p (w .0) l (w .1) (e ∙ sym (w .2))))))
+      ∙ rw (eq-eqb (f (w .0)) i (w .2))))
+      ∙ sum-swap (λ i p. only (eqb (f p) i) (g i)) n n
+      ∙ sum-ext _ _ n (λ p h. sum-one g n (f p) (inside p h))

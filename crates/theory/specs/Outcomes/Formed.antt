@@ -1,15 +1,14 @@
 -- What a well-formed input has, said positively.
 use Prim.Native.Nat.{ℕ, _+_, _%_, _^_, _≤_, _<_}
-use mathlib.Core.Path.{_≡_, refl, sym}
-use mathlib.Core.Logic.{_⊎_, inl, inr, ⊎-elim}
+use mathlib.Core.Path.{_≡_, refl}
+use mathlib.Core.Logic.{_⊎_, inl, inr}
 use mathlib.Core.Bool.{Bool, true, false}
 use native.Mathlib.Omega.{arith}
 use lib.ListN.{length, getD}
 use Rattle.meaning.specs.Chain.{mostStates, mostEdges, M, mostReward, Chain, denominator, edgeSize, edgeCount, from, to, weight, edgeReward, along}
 use Rattle.meaning.specs.Refusal.{Lent, Entry, Misshaped, OrderFault, RewardFault, of-state, of-edge, lentFault, WellFormed}
 use Rattle.meaning.specs.Stop.{earns}
-use Rattle.theory.specs.Numbers.Sum.{below}
-use Rattle.theory.specs.Numbers.Every.{holds-every}
+use Rattle.theory.specs.Numbers.Every.{apart-once, holds-every}
 use Rattle.theory.specs.Chains.Fine.{Fine}
 
 -- Facts whose contrary cannot be.
@@ -115,18 +114,7 @@ module _ (x : Entry) (l : Lent) (formed : WellFormed x l) where
     order-new p h o k e = order-fault p (h, inr (o, (k, e)))
 
     pub order-every : (i : ℕ) → i < c .states → (p : ℕ) × (p < c .states) × (getD (l .order) p 0 ≡ i)
-    order-every = holds-every (c .states) (λ p. getD (l .order) p 0) order-in once
-      where
-        once : (p q : ℕ) → p < c .states → q < c .states → getD (l .order) p 0 ≡ getD (l .order) q 0 → p ≡ q
-        once p q h k e =
-            ⊎-elim
-            (λ (a : p < q). absurd (order-new q k p a e))
-            (λ (a : q ≤ p).
-            ⊎-elim
-            (λ (b : q < p). absurd (order-new p h q b (sym e)))
-            (λ (b : p ≤ q). omega arith)
-            (below q p))
-            (below p q)
+    order-every = holds-every (c .states) (λ p. getD (l .order) p 0) order-in (apart-once (c .states) (λ p. getD (l .order) p 0) order-new)
 
   module _ (lent : x .rewards ≡ true) where
     pub rewards-length : length (l .rewards) ≡ c .states
