@@ -21,6 +21,8 @@ pub mod Turns
 pub mod TurnsCounted
 pub mod Choice
 pub mod ChoiceExists
+pub mod Band
+pub mod Line
 pub mod EdgeRewards
 pub mod OldRewards
 pub mod Listed
