@@ -1,6 +1,7 @@
 //! Compares the product's step list with this implementation's, through C and through `nightsteps`.
 
 use crate::compare::{self, held, AROUND};
+use crate::line::Line;
 use crate::product::{self, Listing, Stepped};
 use crate::random::Random;
 use crate::refusal::Refusal;
@@ -35,6 +36,27 @@ pub fn entry(tally: &mut Tally, case: Case, file: &[u8], room: usize) {
     });
     tally.number(Asked::Steps, told.number);
     meet(tally, &expected, room);
+    if let Ok(list) = &expected {
+        if list.chance.is_ok() {
+            limit(tally, case, file, list, &memory[start..]);
+        }
+    }
+}
+
+/// Holds the records that came with an answer to the limit of request 12.
+fn limit(tally: &mut Tally, case: Case, file: &[u8], list: &StepList, memory: &[u8]) {
+    let number = |bytes: &[u8]| u64::from_ne_bytes(bytes.try_into().expect("8 bytes"));
+    let product = |record: &[u8]| number(&record[8..16]) * number(&record[16..24]);
+    let products: u64 = memory.chunks(RECORD).take(list.records.len()).map(product).sum();
+    let limit = list.line.limit();
+    tally.check(case, file, products <= limit, || {
+        let Line { others, span } = list.line;
+        format!("{others} states, edges of {span} places: {products} is above {limit}")
+    });
+    let some = list.line.others > 0;
+    tally.meet(Met::Point, some && list.line.span == 0 && products == limit);
+    tally.meet(Met::Narrow, some && (1..4).contains(&list.line.span));
+    tally.meet(Met::Wide, list.line.span > 3);
 }
 
 /// A record as a caller in C finds it.

@@ -37,6 +37,12 @@ impl Reach {
         self.reached.iter().zip(&self.to_goal).any(|(&reached, &to_goal)| reached && !to_goal)
     }
 
+    /// The states that are removed, in their turn: all that an order decides.
+    pub fn turns(&self, chain: &Chain) -> Vec<u8> {
+        let removed = |&state: &u8| self.live[usize::from(state)] && state != chain.start;
+        chain.order.iter().copied().filter(removed).collect()
+    }
+
     /// How many states are live.
     pub fn live_count(&self) -> usize {
         self.live.iter().filter(|&&live| live).count()

@@ -28,6 +28,7 @@ mod figures;
 mod file;
 mod fraction;
 mod generate;
+mod line;
 mod live;
 mod modular;
 mod plan;

@@ -5,6 +5,7 @@ use crate::chain::{Chain, MOST_STATES};
 use crate::figures;
 use crate::file;
 use crate::fraction::Fraction;
+use crate::line::Line;
 use crate::live::Reach;
 use crate::refusal::{of_tables, Refusal};
 use crate::report;
@@ -16,6 +17,7 @@ pub struct StepList {
     pub states: usize,
     pub records: Vec<StepRecord>,
     pub chance: Result<Fraction, Refusal>,
+    pub line: Line,
 }
 
 /// The step list of a chain file in a list with room for so many records, or the refusal that leaves
@@ -36,7 +38,8 @@ pub fn of_chain(chain: &Chain) -> StepList {
     let reach = Reach::of(chain);
     let live = reach.live[chain.start()];
     let records = if live { steps(chain, &reach, Figure::Chance).records } else { Vec::new() };
-    StepList { states: chain.states(), records, chance: figures::chance(chain, &reach) }
+    let chance = figures::chance(chain, &reach);
+    StepList { states: chain.states(), records, chance, line: Line::of(chain, &reach) }
 }
 
 /// All that `nightsteps` prints for a chain file. It lends room for the largest chain.

@@ -48,6 +48,13 @@ pub enum Met {
 
 /// Each kind in words, and how often a run meets it at least.
 const MET: [(&str, u64); 15] = [
+    Point,
+    Narrow,
+    Wide,
+}
+
+/// Each kind in words, and how often a run meets it at least.
+const MET: [(&str, u64); 12] = [
     ("step lists of answers", 5_000),
     ("step lists of answers with no step", 300),
     ("step lists that end in 12 after some steps", 2_000),
@@ -63,6 +70,9 @@ const MET: [(&str, u64); 15] = [
     ("orders refused by the file or the chain", 2_000),
     ("files written with the chosen order", 500),
     ("files refused by reorder", 300),
+    ("answers whose edges span no place and whose products reach the limit", 30),
+    ("answers whose edges span 1 to 3 places", 1_000),
+    ("answers whose edges span more", 1_000),
 ];
 
 /// The numbers that a file's bytes, a mode and an answer's length can give; 0 is an answer. 11 needs

@@ -201,7 +201,7 @@ fn one_chain_in_many_orders(tally: &mut Tally, seed: u64) {
         let (exact, bounds) = compare_chain(tally, case, &chain, version);
         if let Some((chance, _)) = exact {
             chances.push(chance);
-            turns_that_fit.insert(turns(&chain));
+            turns_that_fit.insert(Reach::of(&chain).turns(&chain));
         }
         all_bounds.extend(bounds);
     }
@@ -214,13 +214,6 @@ fn one_chain_in_many_orders(tally: &mut Tally, seed: u64) {
     for bounds in all_bounds {
         compare::enclosure(tally, case, &file, chance, bounds);
     }
-}
-
-/// The states that are removed, in their turn: all that an order decides.
-fn turns(chain: &Chain) -> Vec<u8> {
-    let reach = Reach::of(chain);
-    let removed = |&state: &u8| reach.live[usize::from(state)] && state != chain.start;
-    chain.order.iter().copied().filter(removed).collect()
 }
 
 fn one_damage(tally: &mut Tally, seed: u64, place: u64, with_report: bool) {
