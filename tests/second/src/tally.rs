@@ -44,17 +44,13 @@ pub enum Met {
     OrderRefused,
     Rewritten,
     NotRewritten,
-}
-
-/// Each kind in words, and how often a run meets it at least.
-const MET: [(&str, u64); 15] = [
     Point,
     Narrow,
     Wide,
 }
 
 /// Each kind in words, and how often a run meets it at least.
-const MET: [(&str, u64); 12] = [
+const MET: [(&str, u64); 18] = [
     ("step lists of answers", 5_000),
     ("step lists of answers with no step", 300),
     ("step lists that end in 12 after some steps", 2_000),
