@@ -42,3 +42,5 @@ pub mod Cases
 pub mod Demand
 -- The requests that came after: planning copies.
 pub mod Copies
+-- The chance within so many retries.
+pub mod Within
