@@ -16,5 +16,5 @@ pub record Carries (edges values : List ℕ) : Type 0 where
   pub fits : (e : ℕ) → e < edgeCount edges → flow edges (from edges e) (valueIn values) < 2 ^ 64
 
 -- The sum of weight times value, for each state over the edges that leave it.
-abbrev pub Flows : List ℕ → List ℕ → List ℕ → Type 0
-Flows edges values sums = (i : ℕ) → i < mostStates → getD sums i 0 ≡ flow edges i (valueIn values)
+pub record Flows (edges values sums : List ℕ) : Type 0 where
+  pub is : (i : ℕ) → i < mostStates → getD sums i 0 ≡ flow edges i (valueIn values)

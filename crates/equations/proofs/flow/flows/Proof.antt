@@ -88,7 +88,7 @@ loop-again c =
 
 returns : tie.Need-returns Inv-loop μ-loop
 unfolding flow carried
-returns c = all _ _ _ (c .before .loop .inv) (search needs)
+returns c = record { is = all _ _ _ (c .before .loop .inv) (search needs) }
 
 pub flows-spec : {M : Type 1} → statement M
 flows-spec =
