@@ -8,10 +8,12 @@ use look::Finding;
 mod flow;
 mod round;
 
-// The most steps.
-const STEPS: u64 = 1000;
+pub use round::PARTS;
 
-// What is answered within so many steps: how many of round::PARTS the start holds; told gives document 01's numbers for each case.
+// The most steps.
+pub const STEPS: u64 = 1000;
+
+// What is answered within so many steps: how many of all parts the start holds; told gives document 01's numbers for each case.
 pub enum Parts {
     Held(u64),
     Refused { number: u32, place: usize },

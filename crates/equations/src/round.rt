@@ -12,8 +12,8 @@ use chain::Chain;
 use chain::set::holds;
 use chain::table::at;
 
-// What a goal holds.
-const PARTS: u64 = 1073741824;
+// All parts, which a goal holds.
+pub const PARTS: u64 = 1073741824;
 
 // What a state gets whose edges carry so much.
 fn share(goal: bool, carried: u64, denominator: u64) -> u64

@@ -36,7 +36,8 @@ module _ {f : Input} {c : Chain} {denominators edges order rewards : List ℕ} (
   pub unpaid : ours c denominators edges order [] ≡ plainIn f
   unpaid = ap (λ (l : Lent). record { chain = l .chain; order = l .order; rewards = []; work = l .work; list = l .list }) (h .paid)
 
-  bare : lent c denominators edges [] [] [] ≡ bareIn f
+  -- A chain alone is what the survey and the rounds are lent.
+  pub bare : lent c denominators edges [] [] [] ≡ bareIn f
   bare = ap (λ (l : Lent). record { chain = l .chain; order = []; rewards = []; work = []; list = 0 }) (h .paid)
 
   chance-found : (a : Answer) → Found (ChanceOutcome (ours c denominators edges order [])) (toldAnswer a)
