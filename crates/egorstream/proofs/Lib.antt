@@ -2,3 +2,4 @@ pub mod Called
 pub mod Replied
 pub mod Writes
 pub mod Stepping
+pub mod Reaching

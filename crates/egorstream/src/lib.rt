@@ -2,6 +2,7 @@
 mod call;
 mod reply;
 mod steps;
+mod within;
 mod write;
 
 pub use call::MODE_BOUNDS;
@@ -11,6 +12,8 @@ pub use call::egorstream_chance;
 pub use reply::ANSWER_LENGTH;
 pub use steps::Stepped;
 pub use steps::egorstream_steps;
+pub use within::Reached;
+pub use within::egorstream_within;
 pub use write::BLOCK_LENGTH;
 pub use write::EDGE_SIZE;
 pub use write::Written;
