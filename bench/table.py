@@ -16,6 +16,7 @@ NAMES = {
     "exact": "entry exact",
     "bounds": "entry bounds",
     "steps": "entry steps",
+    "within": "entry within",
     "write": "entry write",
     "dixon": "FLINT Dixon",
     "dixon:solver": "FLINT Dixon, alone",
@@ -26,7 +27,7 @@ NAMES = {
 }
 ENTRY = ("exact", "bounds")
 # What is a time of the product's own code.
-OWN = (*ENTRY, "steps", "write")
+OWN = (*ENTRY, "steps", "within", "write")
 FLINT = ("dixon", "size")
 # What starts from the file's bytes and has a result.
 COMPARED = (*ENTRY, *FLINT, "lapack")
@@ -83,6 +84,9 @@ def disagreements(rows):
     steps = rows["steps"]
     if steps.answer() != exact.answer():
         wrong.append(f"the step list ends in {steps.result} and the exact entry says {exact.result}")
+    within, _ = rows["within"].between()
+    if within > upper:
+        wrong.append(f"the chance within the most steps, {within}, is above the upper bound {upper}")
     if exact.refusal() is None:
         chance, again = exact.between()
         if chance != again:
@@ -123,8 +127,8 @@ def said(measurement):
 
 
 def ratio(measurement, entry):
-    """How many times as long as a call of the entry. A refusal is no answer, and writing no chance: they are not compared."""
-    if measurement is entry or measurement.what == "write" or measurement.refusal() is not None or entry.refusal() is not None:
+    """How many times as long as a call of the entry. A refusal is no answer, and writing or the chance within so many steps another figure: they are not compared."""
+    if measurement is entry or measurement.what in ("within", "write") or measurement.refusal() is not None or entry.refusal() is not None:
         return "-"
     times = measurement.median / entry.median
     return f"{times:,.0f}" if times >= 100 else f"{times:.3g}"

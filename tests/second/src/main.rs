@@ -1,8 +1,8 @@
 //! A second implementation of documents 01 and 02, compared with the product.
 //!
 //! It makes chains and damaged requests from fixed seeds, calls the C entries of the product's static
-//! library on all of them and its programs `nightchance` and `nightsteps` on a part, runs its program
-//! `plancopies` on plans, and compares every answer with its own. Its last line is
+//! library on all of them and its programs `nightchance`, `nightsteps` and `nightwithin` on a part, runs its
+//! program `plancopies` on plans, and compares every answer with its own. Its last line is
 //! `second: N passed, 0 failed`, where N counts comparisons.
 //!
 //! `cargo run --release` compares, with the word `sample` on a small part of it; `cargo test` tries
@@ -13,6 +13,7 @@ mod block;
 mod chain;
 mod compare;
 mod compare_steps;
+mod compare_within;
 mod damage;
 mod damage_check;
 mod damage_head;
@@ -28,6 +29,7 @@ mod fraction;
 mod generate;
 mod live;
 mod modular;
+mod natural;
 mod plan;
 mod product;
 mod random;
@@ -38,6 +40,7 @@ mod step_list;
 mod steps;
 mod tables;
 mod tally;
+mod within;
 mod work;
 mod worked;
 mod worked_steps;
@@ -54,7 +57,8 @@ fn main() -> ExitCode {
             return ExitCode::FAILURE;
         }
     };
-    let programs = [product::NIGHTCHANCE, product::NIGHTSTEPS, product::PLANCOPIES];
+    let programs =
+        [product::NIGHTCHANCE, product::NIGHTSTEPS, product::NIGHTWITHIN, product::PLANCOPIES];
     for program in programs.map(product::program).into_iter().chain([product::driver()]) {
         if !program.is_file() {
             eprintln!("The program {} is missing.", program.display());

@@ -22,6 +22,8 @@ pub fn driver() -> PathBuf {
 /// The programs that read a chain file.
 pub const NIGHTCHANCE: &str = "nightchance";
 pub const NIGHTSTEPS: &str = "nightsteps";
+/// The program that is given a number of steps too.
+pub const NIGHTWITHIN: &str = "nightwithin";
 /// The program that is given a plan.
 pub const PLANCOPIES: &str = "plancopies";
 
@@ -123,6 +125,12 @@ impl Driver {
         Ok(Stepped { number, place, count, numerator, denominator, file_unchanged })
     }
 
+    fn within(&mut self, file: &[u8], steps: u64) -> io::Result<Reached> {
+        let numbers = [3, file.len(), steps as u32 as usize, (steps >> 32) as usize];
+        let [number, place, parts, unchanged] = self.ask(&numbers, file, &mut [])?;
+        Ok(Reached { number, place, parts, file_unchanged: unchanged == 1 })
+    }
+
     /// How a driver ended on which a call failed with this error.
     fn ended(mut self, error: io::Error) -> io::Error {
         drop(self.requests.take());
@@ -214,9 +222,27 @@ pub fn steps(listing: &Listing, memory: &mut [u8]) -> io::Result<Stepped> {
     asked(|driver| driver.steps(listing, memory))
 }
 
+#[derive(Debug, PartialEq, Eq)]
+pub struct Reached {
+    pub number: u32,
+    pub place: u32,
+    pub parts: u32,
+    pub file_unchanged: bool,
+}
+
+/// What the entry of the chance within so many steps returns.
+pub fn within(file: &[u8], steps: u64) -> io::Result<Reached> {
+    asked(|driver| driver.within(file, steps))
+}
+
 /// What a program prints for this file on its standard input.
 pub fn printed(name: &str, file: &[u8]) -> io::Result<Vec<u8>> {
-    let mut child = start(&program(name), &[]);
+    printed_with(name, &[], file)
+}
+
+/// The same of a program that is given words.
+pub fn printed_with(name: &str, words: &[String], file: &[u8]) -> io::Result<Vec<u8>> {
+    let mut child = start(&program(name), words);
     // A program that stops reading early shows in its report; that the pipe broke is no more news.
     let _ = child.stdin.take().expect("it is piped").write_all(file);
     all_of(child)
