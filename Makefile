@@ -1,18 +1,23 @@
-# make report prints the report of a chain file, make steps its step list; make plan prints the chance that a job loses all its copies; make test
-# runs the gate; make memory runs a sample of it under valgrind; make bench times; make fmt lays every file of Rattle out.
+# make report prints the report of a chain file, make steps its step list, make within its chance within so many steps; make plan prints the chance
+# that a job loses all its copies; make test runs the gate; make memory runs a sample of it under valgrind; make bench times; make fmt lays every file
+# of Rattle out.
 CHAIN ?= examples/address.chain
+STEPS ?= 3
 COPIES ?= 3
 LOSS ?= 1
 REBUILD ?= 20
 FINISH ?= 100
 
-.PHONY: report steps plan test memory fmt bench
+.PHONY: report steps within plan test memory fmt bench
 
 report: target/bin/nightchance
 	@tests/x86-64 run target/bin/nightchance <"$(CHAIN)"
 
 steps: target/bin/nightsteps
 	@tests/x86-64 run target/bin/nightsteps <"$(CHAIN)"
+
+within: target/bin/nightwithin
+	@tests/x86-64 run target/bin/nightwithin "$(STEPS)" <"$(CHAIN)"
 
 plan: target/bin/plancopies
 	@tests/x86-64 run target/bin/plancopies $(COPIES) $(LOSS) $(REBUILD) $(FINISH)
