@@ -38,7 +38,7 @@ pub enum Met {
     Longer,
     Divided,
     PrintedLater,
-    Some,
+    Between,
     Near,
 }
 
