@@ -30,7 +30,7 @@ unfolding productTo
 product-some f zero h = omega arith
 product-some f (suc n) h = mul-pos (product-some f n (λ i l. h i (omega arith))) (h n (omega arith))
 
-pub power-some : (x : ℕ) → 0 < x → (k : ℕ) → 0 < x ^ k
+power-some : (x : ℕ) → 0 < x → (k : ℕ) → 0 < x ^ k
 power-some x h zero = rw (pow-zero x) (omega arith)
 power-some x h (suc k) = rw (pow-succ' x k) (mul-pos h (power-some x h k))
 

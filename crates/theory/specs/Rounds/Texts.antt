@@ -1,4 +1,4 @@
--- What is answered of a chain file within k steps, and what the program prints of it, is one; a refusal's number is above 0, and its place is small.
+-- What is answered of a chain file within k steps, and what the program prints of it, is one; a refusal's place is small.
 use Prim.Native.Nat.{ℕ, _+_, _≤_}
 use mathlib.Core.Path.{_≡_, sym, ap, ap₂, _∙_}
 use mathlib.Core.List.{List}
