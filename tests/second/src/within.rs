@@ -13,14 +13,18 @@ use crate::report;
 pub const MOST_STEPS: u64 = 1_000;
 pub const PARTS: u64 = 1_073_741_824;
 
-/// The edges that leave a state.
-fn leaving(chain: &Chain, state: usize) -> impl Iterator<Item = &Edge> {
-    chain.edges.iter().filter(move |edge| usize::from(edge.from) == state)
+/// The edges that leave each state.
+fn rows(chain: &Chain) -> Vec<Vec<&Edge>> {
+    let mut rows = vec![Vec::new(); chain.states()];
+    for edge in &chain.edges {
+        rows[usize::from(edge.from)].push(edge);
+    }
+    rows
 }
 
 /// What the start holds after so many rounds.
 pub fn held(chain: &Chain, steps: u64) -> u64 {
-    let rows: Vec<Vec<&Edge>> = (0..chain.states()).map(|i| leaving(chain, i).collect()).collect();
+    let rows = rows(chain);
     let mut values: Vec<u64> =
         chain.goals.iter().map(|&goal| if goal { PARTS } else { 0 }).collect();
     for _ in 0..steps {
@@ -47,6 +51,7 @@ pub fn truly(chain: &Chain, steps: u64) -> Option<(Natural, Natural)> {
         }
     }
     let common = common as u64;
+    let rows = rows(chain);
     let mut power = Natural::new(1);
     let mut values: Vec<Natural> =
         chain.goals.iter().map(|&goal| Natural::new(u64::from(goal))).collect();
@@ -57,8 +62,8 @@ pub fn truly(chain: &Chain, steps: u64) -> Option<(Natural, Natural)> {
                 return power.clone();
             }
             let share = common / u64::from(chain.denominators[state]);
-            let brings = |edge: &Edge| values[usize::from(edge.to)].times(u64::from(edge.weight));
-            let sum = leaving(chain, state).map(brings);
+            let brings = |edge: &&Edge| values[usize::from(edge.to)].times(u64::from(edge.weight));
+            let sum = rows[state].iter().map(brings);
             sum.fold(Natural::new(0), |sum, brought| sum.plus(&brought)).times(share)
         };
         values = (0..chain.states()).map(next).collect();
