@@ -1,12 +1,14 @@
-# make report prints the report of a chain file, make steps its step list; make reorder writes it with the chosen order; make plan prints the chance that a job loses all its copies; make test
-# runs the gate; make memory runs a sample of it under valgrind; make bench times; make fmt lays every file of Rattle out.
+# make report prints the report of a chain file, make steps its step list, make within its chance within so many steps; make reorder writes it with the
+# chosen order; make plan prints the chance that a job loses all its copies; make test runs the gate; make memory runs a sample of it under valgrind;
+# make bench times; make fmt lays every file of Rattle out.
 CHAIN ?= examples/address.chain
+STEPS ?= 3
 COPIES ?= 3
 LOSS ?= 1
 REBUILD ?= 20
 FINISH ?= 100
 
-.PHONY: report steps reorder plan test memory fmt bench
+.PHONY: report steps reorder within plan test memory fmt bench
 
 report: target/bin/nightchance
 	@tests/x86-64 run target/bin/nightchance <"$(CHAIN)"
@@ -16,6 +18,9 @@ steps: target/bin/nightsteps
 
 reorder: target/bin/reorder
 	@tests/x86-64 run target/bin/reorder <"$(CHAIN)"
+
+within: target/bin/nightwithin
+	@tests/x86-64 run target/bin/nightwithin "$(STEPS)" <"$(CHAIN)"
 
 plan: target/bin/plancopies
 	@tests/x86-64 run target/bin/plancopies $(COPIES) $(LOSS) $(REBUILD) $(FINISH)

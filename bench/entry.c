@@ -1,7 +1,8 @@
 /*
- * Times the C entries on chain files: the chance exactly and in bounds, the step list, and the writing of the file again.
+ * Times the C entries on chain files: the chance exactly and in bounds, the step list, the chance within the most steps, and the writing of the
+ * file again.
  *
- *     entry FILE ..                     four lines a file, for bench/table.py
+ *     entry FILE ..                     five lines a file, for bench/table.py
  *     entry calls N exact|bounds FILE   only makes N calls, for a profiler
  */
 #include "bench.h"
@@ -103,6 +104,29 @@ static void time_order(const struct bench_file *file)
     bench_line(file, "order", "-", timing);
 }
 
+struct retries {
+    const struct bench_file *file;
+    struct egorstream_reached reached;
+};
+
+static void call_within(void *work)
+{
+    struct retries *retries = work;
+    retries->reached = egorstream_within(retries->file->bytes, retries->file->length, EGORSTREAM_MOST_STEPS);
+}
+
+static void time_within(const struct bench_file *file)
+{
+    struct retries retries = {.file = file};
+    struct bench_timing timing = bench_time(call_within, &retries);
+    if (retries.reached.number != EGORSTREAM_ANSWERED) {
+        bench_fail(file->name, "the chance within the most steps is refused");
+    }
+    char result[64];
+    snprintf(result, sizeof result, "%" PRIu64 "/%" PRIu64, retries.reached.parts, EGORSTREAM_PARTS);
+    bench_line(file, "within", result, timing);
+}
+
 /* The tables of a file, for the writer. It trusts the file, which the entry took for well formed. */
 struct tables {
     const struct bench_file *file;
@@ -200,6 +224,7 @@ int main(int argc, char **argv)
         time_mode(&file, "bounds", EGORSTREAM_MODE_BOUNDS);
         time_steps(&file);
         time_order(&file);
+        time_within(&file);
         time_write(&file);
     }
     return EXIT_SUCCESS;

@@ -17,6 +17,7 @@ NAMES = {
     "bounds": "entry bounds",
     "steps": "entry steps",
     "order": "entry order",
+    "within": "entry within",
     "write": "entry write",
     "dixon": "FLINT Dixon",
     "dixon:solver": "FLINT Dixon, alone",
@@ -27,7 +28,7 @@ NAMES = {
 }
 ENTRY = ("exact", "bounds")
 # What is a time of the product's own code.
-OWN = (*ENTRY, "steps", "order", "write")
+OWN = (*ENTRY, "steps", "order", "within", "write")
 FLINT = ("dixon", "size")
 # What starts from the file's bytes and has a result.
 COMPARED = (*ENTRY, *FLINT, "lapack")
@@ -84,6 +85,9 @@ def disagreements(rows):
     steps = rows["steps"]
     if steps.answer() != exact.answer():
         wrong.append(f"the step list ends in {steps.result} and the exact entry says {exact.result}")
+    within, _ = rows["within"].between()
+    if within > upper:
+        wrong.append(f"the chance within the most steps, {within}, is above the upper bound {upper}")
     if exact.refusal() is None:
         chance, again = exact.between()
         if chance != again:
@@ -124,8 +128,8 @@ def said(measurement):
 
 
 def ratio(measurement, entry):
-    """How many times as long as a call of the entry. A refusal is no answer, and an order or a file no chance: they are not compared."""
-    if measurement is entry or measurement.what in ("order", "write") or measurement.refusal() is not None or entry.refusal() is not None:
+    """How many times as long as a call of the entry. A refusal is no answer, and an order, a file or the chance within so many steps another thing: they are not compared."""
+    if measurement is entry or measurement.what in ("order", "within", "write") or measurement.refusal() is not None or entry.refusal() is not None:
         return "-"
     times = measurement.median / entry.median
     return f"{times:,.0f}" if times >= 100 else f"{times:.3g}"

@@ -1,6 +1,6 @@
 /*
  * The chance that a chain reaches a goal, from the bytes of a chain file; the steps by which it was
- * sought; and the chain file of a chain, from its tables.
+ * sought; the chance within so many steps; and the chain file of a chain, from its tables.
  *
  * Link with libegorstream.a.
  */
@@ -36,7 +36,11 @@ extern "C" {
 /* The most states of a chain: a step list with so many records has room for every chain. */
 #define EGORSTREAM_MOST_STATES 64
 
-/* What egorstream_chance returns, and the number that egorstream_steps and egorstream_write answer. */
+/* The most steps that egorstream_within takes, and the parts that it answers a number of: 2^30. */
+#define EGORSTREAM_MOST_STEPS UINT64_C(1000)
+#define EGORSTREAM_PARTS UINT64_C(1073741824)
+
+/* What egorstream_chance returns, and the number that the other functions answer. */
 
 /* The answer, the list or the file is written. */
 #define EGORSTREAM_ANSWERED UINT32_C(0)
@@ -103,6 +107,11 @@ extern "C" {
  * have the blocks its head demands.
  */
 #define EGORSTREAM_BLOCK_CONTENT_WRONG UINT32_C(24)
+
+/* The request is wrong: the caller must be mended. */
+
+/* More than 1,000 steps. Only egorstream_within gives it, before every other number. */
+#define EGORSTREAM_STEPS_WRONG UINT32_C(32)
 
 /*
  * Finds the chance that the chain in a file reaches a goal from its start.
@@ -202,6 +211,27 @@ struct egorstream_ordered {
  */
 struct egorstream_ordered egorstream_order(const uint8_t *file, size_t file_length, uint64_t *list,
                                            size_t list_length);
+/* What egorstream_within answers: 0, 0 and the parts; or a refusal's number and place, and 0. */
+struct egorstream_reached {
+    uint32_t number;
+    uint32_t place;
+    uint64_t parts;
+};
+
+/*
+ * Finds the chance of having reached a goal within so many steps, as a number of EGORSTREAM_PARTS.
+ *
+ * file, file_length      The bytes of a chain file, as above.
+ * steps                  0 to EGORSTREAM_MOST_STEPS.
+ *
+ * The parts are at most the true chance within so many steps, and short of it by at most one part for
+ * each step; so they are at most the chance too. With no step they are 0, unless the start is a goal.
+ *
+ * The steps are tested first, then the file, then the chain; its order is not looked at. The place is
+ * a block, a state or the index of an edge, each from 0, or else 0. Its tables are its own, as those of
+ * egorstream_chance are: the same stack is enough.
+ */
+struct egorstream_reached egorstream_within(const uint8_t *file, size_t file_length, uint64_t steps);
 
 /* What egorstream_write answers: 0, 0 and the file's length; or a refusal's number and place, and 0. */
 struct egorstream_written {

@@ -1,7 +1,8 @@
 /*
  * Calls the C entries on requests that come on standard input, one after the other, so that a program on any machine can try them.
  *
- * A request begins with a 4-byte number in the machine's order: 0 for the chance, 1 for the writer, 2 for the step list, 3 for an order.
+ * A request begins with a 4-byte number in the machine's order: 0 for the chance, 1 for the writer, 2 for the step list, 3 for an order, 4 for
+ * the chance within so many steps.
  *
  * The chance: five such numbers (mode, file length, memory length, where the answer begins in the memory, answer length), then the file,
  * then the memory. The reply: two such numbers (what the entry returned, whether the file is unchanged), then the memory as the entry left
@@ -17,6 +18,9 @@
  *
  * An order: the same, with a list of so many 8-byte numbers. The reply: four such numbers (number, place, sum, whether the file is unchanged), then
  * the memory.
+ *
+ * The chance within so many steps: three such numbers (file length, the steps' lower half and their upper), then the file. The reply: four such
+ * numbers (number, place, parts, whether the file is unchanged).
  *
  * A file, a table, a list or a buffer that is empty is handed over as a null pointer. The file, the tables and the memory end where a page begins that nobody may touch: who
  * reads or writes past them is stopped.
@@ -58,6 +62,9 @@ IS(BLOCK_CHECK_WRONG, 21);
 IS(BLOCK_NUMBER_WRONG, 22);
 IS(BLOCK_KIND_WRONG, 23);
 IS(BLOCK_CONTENT_WRONG, 24);
+IS(STEPS_WRONG, 32);
+IS(MOST_STEPS, 1000);
+IS(PARTS, 1073741824);
 #undef IS
 
 /* A record is four numbers of 8 bytes, side by side. */
@@ -216,6 +223,17 @@ static void choose_order(void)
     tell_lent(reply, 4, &lent);
 }
 
+static void reach(void)
+{
+    uint32_t request[3];
+    take(request, sizeof request);
+    struct lent lent = lend(request[0], 0);
+    uint64_t steps = (uint64_t)request[2] << 32 | request[1];
+    struct egorstream_reached reached = egorstream_within(file_of(&lent), lent.file_length, steps);
+    uint32_t reply[4] = {reached.number, reached.place, in_four_bytes(reached.parts), unchanged(&lent)};
+    tell_lent(reply, 4, &lent);
+}
+
 int main(void)
 {
     uint32_t kind;
@@ -226,8 +244,10 @@ int main(void)
             write_file();
         } else if (kind == 2) {
             list_steps();
-        } else {
+        } else if (kind == 3) {
             choose_order();
+        } else {
+            reach();
         }
     }
     return 0;

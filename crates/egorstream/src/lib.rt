@@ -3,6 +3,7 @@ mod call;
 mod order;
 mod reply;
 mod steps;
+mod within;
 mod write;
 
 pub use call::MODE_BOUNDS;
@@ -14,6 +15,8 @@ pub use order::egorstream_order;
 pub use reply::ANSWER_LENGTH;
 pub use steps::Stepped;
 pub use steps::egorstream_steps;
+pub use within::Reached;
+pub use within::egorstream_within;
 pub use write::BLOCK_LENGTH;
 pub use write::EDGE_SIZE;
 pub use write::Written;

@@ -3,3 +3,4 @@ pub mod Opened
 pub mod Numbered
 pub mod Unique
 pub mod Traces
+pub mod Rounds

@@ -7,11 +7,11 @@ use Rattle.meaning.specs.Refusal.{Lent}
 use Rattle.meaning.specs.Outcome.{Answer as Numbers, ChanceOutcome, RewardOutcome, BoundsOutcome}
 use Rattle.meaning.specs.Survey.{Survey, SurveyOutcome}
 use Rattle.meaning.specs.Block.{Input}
-use Rattle.meaning.specs.File.{plainIn}
+use Rattle.meaning.specs.File.{plainIn, bareIn}
 use Rattle.chain.specs.declared.Chain.{Chain}
 use Rattle.chain.specs.Lent.{lent}
 use Rattle.figures.specs.Told.{Tells, toldAnswer, toldLimits, figures, noCounts, noAnswer, noLimits}
-use Rattle.figures.specs.Found.{ours, Found, Counted, Holds, bareIn, ChanceAsked, BoundsAsked, ReportAsked, AskedOf}
+use Rattle.figures.specs.Found.{ours, Found, Counted, Holds, ChanceAsked, BoundsAsked, ReportAsked, AskedOf}
 use Rattle.figures.specs.declared.answer.Counts.{Counts}
 use Rattle.figures.specs.declared.answer.Answer.{Answer}
 use Rattle.figures.specs.declared.answer.Limits.{Limits}
@@ -36,7 +36,8 @@ module _ {f : Input} {c : Chain} {denominators edges order rewards : List ℕ} (
   pub unpaid : ours c denominators edges order [] ≡ plainIn f
   unpaid = ap (λ (l : Lent). record { chain = l .chain; order = l .order; rewards = []; work = l .work; list = l .list }) (h .paid)
 
-  bare : lent c denominators edges [] [] [] ≡ bareIn f
+  -- A chain alone is what the survey and the rounds are lent.
+  pub bare : lent c denominators edges [] [] [] ≡ bareIn f
   bare = ap (λ (l : Lent). record { chain = l .chain; order = []; rewards = []; work = []; list = 0 }) (h .paid)
 
   chance-found : (a : Answer) → Found (ChanceOutcome (ours c denominators edges order [])) (toldAnswer a)

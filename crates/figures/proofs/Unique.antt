@@ -8,7 +8,7 @@ use Rattle.meaning.specs.Refusal.{withList, listing}
 use Rattle.meaning.specs.Outcome.{Answer as Numbers, Bounds as BothNumbers, ChanceOutcome, RewardOutcome, BoundsOutcome}
 use Rattle.meaning.specs.Survey.{Survey}
 use Rattle.meaning.specs.Block.{Input}
-use Rattle.meaning.specs.File.{plainIn, paidIn}
+use Rattle.meaning.specs.File.{plainIn, paidIn, bareIn}
 use Rattle.meaning.specs.Steps.{StepRecord}
 use Rattle.meaning.specs.FileSteps.{FileSteps, file-refused, asked}
 use Rattle.theory.specs.Chains.Counted.{survey-one}
@@ -23,7 +23,7 @@ use Rattle.engines.proofs.Told.{chance-told}
 use Rattle.engines.proofs.TraceOne.{numbers-one}
 use Rattle.engines.proofs.Unique.{chance-proper}
 use Rattle.figures.specs.Told.{toldAnswer, toldLimits, figures, noCounts, noAnswer, noLimits}
-use Rattle.figures.specs.Found.{Found, Counted, bareIn, AskedOf, FiguresOutcome, refused, accepted}
+use Rattle.figures.specs.Found.{Found, Counted, AskedOf, FiguresOutcome, refused, accepted}
 use Rattle.figures.specs.Traced.{FileTraced}
 use Rattle.figures.specs.declared.answer.Counts.{Counts}
 use Rattle.figures.specs.declared.answer.Answer.{Answer}

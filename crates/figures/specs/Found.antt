@@ -8,7 +8,7 @@ use Rattle.meaning.specs.Refusal.{Lent, workSize}
 use Rattle.meaning.specs.Survey.{Survey, SurveyOutcome}
 use Rattle.meaning.specs.Outcome.{ChanceOutcome, RewardOutcome, BoundsOutcome}
 use Rattle.meaning.specs.Block.{Input}
-use Rattle.meaning.specs.File.{FileRefused, Accepted, chainIn, plainIn, paidIn}
+use Rattle.meaning.specs.File.{FileRefused, Accepted, plainIn, paidIn, bareIn}
 use Rattle.chain.specs.declared.Chain.{Chain}
 use Rattle.chain.specs.Lent.{lent}
 use Rattle.figures.specs.Told.{toldAnswer, toldLimits, figures, noCounts, noAnswer, noLimits}
@@ -39,10 +39,6 @@ pub record Counted (l : Lent) (r : Counts) : Type 0 where
 pub record Holds (f : Input) (c : Chain) (denominators edges order rewards : List ℕ) : Type 0 where
   pub accepted : Accepted f
   pub paid : ours c denominators edges order rewards ≡ paidIn f
-
--- A survey is lent the chain of an accepted file alone.
-abbrev pub bareIn : Input → Lent
-bareIn f = record { chain = chainIn f; order = []; rewards = []; work = []; list = 0 }
 
 -- The chance, and nothing else.
 pub record ChanceAsked (f : Input) (r : Figures) : Type 0 where

@@ -1,11 +1,13 @@
-// The figures of the chain in a file, and its step list.
+// The figures of the chain in a file, its step list, and its chance within so many steps.
 ghost use Rattle.chainfile.specs.Input.{input};
 ghost use Rattle.figures.specs.Found.{FiguresOutcome};
 ghost use Rattle.figures.specs.Traced.{FileTraced};
+ghost use Rattle.figures.specs.Within.{FileWithins};
 use chain::Chain;
 use chain::edge;
 use chainfile::Reading;
 use engines::answer::Trace;
+use equations::Parts;
 
 mod answer;
 mod found;
@@ -81,6 +83,40 @@ pub fn steps(kept: &[u8], more: u64, list: usize) -> Trace
             let n = chain.states;
             let e = edge::SIZE * count;
             found::trace(chain, &denominators[..n], &edges[..e], &order[..n], list)
+        }
+    }
+}
+
+// Opens the file in the same way, and answers its chance within so many steps. They are looked at before the file is.
+pub fn within(kept: &[u8], more: u64, steps: u64) -> Parts
+    ensures { λ r. ⌜ FileWithins (input (now (kept .entry)) more) steps r ⌝ }
+{
+    if equations::STEPS < steps {
+        return Parts::Refused {
+            number: 32,
+            place: 0,
+        };
+    }
+    let mut denominators = [0u64; Chain::STATES];
+    let mut edges = [0u64; edge::MOST];
+    let mut order = [0u64; Chain::STATES];
+    let mut rewards = [0u64; Chain::STATES];
+    match chainfile::read(
+        kept,
+        more,
+        &mut denominators,
+        &mut edges,
+        &mut order,
+        &mut rewards,
+    ) {
+        Reading::Refused { number, place } => Parts::Refused { number, place },
+        Reading::Chain {
+            chain,
+            edges: count,
+        } => {
+            let n = chain.states;
+            let e = edge::SIZE * count;
+            equations::within(chain, &denominators[..n], &edges[..e], steps)
         }
     }
 }

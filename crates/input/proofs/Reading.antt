@@ -69,7 +69,8 @@ module _ {word : List ℕ} {i x d : ℕ} (r : ReadTo word i x) (within : i < len
     pub read-large : pastNumbers ≤ x * 10 + d → Decimal word → ⊥
     read-large h z = omega (arith, z .fits, value-next, value-rises word (i + 1) (length word) (omega arith))
 
-pub read-all : {word : List ℕ} {i x : ℕ} → ReadTo word i x → length word ≤ i → 0 < length word → length word ≤ mostDigits → WordOutcome word x
+pub read-all : {word : List ℕ} {i x otherwise : ℕ} → ReadTo word i x → length word ≤ i → 0 < length word → length word ≤ mostDigits
+    → WordOutcome otherwise word x
 read-all {word} {i} {x} r end some few =
     let e : i ≡ length word = omega (arith, r .inside) in
     let v : x ≡ valueTo word (length word) = rw e at (r .value) in
@@ -78,7 +79,7 @@ read-all {word} {i} {x} r end some few =
     v
 
 -- One word is read as one number.
-pub word-one : {word : List ℕ} {x y : ℕ} → WordOutcome word x → WordOutcome word y → x ≡ y
+pub word-one : {word : List ℕ} {x y otherwise : ℕ} → WordOutcome otherwise word x → WordOutcome otherwise word y → x ≡ y
 word-one (number d e) (number d′ e′) = e ∙ sym e′
 word-one (number d e) (nothing n e′) = absurd (n d)
 word-one (nothing n e) (number d e′) = absurd (n d)

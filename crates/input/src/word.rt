@@ -22,25 +22,25 @@ fn digit(byte: u8) -> u64
     (byte - 48) as u64
 }
 
-// The number that a word says in decimal; 0 where it says none.
-pub fn number(word: &[u8]) -> u64
-    ensures { λ r. ⌜ WordOutcome (now (word .entry)) r ⌝ }
+// The number that a word says in decimal, or what the caller gives for a word that says none.
+pub fn number(word: &[u8], otherwise: u64) -> u64
+    ensures { λ r. ⌜ WordOutcome otherwise (now (word .entry)) r ⌝ }
 {
     if word.len() == 0 {
-        return 0;
+        return otherwise;
     }
     if DIGITS < word.len() {
-        return 0;
+        return otherwise;
     }
     let mut x = 0;
     let mut i = 0;
     while i < word.len() {
         let d = digit(word[i]);
         if d == NONE {
-            return 0;
+            return otherwise;
         }
         if (LAST - d) / 10 < x {
-            return 0;
+            return otherwise;
         }
         x = x * 10 + d;
         i += 1;

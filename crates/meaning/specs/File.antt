@@ -181,6 +181,10 @@ plainIn f = lentIn f []
 abbrev pub paidIn : Input → Lent
 paidIn f = lentIn f (rewardsIn f)
 
+-- Where a chain alone is asked for, an entry is lent the chain of an accepted file and no table.
+abbrev pub bareIn : Input → Lent
+bareIn f = record { chain = chainIn f; order = []; rewards = []; work = []; list = 0 }
+
 -- The tables that the reader fills, lent at the largest chain's size or more.
 pub record Tables : Type 0 where
   pub denominators : List ℕ

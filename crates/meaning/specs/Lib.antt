@@ -47,3 +47,5 @@ pub mod Choice
 pub mod Reorder
 -- Chains that are nearly a line: what their order is to have, and the sum that has a limit then.
 pub mod Line
+-- The chance within so many retries.
+pub mod Within

@@ -46,7 +46,7 @@ pub record Decimal (word : List ℕ) : Type 0 where
   pub digits : (i : ℕ) → i < length word → IsDigit (getD word i 0)
   pub fits : valueTo word (length word) < pastNumbers
 
--- What a word is read as: its number, or 0 where it has none.
-pub data WordOutcome (word : List ℕ) (x : ℕ) : Type 0 where
-  number : Decimal word → x ≡ valueTo word (length word) → WordOutcome word x
-  nothing : (Decimal word → ⊥) → x ≡ 0 → WordOutcome word x
+-- What a word is read as: its number, or what is given for a word that has none.
+pub data WordOutcome (otherwise : ℕ) (word : List ℕ) (x : ℕ) : Type 0 where
+  number : Decimal word → x ≡ valueTo word (length word) → WordOutcome otherwise word x
+  nothing : (Decimal word → ⊥) → x ≡ otherwise → WordOutcome otherwise word x

@@ -9,7 +9,7 @@ use report::answer;
 fn word(i: usize) -> u64 {
     let mut bytes = [0u8; input::DIGITS];
     let length = os::arg(i, &mut bytes);
-    input::number(&bytes[..length])
+    input::number(&bytes[..length], 0)
 }
 
 fn main() {

@@ -50,7 +50,7 @@ module _ {most : ℕ} {Text : List ℕ → Type 0} (some : (t : List ℕ) → Te
   is-proper (Refused n p) (TextOutcome.short h e k) = omega (arith, number e)
   is-proper (Refused n p) (TextOutcome.printed h t w e k) = absurd (omega (arith, size e, some t w))
 
-  unique : ((t t′ : List ℕ) → Text t → Text t′ → t ≡ t′) → {before after after′ : List ℕ} (r r′ : Printed)
+  pub unique : ((t t′ : List ℕ) → Text t → Text t′ → t ≡ t′) → {before after after′ : List ℕ} (r r′ : Printed)
       → TextOutcome most Text before (told r) after → TextOutcome most Text before (told r′) after′ → (r ≡ r′) × (after ≡ after′)
   unique one r r′ o o′ = let e = text-one one o o′ in (told-one r r′ (is-proper r o) (is-proper r′ o′) (e .0), e .1)
 

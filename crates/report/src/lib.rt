@@ -11,6 +11,7 @@ use figures::Answer;
 use figures::Question;
 
 mod lines;
+pub mod pieces;
 mod records;
 mod text;
 

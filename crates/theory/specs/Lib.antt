@@ -15,3 +15,5 @@ pub mod Outcomes
 pub mod Files
 -- Planning copies: the chain of a plan is well formed, and the planner's answer is one.
 pub mod Plans
+-- Within so many retries: the rounded rounds beside the true ones, the true ones beside the chance, and that the answer is one.
+pub mod Rounds

@@ -1,8 +1,8 @@
 //! A second implementation of documents 01 and 02, compared with the product.
 //!
 //! It makes chains and damaged requests from fixed seeds, calls the C entries of the product's static
-//! library on all of them and its programs `nightchance`, `nightsteps` and `reorder` on a part, runs
-//! its program `plancopies` on plans, and compares every answer with its own. Its last line is
+//! library on all of them and its programs `nightchance`, `nightsteps`, `reorder` and `nightwithin` on a
+//! part, runs its program `plancopies` on plans, and compares every answer with its own. Its last line is
 //! `second: N passed, 0 failed`, where N counts comparisons.
 //!
 //! `cargo run --release` compares, with the word `sample` on a small part of it; `cargo test` tries
@@ -15,6 +15,7 @@ mod choice;
 mod compare;
 mod compare_choice;
 mod compare_steps;
+mod compare_within;
 mod damage;
 mod damage_check;
 mod damage_head;
@@ -31,6 +32,7 @@ mod generate;
 mod line;
 mod live;
 mod modular;
+mod natural;
 mod plan;
 mod product;
 mod random;
@@ -41,6 +43,7 @@ mod step_list;
 mod steps;
 mod tables;
 mod tally;
+mod within;
 mod work;
 mod worked;
 mod worked_steps;
@@ -58,7 +61,7 @@ fn main() -> ExitCode {
         }
     };
     let programs =
-        [product::NIGHTCHANCE, product::NIGHTSTEPS, product::REORDER, product::PLANCOPIES];
+        [product::NIGHTCHANCE, product::NIGHTSTEPS, product::REORDER, product::NIGHTWITHIN, product::PLANCOPIES];
     for program in programs.map(product::program).into_iter().chain([product::driver()]) {
         if !program.is_file() {
             eprintln!("The program {} is missing.", program.display());

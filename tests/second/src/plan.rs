@@ -78,7 +78,7 @@ impl Plan {
 }
 
 /// The number that a word says in decimal; None where it says none that has room in 64 bits.
-fn number(word: &str) -> Option<u64> {
+pub fn number(word: &str) -> Option<u64> {
     let digits = !word.is_empty() && word.bytes().all(|byte| byte.is_ascii_digit());
     if !digits || word.len() > MOST_DIGITS {
         return None;
@@ -91,7 +91,7 @@ const ENDS: [u64; 9] =
     [0, 1, 2, MOST_WEIGHT - 1, MOST_WEIGHT, MOST_WEIGHT + 1, 1 << 32, (1 << 32) + 1, u64::MAX];
 
 /// Words that say no number of 64 bits, and two long ones that do.
-const ODD: [&str; 12] = [
+pub const ODD: [&str; 12] = [
     "",
     "x",
     "-1",

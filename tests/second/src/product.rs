@@ -23,6 +23,8 @@ pub fn driver() -> PathBuf {
 pub const NIGHTCHANCE: &str = "nightchance";
 pub const NIGHTSTEPS: &str = "nightsteps";
 pub const REORDER: &str = "reorder";
+/// The program that is given a number of steps too.
+pub const NIGHTWITHIN: &str = "nightwithin";
 /// The program that is given a plan.
 pub const PLANCOPIES: &str = "plancopies";
 
@@ -133,6 +135,12 @@ impl Driver {
         let numbers = [3, file.len(), memory.len(), start, room];
         let [number, place, sum, unchanged] = self.ask(&numbers, file, memory)?;
         Ok(Ordered { number, place, sum, file_unchanged: unchanged == 1 })
+    }
+
+    fn within(&mut self, file: &[u8], steps: u64) -> io::Result<Reached> {
+        let numbers = [4, file.len(), steps as u32 as usize, (steps >> 32) as usize];
+        let [number, place, parts, unchanged] = self.ask(&numbers, file, &mut [])?;
+        Ok(Reached { number, place, parts, file_unchanged: unchanged == 1 })
     }
 
     /// How a driver ended on which a call failed with this error.
@@ -247,9 +255,27 @@ pub fn reordered(file: &[u8]) -> io::Result<(Vec<u8>, Vec<u8>)> {
     Ok((output.stdout, output.stderr))
 }
 
+#[derive(Debug, PartialEq, Eq)]
+pub struct Reached {
+    pub number: u32,
+    pub place: u32,
+    pub parts: u32,
+    pub file_unchanged: bool,
+}
+
+/// What the entry of the chance within so many steps returns.
+pub fn within(file: &[u8], steps: u64) -> io::Result<Reached> {
+    asked(|driver| driver.within(file, steps))
+}
+
 /// What a program prints for this file on its standard input.
 pub fn printed(name: &str, file: &[u8]) -> io::Result<Vec<u8>> {
-    let mut child = start(&program(name), &[]);
+    printed_with(name, &[], file)
+}
+
+/// The same of a program that is given words.
+pub fn printed_with(name: &str, words: &[String], file: &[u8]) -> io::Result<Vec<u8>> {
+    let mut child = start(&program(name), words);
     // A program that stops reading early shows in its report; that the pipe broke is no more news.
     let _ = child.stdin.take().expect("it is piped").write_all(file);
     all_of(child)

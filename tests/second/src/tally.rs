@@ -1,14 +1,12 @@
 //! Counts checks and tells of the first that fail.
 
-use std::collections::HashSet;
+use std::collections::{BTreeMap, HashSet};
 use std::hash::{DefaultHasher, Hash, Hasher};
 use std::ops::RangeInclusive;
 use std::{env, fs};
 
 /// How many failures are told in full.
 const TOLD: usize = 5;
-/// One more than the greatest number of refusal.
-const NUMBERS: usize = 32;
 
 /// Where a refusal number was expected; each is a column of the table.
 #[derive(Clone, Copy)]
@@ -20,13 +18,15 @@ pub enum Asked {
     Steps,
     StepsText,
     Planner,
+    Within,
+    WithinText,
 }
 
 /// The columns of the table.
-const ASKED: usize = 7;
+const ASKED: usize = 9;
 
-/// What a call of the step list's entry, of the one that chooses an order, `nightsteps` or `reorder`
-/// met; each is a line after the table.
+/// What a call of the step list's entry, of the one that chooses an order, of the one within so many
+/// steps, `nightsteps` or `reorder` met; each is a line after the table.
 #[derive(Clone, Copy)]
 pub enum Met {
     Through,
@@ -47,10 +47,12 @@ pub enum Met {
     Point,
     Narrow,
     Wide,
+    Between,
+    Near,
 }
 
 /// Each kind in words, and how often a run meets it at least.
-const MET: [(&str, u64); 18] = [
+const MET: [(&str, u64); 20] = [
     ("step lists of answers", 5_000),
     ("step lists of answers with no step", 300),
     ("step lists that end in 12 after some steps", 2_000),
@@ -69,19 +71,23 @@ const MET: [(&str, u64); 18] = [
     ("answers whose edges span no place and whose products reach the limit", 30),
     ("answers whose edges span 1 to 3 places", 1_000),
     ("answers whose edges span more", 1_000),
+    ("chances within so many steps between none and all", 2_000),
+    ("chances within one step or more beside the true ones", 2_000),
 ];
 
 /// The numbers that a file's bytes, a mode and an answer's length can give; 0 is an answer. 11 needs
 /// a reward above what two bytes hold; 12 comes from the exact mode alone.
-const GIVEN: [RangeInclusive<usize>; 3] = [0..=10, 12..=12, 20..=24];
+const GIVEN: [RangeInclusive<u32>; 3] = [0..=10, 12..=12, 20..=24];
 /// Those that need a mode or an answer, which a report does not have.
-const NOT_REPORTED: [usize; 2] = [1, 2];
+const NOT_REPORTED: [u32; 2] = [1, 2];
 /// Those that need a mode, which the step list does not have.
-const NOT_LISTED: [usize; 1] = [1];
+const NOT_LISTED: [u32; 1] = [1];
 /// Those that the writer can give.
-const WRITTEN: RangeInclusive<usize> = 0..=11;
+const WRITTEN: RangeInclusive<u32> = 0..=11;
+/// Those that a file's bytes and a number of steps can give: the order is not looked at.
+const WITHIN: [RangeInclusive<u32>; 4] = [0..=0, 3..=9, 20..=24, 32..=32];
 /// Those that the planner can give.
-const PLANNED: [usize; 4] = [0, 12, 30, 31];
+const PLANNED: [u32; 4] = [0, 12, 30, 31];
 /// How many different chains a run has at least, and how many that fit in different orders.
 const CHAINS: usize = 20_000;
 const REORDERED: u64 = 300;
@@ -99,7 +105,7 @@ pub struct Tally {
     failed: u64,
     told: Vec<String>,
     /// How often each number was expected, by `Asked`; 0 is an answer.
-    numbers: [[u64; NUMBERS]; ASKED],
+    numbers: BTreeMap<u32, [u64; ASKED]>,
     /// How often each kind was met, by `Met`.
     met: [u64; MET.len()],
     /// The generated chains, each by a hash of its file, so that none counts twice.
@@ -146,7 +152,12 @@ impl Tally {
 
     /// Counts a number that was expected.
     pub fn number(&mut self, asked: Asked, number: u32) {
-        self.numbers[asked as usize][number as usize] += 1;
+        self.numbers.entry(number).or_default()[asked as usize] += 1;
+    }
+
+    /// How often a number was expected there.
+    fn expected(&self, asked: Asked, number: u32) -> u64 {
+        self.numbers.get(&number).map_or(0, |row| row[asked as usize])
     }
 
     /// Counts a kind where it was met.
@@ -158,8 +169,14 @@ impl Tally {
     /// chains, orders or step lists are too few.
     pub fn judge_coverage(&mut self) {
         for number in GIVEN.into_iter().flatten() {
-            let [chains, damage, reports, _, lists, texts, _] =
-                self.numbers.map(|column| column[number]);
+            let [chains, damage, reports, lists, texts] = [
+                Asked::EntryOnChain,
+                Asked::EntryOnDamage,
+                Asked::Report,
+                Asked::Steps,
+                Asked::StepsText,
+            ]
+            .map(|asked| self.expected(asked, number));
             self.cover(chains + damage > 0, || format!("no call of the entry expects {number}"));
             if !NOT_REPORTED.contains(&number) {
                 self.cover(reports > 0, || format!("no report expects {number}"));
@@ -170,14 +187,20 @@ impl Tally {
             }
         }
         for number in WRITTEN {
-            let writes = self.numbers[Asked::Writer as usize][number];
+            let writes = self.expected(Asked::Writer, number);
             self.cover(writes > 0, || format!("no call of the writer expects {number}"));
         }
         for ((kind, least), met) in MET.into_iter().zip(self.met) {
             self.cover(met >= least, || format!("only {met} {kind}"));
         }
+        for number in WITHIN.into_iter().flatten() {
+            let [calls, texts] =
+                [Asked::Within, Asked::WithinText].map(|asked| self.expected(asked, number));
+            self.cover(calls > 0, || format!("no call within so many steps expects {number}"));
+            self.cover(texts > 0, || format!("no text of nightwithin expects {number}"));
+        }
         for number in PLANNED {
-            let plans = self.numbers[Asked::Planner as usize][number];
+            let plans = self.expected(Asked::Planner, number);
             self.cover(plans > 0, || format!("no plan expects {number}"));
         }
         let (chains, reordered) = (self.chains.len(), self.reordered);
@@ -201,8 +224,10 @@ impl Tally {
         self.failed += other.failed;
         self.told.extend(other.told);
         self.told.truncate(TOLD);
-        for (mine, theirs) in self.numbers.iter_mut().flatten().zip(other.numbers.as_flattened()) {
-            *mine += theirs;
+        for (number, row) in other.numbers {
+            for (mine, theirs) in self.numbers.entry(number).or_default().iter_mut().zip(row) {
+                *mine += theirs;
+            }
         }
         for (mine, theirs) in self.rewards.iter_mut().zip(other.rewards) {
             *mine += theirs;
@@ -220,16 +245,13 @@ impl Tally {
         for failure in &self.told {
             println!("{failure}");
         }
-        println!("number   entry on chains   entry on damage   reports   writer   steps   printed   plans");
-        for number in 0..NUMBERS {
-            let row = self.numbers.map(|column| column[number]);
-            let [chains, damage, reports, writes, lists, texts, plans] = row;
-            if row.iter().sum::<u64>() > 0 {
-                println!(
-                    "{number:6}   {chains:15}   {damage:15}   {reports:7}   {writes:6}   \
-                     {lists:5}   {texts:7}   {plans:5}"
-                );
-            }
+        println!("number   entry on chains   entry on damage   reports   writer   steps   printed   plans   within   printed");
+        for (number, row) in &self.numbers {
+            let [chains, damage, reports, writes, lists, texts, plans, within, lines] = row;
+            println!(
+                "{number:6}   {chains:15}   {damage:15}   {reports:7}   {writes:6}   \
+                 {lists:5}   {texts:7}   {plans:5}   {within:6}   {lines:7}"
+            );
         }
         let [fractions, infinite, refused] = self.rewards;
         println!("different generated chains: {}", self.chains.len());

@@ -5,6 +5,7 @@ use crate::chain::{Chain, MOST_STATES};
 use crate::compare;
 use crate::compare_choice;
 use crate::compare_steps;
+use crate::compare_within;
 use crate::damage::{self, Request, DAMAGES, RECORDS_WRONG};
 use crate::damage_lent::{self, LENT_DAMAGES};
 use crate::entry::{Pair, ANSWER, BOUNDS, DEFAULT, EXACT};
@@ -98,6 +99,7 @@ fn known_answers(tally: &mut Tally) {
             compare_chain(tally, case, &worked.chain, version);
             compare::report_lines(tally, case, &file, worked.lines);
             compare_lists(tally, case, &file, worked.chain.states());
+            compare_steps_within(tally, case, &file);
         }
     }
     for (place, (family, chain, text)) in worked_steps::all().into_iter().enumerate() {
@@ -112,6 +114,7 @@ fn known_answers(tally: &mut Tally) {
         let case = Case { family, seed: 0 };
         compare::report_lines(tally, case, file, lines);
         compare_steps::text(tally, case, file, text);
+        compare_steps_within(tally, case, file);
     }
     for (line, printed) in plan::KNOWN {
         let case = Case { family: "known plans", seed: 0 };
@@ -133,6 +136,15 @@ fn compare_lists(tally: &mut Tally, case: Case, file: &[u8], n: usize) {
     }
 }
 
+/// Compares the chance of a file within every number of steps that matters, and a line of each kind of
+/// word.
+fn compare_steps_within(tally: &mut Tally, case: Case, file: &[u8]) {
+    for steps in [0, 1, 2, 3, 24, 1_000, 1_001] {
+        compare_within::entry(tally, case, file, steps);
+    }
+    compare_within::program(tally, case, &["3".to_string()], file);
+}
+
 /// A chain file with 65,536 blocks behind it: in two bytes its block total would be right.
 fn far_too_long(tally: &mut Tally) {
     let case = Case { family: "65,536 blocks too many", seed: 0 };
@@ -141,6 +153,8 @@ fn far_too_long(tally: &mut Tally) {
     compare::report(tally, case, &file);
     compare_steps::program(tally, case, &file);
     compare_steps::entry(tally, case, &file, MOST_STATES);
+    compare_within::entry(tally, case, &file, 3);
+    compare_within::program(tally, case, &["3".to_string()], &file);
     let request = Request { file, mode: EXACT, answer_length: ANSWER };
     compare::entry(tally, case, &request, Asked::EntryOnDamage);
 }
@@ -180,10 +194,12 @@ fn one_chain(tally: &mut Tally, seed: u64, place: u64, with_report: bool) {
     compare::writer(tally, case, &tables, buffer_length(&mut random, tables.file_length()));
     compare_steps::entry(tally, case, &file, list_length(&mut random, chain.states()));
     compare_choice::entry(tally, case, &file, order_length(&mut random, chain.states()));
+    compare_within::entry(tally, case, &file, compare_within::steps(&mut random));
     if with_report {
         compare::report(tally, case, &file);
         compare_steps::program(tally, case, &file);
         compare_choice::program(tally, case, &file);
+        compare_within::program(tally, case, &words(&mut random), &file);
     }
 }
 
@@ -226,10 +242,12 @@ fn one_damage(tally: &mut Tally, seed: u64, place: u64, with_report: bool) {
     compare_steps::entry(tally, case, &request.file, random.pick(&[MOST_STATES, any]));
     let own = request.file.get(block::FIRST_RECORD).map_or(0, |&n| usize::from(n));
     compare_choice::entry(tally, case, &request.file, random.pick(&[own, own, any]));
+    compare_within::entry(tally, case, &request.file, compare_within::steps(&mut random));
     if with_report || damage.0 == RECORDS_WRONG {
         compare::report(tally, case, &request.file);
         compare_steps::program(tally, case, &request.file);
         compare_choice::program(tally, case, &request.file);
+        compare_within::program(tally, case, &words(&mut random), &request.file);
     }
 }
 
@@ -254,6 +272,18 @@ fn one_grown(tally: &mut Tally, seed: u64) {
     tally.chain(&file);
     compare_lists(tally, case, &file, chain.states());
     compare_steps::program(tally, case, &file);
+}
+
+/// The words of a number of steps: at times none, or one that says no number.
+fn words(random: &mut Random) -> Vec<String> {
+    let mut words = vec![compare_within::steps(random).to_string()];
+    if random.once_in(8) {
+        words[0] = random.pick(&plan::ODD).to_string();
+    }
+    if random.once_in(16) {
+        words.clear();
+    }
+    words
 }
 
 /// n records, one less, none, or more.

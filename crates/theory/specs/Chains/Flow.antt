@@ -8,8 +8,8 @@ use native.Mathlib.Nat.{mul-le-mul-left, mul-comm}
 use lib.Dec.{eqb}
 use borrow.Author.Tests.{eq-eqb, eqb-true}
 use Rattle.meaning.specs.Number.{sumTo, only}
-use Rattle.meaning.specs.Chain.{edgeCount, from, to, weight, carried, flow}
-use Rattle.theory.specs.Numbers.Sum.{sum-ext, sum-add, sum-zero, sum-scale, sum-swap, sum-one, sum-term, sum-tight}
+use Rattle.meaning.specs.Chain.{edgeCount, from, to, weight, carried, flow, rowSum}
+use Rattle.theory.specs.Numbers.Sum.{sum-ext, sum-le, sum-add, sum-zero, sum-scale, sum-swap, sum-one, sum-term, sum-tight}
 
 only-add : (b : Bool) (w x y : ℕ) → only b (w * (x + y)) ≡ only b (w * x) + only b (w * y)
 only-add true w x y = omega arith
@@ -93,3 +93,16 @@ module _ (edges : List ℕ) (i : ℕ) where
       l
       e
       k)
+
+  -- Where each target is worth no more.
+  pub flow-le : (f g : ℕ → ℕ) → ((e : ℕ) → e < edgeCount edges → from edges e ≡ i → f (to edges e) ≤ g (to edges e)) → flow edges i f ≤ flow edges i g
+  unfolding flow carried
+  flow-le f g h = sum-le _ _ (edgeCount edges) (λ e l. go e l (eqb (from edges e) i) refl)
+    where
+      go : (e : ℕ) → e < edgeCount edges → (b : Bool) → eqb (from edges e) i ≡ b → only b (weight edges e * f (to edges e)) ≤ only b (weight edges e * g (to edges e))
+      go e l true q = mul-le-mul-left (weight edges e) (h e l (eqb-true (from edges e) i q))
+      go e l false q = omega arith
+
+  -- Where each target is worth at most m, all together are worth at most m times the row sum.
+  pub flow-most : (f : ℕ → ℕ) (m : ℕ) → ((e : ℕ) → e < edgeCount edges → from edges e ≡ i → f (to edges e) ≤ m) → flow edges i f ≤ m * rowSum edges i
+  flow-most f m h = omega (arith, flow-le f (λ _. m * 1) (λ e l q. omega (arith, h e l q)), flow-scale m (λ _. 1))

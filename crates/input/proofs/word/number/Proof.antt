@@ -9,10 +9,10 @@ use Rattle.input.proofs.word.number.Statement.{statement}
 use Rattle.input.proofs.word.number.Tie as tie
 
 abbrev Inv-loop : tie.InvT-loop
-Inv-loop word x₀ i₀ x i = ReadTo word i x
+Inv-loop word otherwise x₀ i₀ x i = ReadTo word i x
 
 abbrev μ-loop : tie.MeasureT-loop
-μ-loop word x₀ i₀ x i = length word - i
+μ-loop word otherwise x₀ i₀ x i = length word - i
 
 returns : tie.Need-returns Inv-loop μ-loop
 returns c = WordOutcome.nothing (λ d. omega (arith, d .some)) refl

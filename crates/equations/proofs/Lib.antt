@@ -1,0 +1,3 @@
+pub mod Made
+pub mod Rounds
+pub mod Unique

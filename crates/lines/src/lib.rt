@@ -1,0 +1,42 @@
+// The texts of one line that programs print of a chain file, at the front of a lent buffer.
+ghost use Prim.Native.Nat.{_≤_};
+ghost use lib.ListN.{length};
+ghost use Rattle.meaning.specs.Within.{withinText, withinRoom, WithinReportOutcome};
+ghost use Rattle.chainfile.specs.Input.{input};
+ghost use Rattle.chainfile.specs.Written.{Written};
+ghost use Rattle.report.specs.Stands.{told};
+use equations::PARTS;
+use equations::Parts;
+use report::Printed;
+use report::pieces::DIGITS;
+use report::pieces::named;
+use report::pieces::put;
+
+// Room for any line of parts, and with it for that of any refusal.
+pub const WITHIN_ROOM: usize = (7 + DIGITS) + (1 + DIGITS) + (4 + DIGITS) + 1;
+
+fn parts_line(buffer: &mut [u8], steps: u64, parts: u64) -> usize
+    requires { ⌜ withinRoom ≤ length (now buffer) ⌝ }
+    ensures { λ r. ⌜ Written (now (buffer .entry)) 0 (withinText steps parts) (now (buffer .exit)) r ⌝ }
+{
+    let second = named(buffer, 0, b"within ", steps);
+    let third = named(buffer, second, b" ", parts);
+    let end = named(buffer, third, b" of ", PARTS);
+    put(buffer, end, b"\n")
+}
+
+// The line of a chain file's chance within so many steps, or of the refusal. `kept` holds the file's first bytes and `more` counts the others.
+pub fn within(kept: &[u8], more: u64, steps: u64, buffer: &mut [u8]) -> Printed
+    ensures { λ r. ⌜ WithinReportOutcome (input (now (kept .entry)) more) steps (now (buffer .entry)) (told r) (now (buffer .exit)) ⌝ }
+{
+    if buffer.len() < WITHIN_ROOM {
+        return Printed::Refused {
+            number: 2,
+            place: 0,
+        };
+    }
+    match figures::within(kept, more, steps) {
+        Parts::Held(parts) => Printed::Length(parts_line(buffer, steps, parts)),
+        Parts::Refused { number, place } => report::answer(number, place, 0, 0, buffer),
+    }
+}
