@@ -44,3 +44,5 @@ pub mod Demand
 pub mod Copies
 -- The chance within so many retries.
 pub mod Within
+-- Checking a colleague's solver.
+pub mod Judge
