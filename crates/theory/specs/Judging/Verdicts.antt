@@ -20,12 +20,15 @@ use Rattle.theory.specs.Judging.Table.{decBroken, shares-unbroken, unbro
 pub range-some : {d : ℕ} → (OutOfRange d → ⊥) → 0 < d
 range-some {d} h = ⊎-elim (λ (e : 0 < d). e) (λ z. absurd (h (inl (omega arith)))) (below 0 d)
 
--- Yes is neither a no nor a refusal.
-unwrong : {i : ℕ} → right ≡ wrong i → ⊥
+-- Yes, no and a refusal are three.
+pub unwrong : {i : ℕ} → right ≡ wrong i → ⊥
 unwrong e = let z : _≡_ {A = ℕ} 0 1 = cc in omega arith
 
-unlike : {number place : ℕ} → right ≡ refusal number place → ⊥
+pub unlike : {number place : ℕ} → right ≡ refusal number place → ⊥
 unlike e = let z : _≡_ {A = ℕ} 0 1 = cc in omega arith
+
+pub unlike-no : {i number place : ℕ} → wrong i ≡ refusal number place → ⊥
+unlike-no e = let z : _≡_ {A = ℕ} 0 1 = cc in omega arith
 
 -- One verdict for one chain and one table.
 module _ {l : Lent} {d : ℕ} {table : List ℕ} where
