@@ -2,7 +2,7 @@
 ghost use mathlib.Core.Path.{_≡_};
 ghost use mathlib.Core.List.{List};
 ghost use Prim.Native.Nat.{ℕ, _≤_};
-ghost use lib.ListN.{take};
+ghost use lib.ListN.{length, take};
 ghost use Rattle.meaning.specs.Chain.{mostStates};
 ghost use Rattle.meaning.specs.Block.{Input};
 ghost use Rattle.meaning.specs.Judge.{numeratorsOf, FileJudged};
@@ -16,7 +16,7 @@ use equations::Verdict;
 // The numerators of n states, at the front of a table.
 fn numerators(shares: &[u8], n: usize) -> [u64; Chain::STATES]
     requires { ⌜ n ≤ mostStates ⌝ }
-    ensures { λ r. ⌜ take n r ≡ numeratorsOf n (now (shares .entry)) ⌝ }
+    ensures { λ r. ⌜ (length r ≡ mostStates) × (take n r ≡ numeratorsOf n (now (shares .entry))) ⌝ }
 {
     let mut table = [0u64; Chain::STATES];
     let mut i = 0;
