@@ -58,16 +58,16 @@ fn broken(
 {
     let n = c.states;
     let goals = c.goals;
-    let mut i = 0;
-    while i < n {
-        let goal = holds(goals, i);
-        let leads = holds(good, i);
-        let share = at(shares, i);
-        let denominator = at(denominators, i);
-        if differs(goal, leads, whole, share, denominator, carried[i]) {
-            return Place::At(i);
+    let mut state = 0;
+    while state < n {
+        let goal = holds(goals, state);
+        let leads = holds(good, state);
+        let share = at(shares, state);
+        let denominator = at(denominators, state);
+        if differs(goal, leads, whole, share, denominator, carried[state]) {
+            return Place::At(state);
         }
-        i += 1;
+        state += 1;
     }
     Place::Nowhere
 }

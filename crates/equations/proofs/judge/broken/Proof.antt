@@ -11,23 +11,23 @@ use Rattle.equations.proofs.judge.broken.Statement.{statement}
 use Rattle.equations.proofs.judge.broken.Tie as tie
 
 abbrev Inv-loop : tie.InvT-loop
-Inv-loop good whole shares denominators carried n goals i₀ i =
-    NoneBelow (DiffersAt n goals good whole shares denominators carried) n i
+Inv-loop good whole shares denominators carried n goals state₀ state =
+    NoneBelow (DiffersAt n goals good whole shares denominators carried) n state
 
 abbrev μ-loop : tie.MeasureT-loop
-μ-loop good whole shares denominators carried n goals i₀ i = n - i
+μ-loop good whole shares denominators carried n goals state₀ state = n - state
 
 differs-requires : tie.Need-differs-requires Inv-loop μ-loop
 differs-requires c κs =
     let here = c .before .before .before .before .before .before in
     let start = here .before .before .before in
-    rw (c .before .at2 .ensures, c .before .before .at .ensures) (start .pre .small (here .loop .i) (search needs))
+    rw (c .before .at2 .ensures, c .before .before .at .ensures) (start .pre .small (here .loop .state) (search needs))
 
 -- What the tests and the tables say of a state is what is asked of it.
 decided : (c : tie.After-differs Inv-loop μ-loop)
     → (let here = c .before .before .before .before .before .before .before in
     let a = here .before .before .before .args in
-    let i = here .loop .i in
+    let i = here .loop .state in
     decides (Differs (eqb (bit (a .c .goals) i) 1) (eqb (bit (a .good) i) 1) (a .whole) (getD (a .shares .now) i 0) (getD (a .denominators .now) i 0) (getD (a .carried .now) i 0)) (c .differs .result))
 decided c =
     rw (c .before .before .at2 .ensures, c .before .before .before .at .ensures, c .before .before .before .before .holds2 .ensures, c .before .before .before .before .before .holds .ensures)
