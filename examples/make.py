@@ -161,6 +161,13 @@ def retries():
     return chain_file(rows, goals={2}, paid=minutes)
 
 
+def address_shares():
+    """The table of the chances at every state of the address chain: the denominator, then a numerator
+    for each state, in four bytes each. A colleague's solver would send such a one.
+    """
+    return struct.pack("<8I", 4376, 4375, 4368, 4340, 4200, 3500, 4376, 0)
+
+
 def main():
     if len(sys.argv) > 1:
         sys.stdout.buffer.write(copies(*map(int, sys.argv[1:])))
@@ -168,6 +175,7 @@ def main():
     here = Path(__file__).resolve().parent
     for make in (address, dice, long, gateway, backup, copies, retries):
         (here / f"{make.__name__}.chain").write_bytes(make())
+    (here / "address.shares").write_bytes(address_shares())
 
 
 if __name__ == "__main__":
