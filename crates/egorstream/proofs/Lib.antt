@@ -3,3 +3,4 @@ pub mod Replied
 pub mod Writes
 pub mod Stepping
 pub mod Reaching
+pub mod Checking

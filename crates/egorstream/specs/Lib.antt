@@ -1,3 +1,4 @@
 pub mod Told
 pub mod Steps
 pub mod Reach
+pub mod Check

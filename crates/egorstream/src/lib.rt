@@ -1,5 +1,6 @@
 // The calls from C.
 mod call;
+mod check;
 mod reply;
 mod steps;
 mod within;
@@ -9,6 +10,8 @@ pub use call::MODE_BOUNDS;
 pub use call::MODE_DEFAULT;
 pub use call::MODE_EXACT;
 pub use call::egorstream_chance;
+pub use check::Checked;
+pub use check::egorstream_check;
 pub use reply::ANSWER_LENGTH;
 pub use steps::Stepped;
 pub use steps::egorstream_steps;
