@@ -1,5 +1,5 @@
 #!/usr/bin/env python3
-"""Writes the example chain files beside this script. Each run writes the same bytes.
+"""Writes the example chain files, and a table of chances, beside this script. Each run writes the same bytes.
 
 With four numbers, COPIES LOSS REBUILD FINISH, it writes the chain file of that plan to standard
 output instead: the chain whose chance plancopies answers.
