@@ -1,14 +1,15 @@
-# make report prints the report of a chain file, make steps its step list, make within its chance within so many steps; make reorder writes it with the
-# chosen order; make plan prints the chance that a job loses all its copies; make test runs the gate; make memory runs a sample of it under valgrind;
-# make bench times; make fmt lays every file of Rattle out.
+# make report prints the report of a chain file, make steps its step list, make within its chance within so many steps, make check what is said of a
+# table of its chances; make reorder writes it with the chosen order; make plan prints the chance that a job loses all its copies; make test runs the
+# gate; make memory runs a sample of it under valgrind; make bench times; make fmt lays every file of Rattle out.
 CHAIN ?= examples/address.chain
 STEPS ?= 3
+SHARES ?= examples/address.shares
 COPIES ?= 3
 LOSS ?= 1
 REBUILD ?= 20
 FINISH ?= 100
 
-.PHONY: report steps reorder within plan test memory fmt bench
+.PHONY: report steps reorder within check plan test memory fmt bench
 
 report: target/bin/nightchance
 	@tests/x86-64 run target/bin/nightchance <"$(CHAIN)"
@@ -21,6 +22,11 @@ reorder: target/bin/reorder
 
 within: target/bin/nightwithin
 	@tests/x86-64 run target/bin/nightwithin "$(STEPS)" <"$(CHAIN)"
+
+# The program looks for its table in the folder that it is run in.
+check: target/bin/checkshares
+	@mkdir -p target/check && cp "$(SHARES)" target/check/shares
+	@cat "$(CHAIN)" | (cd target/check && ../../tests/x86-64 run ../bin/checkshares)
 
 plan: target/bin/plancopies
 	@tests/x86-64 run target/bin/plancopies $(COPIES) $(LOSS) $(REBUILD) $(FINISH)

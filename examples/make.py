@@ -1,5 +1,5 @@
 #!/usr/bin/env python3
-"""Writes the example chain files beside this script. Each run writes the same bytes.
+"""Writes the example chain files, and a table of chances, beside this script. Each run writes the same bytes.
 
 With four numbers, COPIES LOSS REBUILD FINISH, it writes the chain file of that plan to standard
 output instead: the chain whose chance plancopies answers.
@@ -161,6 +161,13 @@ def retries():
     return chain_file(rows, goals={2}, paid=minutes)
 
 
+def address_shares():
+    """The table of the chances at every state of the address chain: the denominator, then a numerator
+    for each state, in four bytes each. A colleague's solver would send such a one.
+    """
+    return struct.pack("<8I", 4376, 4375, 4368, 4340, 4200, 3500, 4376, 0)
+
+
 def main():
     if len(sys.argv) > 1:
         sys.stdout.buffer.write(copies(*map(int, sys.argv[1:])))
@@ -168,6 +175,7 @@ def main():
     here = Path(__file__).resolve().parent
     for make in (address, dice, long, gateway, backup, copies, retries):
         (here / f"{make.__name__}.chain").write_bytes(make())
+    (here / "address.shares").write_bytes(address_shares())
 
 
 if __name__ == "__main__":

@@ -1,6 +1,7 @@
 /*
  * The chance that a chain reaches a goal, from the bytes of a chain file; the steps by which it was
- * sought; the chance within so many steps; and the chain file of a chain, from its tables.
+ * sought; the chance within so many steps; whether a table is the chance at every state; and the chain
+ * file of a chain, from its tables.
  *
  * Link with libegorstream.a.
  */
@@ -36,6 +37,9 @@ extern "C" {
 /* The most states of a chain: a step list with so many records has room for every chain. */
 #define EGORSTREAM_MOST_STATES 64
 
+/* The longest table that egorstream_check takes, for a chain of 64 states. */
+#define EGORSTREAM_MOST_TABLE_LENGTH (4 * (EGORSTREAM_MOST_STATES + 1))
+
 /* The most steps that egorstream_within takes, and the parts that it answers a number of: 2^30. */
 #define EGORSTREAM_MOST_STEPS UINT64_C(1000)
 #define EGORSTREAM_PARTS UINT64_C(1073741824)
@@ -55,7 +59,8 @@ extern "C" {
 #define EGORSTREAM_MODE_OR_LENGTH_WRONG UINT32_C(1)
 /*
  * The answer has fewer than 16 bytes. For egorstream_steps: the list has fewer records than the chain
- * has states. For egorstream_write: the buffer is shorter than the file.
+ * has states. For egorstream_check: the table does not have four bytes for each state and four more.
+ * For egorstream_write: the buffer is shorter than the file.
  */
 #define EGORSTREAM_ANSWER_TOO_SHORT UINT32_C(2)
 
@@ -112,6 +117,13 @@ extern "C" {
 
 /* More than 1,000 steps. Only egorstream_within gives it, before every other number. */
 #define EGORSTREAM_STEPS_WRONG UINT32_C(32)
+
+/* The table is wrong in its form: what wrote it must be mended. Only egorstream_check gives these. */
+
+/* The table's denominator is 0 or above 2,147,483,647. */
+#define EGORSTREAM_TABLE_DENOMINATOR_WRONG UINT32_C(33)
+/* A numerator is above the table's denominator; the place is the first such state. */
+#define EGORSTREAM_TABLE_NUMERATOR_WRONG UINT32_C(34)
 
 /*
  * Finds the chance that the chain in a file reaches a goal from its start.
@@ -232,6 +244,37 @@ struct egorstream_reached {
  * egorstream_chance are: the same stack is enough.
  */
 struct egorstream_reached egorstream_within(const uint8_t *file, size_t file_length, uint64_t steps);
+
+/*
+ * What egorstream_check answers: 0, 0, 1 and 0 where the table is right; 0, 0, 0 and a state where it
+ * is not; or a refusal's number and place, 0 and 0.
+ */
+struct egorstream_checked {
+    uint32_t number;
+    uint32_t place;
+    uint32_t right;
+    uint32_t state;
+};
+
+/*
+ * Says whether a table is the chance at every state, also at those that the start does not reach.
+ *
+ * file, file_length      The bytes of a chain file, as above.
+ * table, table_length    Little-endian numbers of 4 bytes: a denominator, and then a numerator for each
+ *                        state. The fractions need not be in lowest terms. They are only read. A null
+ *                        pointer with length 0 is an empty table.
+ *
+ * A table is right where a goal has the denominator, a state with no path to a goal has 0, and at each
+ * other state its denominator in the chain times its numerator is the sum of weight times numerator of
+ * the targets of its edges. Where it is not, the state is the first that breaks this.
+ *
+ * The file is tested first, then the table's length, then the chain, then the table's denominator, then
+ * its numerators; the order is not looked at. The place is a block, a state or the index of an edge,
+ * each from 0, or else 0. Its tables are its own, as those of egorstream_chance are: the same stack is
+ * enough.
+ */
+struct egorstream_checked egorstream_check(const uint8_t *file, size_t file_length,
+                                           const uint8_t *table, size_t table_length);
 
 /* What egorstream_write answers: 0, 0 and the file's length; or a refusal's number and place, and 0. */
 struct egorstream_written {

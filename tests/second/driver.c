@@ -2,7 +2,7 @@
  * Calls the C entries on requests that come on standard input, one after the other, so that a program on any machine can try them.
  *
  * A request begins with a 4-byte number in the machine's order: 0 for the chance, 1 for the writer, 2 for the step list, 3 for an order, 4 for
- * the chance within so many steps.
+ * the chance within so many steps, 5 for the check of a table.
  *
  * The chance: five such numbers (mode, file length, memory length, where the answer begins in the memory, answer length), then the file,
  * then the memory. The reply: two such numbers (what the entry returned, whether the file is unchanged), then the memory as the entry left
@@ -21,6 +21,9 @@
  *
  * The chance within so many steps: three such numbers (file length, the steps' lower half and their upper), then the file. The reply: four such
  * numbers (number, place, parts, whether the file is unchanged).
+ *
+ * The check of a table: two such numbers (file length, table length), then the file, then the table. The reply: five such numbers (number, place,
+ * whether it is right, the state, whether the file is unchanged), then the table.
  *
  * A file, a table, a list or a buffer that is empty is handed over as a null pointer. The file, the tables and the memory end where a page begins that nobody may touch: who
  * reads or writes past them is stopped.
@@ -63,6 +66,9 @@ IS(BLOCK_NUMBER_WRONG, 22);
 IS(BLOCK_KIND_WRONG, 23);
 IS(BLOCK_CONTENT_WRONG, 24);
 IS(STEPS_WRONG, 32);
+IS(TABLE_DENOMINATOR_WRONG, 33);
+IS(TABLE_NUMERATOR_WRONG, 34);
+IS(MOST_TABLE_LENGTH, 4 * 65);
 IS(MOST_STEPS, 1000);
 IS(PARTS, 1073741824);
 #undef IS
@@ -234,6 +240,17 @@ static void reach(void)
     tell_lent(reply, 4, &lent);
 }
 
+static void check_table(void)
+{
+    uint32_t request[2];
+    take(request, sizeof request);
+    struct lent lent = lend(request[0], request[1]);
+    const uint8_t *table = lent.memory_length == 0 ? NULL : lent.memory;
+    struct egorstream_checked checked = egorstream_check(file_of(&lent), lent.file_length, table, lent.memory_length);
+    uint32_t reply[5] = {checked.number, checked.place, checked.right, checked.state, unchanged(&lent)};
+    tell_lent(reply, 5, &lent);
+}
+
 int main(void)
 {
     uint32_t kind;
@@ -246,8 +263,10 @@ int main(void)
             list_steps();
         } else if (kind == 3) {
             choose_order();
-        } else {
+        } else if (kind == 4) {
             reach();
+        } else {
+            check_table();
         }
     }
     return 0;

@@ -2,10 +2,11 @@
 ghost use mathlib.Core.Path.{_≡_};
 ghost use Prim.Native.Nat.{_+_, _^_, _≤_, _<_};
 ghost use lib.ListN.{getD};
-ghost use Rattle.meaning.specs.Block.{numberAt};
+ghost use Rattle.meaning.specs.Block.{numberAt, fourByteNumber};
 ghost use Rattle.meaning.specs.File.{NonZero};
 ghost use Rattle.meaning.specs.Number.{decides};
 ghost use Rattle.chainfile.specs.Input.{input, end};
+use crate::layout;
 
 fn wide(x: u8) -> u64
     ensures { λ r. ⌜ (r ≡ x) × (r < 256) ⌝ }
@@ -36,6 +37,17 @@ pub(crate) fn number(kept: &[u8], at: usize, width: usize) -> u64
         i += 1;
     }
     number
+}
+
+// Number i of a row of numbers of 4 bytes.
+pub fn four_byte_number(bytes: &[u8], i: usize) -> u64
+    ensures { λ r. ⌜ r ≡ fourByteNumber (now (bytes .entry)) i ⌝ }
+{
+    if bytes.len() / layout::QUAD < i {
+        return 0;
+    }
+    let at = layout::QUAD * i;
+    number(&bytes[at..], 0, layout::QUAD)
 }
 
 // A byte from `low` on and before `high` is not 0.

@@ -4,3 +4,4 @@ pub mod Writes
 pub mod Stepping
 pub mod Ordering
 pub mod Reaching
+pub mod Checking

@@ -2,3 +2,4 @@ pub mod Told
 pub mod Steps
 pub mod Order
 pub mod Reach
+pub mod Check

@@ -1,5 +1,6 @@
 // The calls from C.
 mod call;
+mod check;
 mod order;
 mod reply;
 mod steps;
@@ -10,6 +11,8 @@ pub use call::MODE_BOUNDS;
 pub use call::MODE_DEFAULT;
 pub use call::MODE_EXACT;
 pub use call::egorstream_chance;
+pub use check::Checked;
+pub use check::egorstream_check;
 pub use order::Ordered;
 pub use order::egorstream_order;
 pub use reply::ANSWER_LENGTH;

@@ -1,3 +1,4 @@
 pub mod Made
+pub mod Judging
 pub mod Rounds
 pub mod Unique

@@ -1,3 +1,4 @@
 pub mod Carry
 pub mod Divide
+pub mod Judge
 pub mod Told

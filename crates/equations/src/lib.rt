@@ -1,11 +1,16 @@
-// The equations of a chain, taken as they stand: what its edges carry, and the chance within so many steps.
+// The equations of a chain, taken as they stand: what its edges carry, the chance within so many steps, and whether a table is the chance at
+// every state.
 ghost use mathlib.Core.List.{[]};
+ghost use Rattle.meaning.specs.Judge.{JudgeOutcome};
 ghost use Rattle.chain.specs.Lent.{lent};
+ghost use Rattle.equations.specs.Judge.{told};
 ghost use Rattle.equations.specs.Told.{Withins};
 use chain::Chain;
 use look::Finding;
+use survey::Survey;
 
 mod flow;
+mod judge;
 mod round;
 
 pub use round::PARTS;
@@ -33,4 +38,39 @@ pub fn within(c: Chain, denominators: &[u64], edges: &[u64], steps: u64) -> Part
         return Parts::Refused { number, place };
     }
     Parts::Held(round::rounds(c, denominators, edges, steps))
+}
+
+// What is said of a table: yes; no, with a state; or a refusal. told gives document 01's numbers for each case.
+pub enum Verdict {
+    Yes,
+    No(usize),
+    Refused { number: u32, place: usize },
+}
+
+// Whether a table is the chance at every state: one denominator, and a numerator for each state.
+pub fn check(
+    c: Chain,
+    denominators: &[u64],
+    edges: &[u64],
+    denominator: u64,
+    numerators: &[u64],
+) -> Verdict
+    ensures { λ r.
+        let l = lent c (now (denominators .entry)) (now (edges .entry)) [] [] [] in
+        ⌜ JudgeOutcome l denominator (now (numerators .entry)) (told r) ⌝ }
+{
+    if numerators.len() != c.states {
+        return Verdict::Refused {
+            number: 1,
+            place: 0,
+        };
+    }
+    match survey::of(c, denominators, edges) {
+        Survey::Refused { number, place } => Verdict::Refused { number, place },
+        Survey::Found {
+            sets,
+            goals: _,
+            live: _,
+        } => judge::table(c, sets.good, denominators, edges, denominator, numerators),
+    }
 }

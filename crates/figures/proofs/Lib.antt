@@ -4,3 +4,4 @@ pub mod Numbered
 pub mod Unique
 pub mod Traces
 pub mod Rounds
+pub mod Judged

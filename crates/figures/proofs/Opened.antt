@@ -41,6 +41,7 @@ at f t after {m} {n} h e =
 
 -- The tables hold the chain at their front.
 pub record Opened (f : Input) (c : Frame) (count : ℕ) (t : Tables) : Type 0 where
+  pub few-states : c .states ≤ mostStates
   pub few-edges : count ≤ mostEdges
   pub denominators : c .states ≤ length (t .denominators)
   pub edges : edgeSize * count ≤ length (t .edges)
@@ -84,6 +85,7 @@ module _ {f : Input} {t after : Tables} (room : Short t → ⊥) where
       let fo = at (orderIn f) _ _ sn do′ in
       let fr = at (rewardIn f) _ _ sn dr in
       record {
+        few-states = omega arith;
         few-edges = omega arith;
         denominators = fd .0;
         edges = fe .0;

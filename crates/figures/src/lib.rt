@@ -1,5 +1,7 @@
-// The figures of the chain in a file, its step list, and its chance within so many steps.
+// The figures of the chain in a file, its step list, its chance within so many steps, and what is said of a table that is sent for it.
+ghost use Rattle.meaning.specs.Judge.{FileJudged};
 ghost use Rattle.chainfile.specs.Input.{input};
+ghost use Rattle.equations.specs.Judge.{told};
 ghost use Rattle.figures.specs.Found.{FiguresOutcome};
 ghost use Rattle.figures.specs.Traced.{FileTraced};
 ghost use Rattle.figures.specs.Within.{FileWithins};
@@ -8,9 +10,11 @@ use chain::edge;
 use chainfile::Reading;
 use engines::answer::Trace;
 use equations::Parts;
+use equations::Verdict;
 
 mod answer;
 mod found;
+mod shares;
 
 pub use answer::Answer;
 pub use answer::Counts;
@@ -117,6 +121,34 @@ pub fn within(kept: &[u8], more: u64, steps: u64) -> Parts
             let n = chain.states;
             let e = edge::SIZE * count;
             equations::within(chain, &denominators[..n], &edges[..e], steps)
+        }
+    }
+}
+
+// Opens the file in the same way, and says whether a table in bytes is the chance at every state of its chain.
+pub fn check(kept: &[u8], more: u64, shares: &[u8]) -> Verdict
+    ensures { λ r. ⌜ FileJudged (input (now (kept .entry)) more) (now (shares .entry)) (told r) ⌝ }
+{
+    let mut denominators = [0u64; Chain::STATES];
+    let mut edges = [0u64; edge::MOST];
+    let mut order = [0u64; Chain::STATES];
+    let mut rewards = [0u64; Chain::STATES];
+    match chainfile::read(
+        kept,
+        more,
+        &mut denominators,
+        &mut edges,
+        &mut order,
+        &mut rewards,
+    ) {
+        Reading::Refused { number, place } => Verdict::Refused { number, place },
+        Reading::Chain {
+            chain,
+            edges: count,
+        } => {
+            let n = chain.states;
+            let e = edge::SIZE * count;
+            shares::judged(chain, &denominators[..n], &edges[..e], shares)
         }
     }
 }

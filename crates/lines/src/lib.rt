@@ -1,12 +1,16 @@
 // The texts of one line that programs print of a chain file, at the front of a lent buffer.
 ghost use Prim.Native.Nat.{_≤_};
 ghost use lib.ListN.{length};
+ghost use Rattle.meaning.specs.Text.{bytesOf, decimal};
+ghost use Rattle.meaning.specs.Report.{lineText, answerRoom};
 ghost use Rattle.meaning.specs.Within.{withinText, withinRoom, WithinReportOutcome};
+ghost use Rattle.meaning.specs.Judge.{JudgeReportOutcome};
 ghost use Rattle.chainfile.specs.Input.{input};
 ghost use Rattle.chainfile.specs.Written.{Written};
 ghost use Rattle.report.specs.Stands.{told};
 use equations::PARTS;
 use equations::Parts;
+use equations::Verdict;
 use report::Printed;
 use report::pieces::DIGITS;
 use report::pieces::named;
@@ -38,5 +42,35 @@ pub fn within(kept: &[u8], more: u64, steps: u64, buffer: &mut [u8]) -> Printed
     match figures::within(kept, more, steps) {
         Parts::Held(parts) => Printed::Length(parts_line(buffer, steps, parts)),
         Parts::Refused { number, place } => report::answer(number, place, 0, 0, buffer),
+    }
+}
+
+// Room for any line of a verdict: a refusal's is the longest.
+pub const CHECK_ROOM: usize = report::ANSWER_ROOM;
+
+fn no_line(buffer: &mut [u8], state: u64) -> usize
+    requires { ⌜ answerRoom ≤ length (now buffer) ⌝ }
+    ensures { λ r. ⌜ Written (now (buffer .entry)) 0 (lineText (bytesOf "no at ") (decimal state)) (now (buffer .exit)) r ⌝ }
+{
+    let end = named(buffer, 0, b"no at ", state);
+    put(buffer, end, b"\n")
+}
+
+// The line of the verdict on a table in bytes, for the chain file of which `kept` holds the first bytes and `more` counts the others.
+pub fn check(kept: &[u8], more: u64, shares: &[u8], buffer: &mut [u8]) -> Printed
+    ensures { λ r.
+        let f = input (now (kept .entry)) more in
+        ⌜ JudgeReportOutcome f (now (shares .entry)) (now (buffer .entry)) (told r) (now (buffer .exit)) ⌝ }
+{
+    if buffer.len() < CHECK_ROOM {
+        return Printed::Refused {
+            number: 2,
+            place: 0,
+        };
+    }
+    match figures::check(kept, more, shares) {
+        Verdict::Yes => Printed::Length(put(buffer, 0, b"yes\n")),
+        Verdict::No(state) => Printed::Length(no_line(buffer, state as u64)),
+        Verdict::Refused { number, place } => report::answer(number, place, 0, 0, buffer),
     }
 }

@@ -15,7 +15,7 @@ pub enum Place {
 }
 
 // Neither a denominator nor a weight.
-fn out_of_range(x: u64) -> bool
+pub fn out_of_range(x: u64) -> bool
     ensures { λ r. ⌜ decides (OutOfRange x) r ⌝ }
 {
     if x == 0 {

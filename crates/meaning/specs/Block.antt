@@ -24,6 +24,10 @@ byte f j = getD (f .kept) j 0
 abbrev pub numberAt : Input → ℕ → ℕ → ℕ
 numberAt f j width = sumTo (λ i. byte f (j + i) * 256 ^ i) width
 
+-- Number i of a row of little-endian numbers of 4 bytes, counted from 0.
+abbrev pub fourByteNumber : List ℕ → ℕ → ℕ
+fourByteNumber bytes i = numberAt (wholeFile bytes) (4 * i) 4
+
 -- A block: kind, version, block number, records in this block, up to 63 records of 8 bytes, the rest zero, the check.
 abbrev pub blockSize : ℕ
 blockSize = 512

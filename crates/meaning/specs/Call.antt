@@ -6,7 +6,7 @@ use mathlib.Core.List.{List, _++_}
 use lib.ListN.{length}
 use Rattle.meaning.specs.Number.{tabFrom, filled}
 use Rattle.meaning.specs.Outcome.{Answer, ChanceOutcome, Bounds, between, BoundsOutcome}
-use Rattle.meaning.specs.Block.{Input, wholeFile, numberAt}
+use Rattle.meaning.specs.Block.{Input, wholeFile, fourByteNumber}
 use Rattle.meaning.specs.File.{FileRefused, Accepted, plainIn}
 
 -- Modes: 0 is the default, 1 exact, 2 bounds.
@@ -40,7 +40,7 @@ answerBytes p q s t = fourBytes p ++ fourBytes q ++ fourBytes s ++ fourBytes t
 
 -- Number i of an answer, counted from 0, as it is read back: as a number of 4 bytes is read in a file.
 abbrev pub answerNumber : List ℕ → ℕ → ℕ
-answerNumber answer i = numberAt (wholeFile answer) (4 * i) 4
+answerNumber answer i = fourByteNumber answer i
 
 -- The two fractions of an answer, as they are read back.
 abbrev pub answerRead : List ℕ → Bounds

@@ -49,3 +49,5 @@ pub mod Reorder
 pub mod Line
 -- The chance within so many retries.
 pub mod Within
+-- Checking a colleague's solver.
+pub mod Judge

@@ -17,3 +17,5 @@ pub mod Files
 pub mod Plans
 -- Within so many retries: the rounded rounds beside the true ones, the true ones beside the chance, and that the answer is one.
 pub mod Rounds
+-- Checking a colleague's solver: a table is the chance at every state exactly where no state is broken, and the verdict is one.
+pub mod Judging

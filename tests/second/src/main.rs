@@ -1,8 +1,8 @@
 //! A second implementation of documents 01 and 02, compared with the product.
 //!
 //! It makes chains and damaged requests from fixed seeds, calls the C entries of the product's static
-//! library on all of them and its programs `nightchance`, `nightsteps`, `reorder` and `nightwithin` on a
-//! part, runs its program `plancopies` on plans, and compares every answer with its own. Its last line is
+//! library on all of them and its programs `nightchance`, `nightsteps`, `reorder`, `nightwithin` and
+//! `checkshares` on a part, runs its program `plancopies` on plans, and compares every answer with its own. Its last line is
 //! `second: N passed, 0 failed`, where N counts comparisons.
 //!
 //! `cargo run --release` compares, with the word `sample` on a small part of it; `cargo test` tries
@@ -11,8 +11,10 @@
 
 mod block;
 mod chain;
+mod check;
 mod choice;
 mod compare;
+mod compare_check;
 mod compare_choice;
 mod compare_steps;
 mod compare_within;
@@ -60,8 +62,14 @@ fn main() -> ExitCode {
             return ExitCode::FAILURE;
         }
     };
-    let programs =
-        [product::NIGHTCHANCE, product::NIGHTSTEPS, product::REORDER, product::NIGHTWITHIN, product::PLANCOPIES];
+    let programs = [
+        product::NIGHTCHANCE,
+        product::NIGHTSTEPS,
+        product::REORDER,
+        product::NIGHTWITHIN,
+        product::CHECKSHARES,
+        product::PLANCOPIES,
+    ];
     for program in programs.map(product::program).into_iter().chain([product::driver()]) {
         if !program.is_file() {
             eprintln!("The program {} is missing.", program.display());

@@ -3,10 +3,13 @@
 
 use crate::tables::Tables;
 use std::cell::RefCell;
+use std::env;
+use std::fs;
 use std::io::{self, Read, Write};
 use std::mem;
 use std::path::{Path, PathBuf};
-use std::process::{Child, ChildStdin, ChildStdout, Command, Stdio};
+use std::process::{self, Child, ChildStdin, ChildStdout, Command, Stdio};
+use std::sync::atomic::{AtomicU64, Ordering};
 use std::sync::LazyLock;
 
 /// A path below the repository's root.
@@ -25,6 +28,8 @@ pub const NIGHTSTEPS: &str = "nightsteps";
 pub const REORDER: &str = "reorder";
 /// The program that is given a number of steps too.
 pub const NIGHTWITHIN: &str = "nightwithin";
+/// The program that is given a table in its working folder too.
+pub const CHECKSHARES: &str = "checkshares";
 /// The program that is given a plan.
 pub const PLANCOPIES: &str = "plancopies";
 
@@ -45,10 +50,11 @@ static WAY: LazyLock<Vec<String>> = LazyLock::new(|| {
 });
 
 fn start(program: &Path, words: &[String]) -> Child {
-    start_with(program, words, Stdio::inherit())
+    start_in(Path::new("."), program, words, Stdio::inherit())
 }
 
-fn start_with(program: &Path, words: &[String], complaints: Stdio) -> Child {
+/// The same in a working folder, and with a place for what it complains of.
+fn start_in(folder: &Path, program: &Path, words: &[String], complaints: Stdio) -> Child {
     let mut command = match WAY.split_first() {
         None => Command::new(program),
         Some((runner, words)) => {
@@ -57,7 +63,7 @@ fn start_with(program: &Path, words: &[String], complaints: Stdio) -> Child {
             command
         }
     };
-    command.args(words);
+    command.args(words).current_dir(folder);
     command.stdin(Stdio::piped()).stdout(Stdio::piped()).stderr(complaints);
     command.spawn().unwrap_or_else(|error| panic!("{command:?} does not start: {error}"))
 }
@@ -141,6 +147,15 @@ impl Driver {
         let numbers = [4, file.len(), steps as u32 as usize, (steps >> 32) as usize];
         let [number, place, parts, unchanged] = self.ask(&numbers, file, &mut [])?;
         Ok(Reached { number, place, parts, file_unchanged: unchanged == 1 })
+    }
+
+    /// The table is memory that the entry may only read: it comes back for a look at it.
+    fn check(&mut self, file: &[u8], shares: &[u8]) -> io::Result<Checked> {
+        let mut memory = shares.to_vec();
+        let numbers = [5, file.len(), memory.len()];
+        let [number, place, right, state, unchanged] = self.ask(&numbers, file, &mut memory)?;
+        let changed = unchanged != 1 || memory != shares;
+        Ok(Checked { number, place, right, state, changed })
     }
 
     /// How a driver ended on which a call failed with this error.
@@ -249,7 +264,7 @@ pub fn order(listing: &Listing, memory: &mut [u8]) -> io::Result<Ordered> {
 
 /// What `reorder` writes to standard output and to standard error for this file.
 pub fn reordered(file: &[u8]) -> io::Result<(Vec<u8>, Vec<u8>)> {
-    let mut child = start_with(&program(REORDER), &[], Stdio::piped());
+    let mut child = start_in(Path::new("."), &program(REORDER), &[], Stdio::piped());
     let _ = child.stdin.take().expect("it is piped").write_all(file);
     let output = child.wait_with_output()?;
     Ok((output.stdout, output.stderr))
@@ -268,6 +283,35 @@ pub fn within(file: &[u8], steps: u64) -> io::Result<Reached> {
     asked(|driver| driver.within(file, steps))
 }
 
+#[derive(Debug, Default, PartialEq, Eq)]
+pub struct Checked {
+    pub number: u32,
+    pub place: u32,
+    pub right: u32,
+    pub state: u32,
+    /// Whether the file or the table is not as it was.
+    pub changed: bool,
+}
+
+/// What the entry of the check of a table returns.
+pub fn check(file: &[u8], shares: &[u8]) -> io::Result<Checked> {
+    asked(|driver| driver.check(file, shares))
+}
+
+/// What `checkshares` prints for this file, in a working folder of its own with this table or none.
+pub fn checked(file: &[u8], shares: Option<&[u8]>) -> io::Result<Vec<u8>> {
+    static FOLDERS: AtomicU64 = AtomicU64::new(0);
+    let place = FOLDERS.fetch_add(1, Ordering::Relaxed);
+    let folder = env::temp_dir().join(format!("second-{}-{place}", process::id()));
+    fs::create_dir(&folder)?;
+    if let Some(shares) = shares {
+        fs::write(folder.join("shares"), shares)?;
+    }
+    let printed = printed_by(start_in(&folder, &program(CHECKSHARES), &[], Stdio::inherit()), file);
+    fs::remove_dir_all(&folder)?;
+    printed
+}
+
 /// What a program prints for this file on its standard input.
 pub fn printed(name: &str, file: &[u8]) -> io::Result<Vec<u8>> {
     printed_with(name, &[], file)
@@ -275,7 +319,11 @@ pub fn printed(name: &str, file: &[u8]) -> io::Result<Vec<u8>> {
 
 /// The same of a program that is given words.
 pub fn printed_with(name: &str, words: &[String], file: &[u8]) -> io::Result<Vec<u8>> {
-    let mut child = start(&program(name), words);
+    printed_by(start(&program(name), words), file)
+}
+
+/// What a program that was started prints for this file on its standard input.
+fn printed_by(mut child: Child, file: &[u8]) -> io::Result<Vec<u8>> {
     // A program that stops reading early shows in its report; that the pipe broke is no more news.
     let _ = child.stdin.take().expect("it is piped").write_all(file);
     all_of(child)

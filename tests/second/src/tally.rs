@@ -20,13 +20,15 @@ pub enum Asked {
     Planner,
     Within,
     WithinText,
+    Check,
+    CheckText,
 }
 
 /// The columns of the table.
-const ASKED: usize = 9;
+const ASKED: usize = 11;
 
 /// What a call of the step list's entry, of the one that chooses an order, of the one within so many
-/// steps, `nightsteps` or `reorder` met; each is a line after the table.
+/// steps, of the check of a table, `nightsteps` or `reorder` met; each is a line after the table.
 #[derive(Clone, Copy)]
 pub enum Met {
     Through,
@@ -49,10 +51,15 @@ pub enum Met {
     Wide,
     Between,
     Near,
+    Right,
+    GoalValue,
+    Zero,
+    Equation,
+    Unreached,
 }
 
 /// Each kind in words, and how often a run meets it at least.
-const MET: [(&str, u64); 20] = [
+const MET: [(&str, u64); 25] = [
     ("step lists of answers", 5_000),
     ("step lists of answers with no step", 300),
     ("step lists that end in 12 after some steps", 2_000),
@@ -73,6 +80,11 @@ const MET: [(&str, u64); 20] = [
     ("answers whose edges span more", 1_000),
     ("chances within so many steps between none and all", 2_000),
     ("chances within one step or more beside the true ones", 2_000),
+    ("tables of more than one state that are right", 1_000),
+    ("tables whose first fault is a goal's value", 300),
+    ("tables whose first fault is a zero", 300),
+    ("tables whose first fault is an equation", 1_000),
+    ("tables whose first fault is that of a state that the start does not reach", 100),
 ];
 
 /// The numbers that a file's bytes, a mode and an answer's length can give; 0 is an answer. 11 needs
@@ -86,6 +98,8 @@ const NOT_LISTED: [u32; 1] = [1];
 const WRITTEN: RangeInclusive<u32> = 0..=11;
 /// Those that a file's bytes and a number of steps can give: the order is not looked at.
 const WITHIN: [RangeInclusive<u32>; 4] = [0..=0, 3..=9, 20..=24, 32..=32];
+/// Those that a file's bytes and a table's can give.
+const CHECKED: [RangeInclusive<u32>; 5] = [0..=0, 2..=9, 20..=24, 33..=33, 34..=34];
 /// Those that the planner can give.
 const PLANNED: [u32; 4] = [0, 12, 30, 31];
 /// How many different chains a run has at least, and how many that fit in different orders.
@@ -199,6 +213,12 @@ impl Tally {
             self.cover(calls > 0, || format!("no call within so many steps expects {number}"));
             self.cover(texts > 0, || format!("no text of nightwithin expects {number}"));
         }
+        for number in CHECKED.into_iter().flatten() {
+            let [calls, texts] =
+                [Asked::Check, Asked::CheckText].map(|asked| self.expected(asked, number));
+            self.cover(calls > 0, || format!("no check of a table expects {number}"));
+            self.cover(texts > 0, || format!("no text of checkshares expects {number}"));
+        }
         for number in PLANNED {
             let plans = self.expected(Asked::Planner, number);
             self.cover(plans > 0, || format!("no plan expects {number}"));
@@ -245,12 +265,13 @@ impl Tally {
         for failure in &self.told {
             println!("{failure}");
         }
-        println!("number   entry on chains   entry on damage   reports   writer   steps   printed   plans   within   printed");
+        println!("number   entry on chains   entry on damage   reports   writer   steps   printed   plans   within   printed   check   printed");
         for (number, row) in &self.numbers {
-            let [chains, damage, reports, writes, lists, texts, plans, within, lines] = row;
+            let [chains, damage, reports, writes, lists, texts, plans, within, lines, checks, words] =
+                row;
             println!(
                 "{number:6}   {chains:15}   {damage:15}   {reports:7}   {writes:6}   \
-                 {lists:5}   {texts:7}   {plans:5}   {within:6}   {lines:7}"
+                 {lists:5}   {texts:7}   {plans:5}   {within:6}   {lines:7}   {checks:5}   {words:7}"
             );
         }
         let [fractions, infinite, refused] = self.rewards;

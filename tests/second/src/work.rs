@@ -3,6 +3,7 @@
 use crate::block;
 use crate::chain::{Chain, MOST_STATES};
 use crate::compare;
+use crate::compare_check;
 use crate::compare_choice;
 use crate::compare_steps;
 use crate::compare_within;
@@ -100,6 +101,7 @@ fn known_answers(tally: &mut Tally) {
             compare::report_lines(tally, case, &file, worked.lines);
             compare_lists(tally, case, &file, worked.chain.states());
             compare_steps_within(tally, case, &file);
+            compare_check::tables(tally, case, &worked.chain, &file);
         }
     }
     for (place, (family, chain, text)) in worked_steps::all().into_iter().enumerate() {
@@ -115,6 +117,12 @@ fn known_answers(tally: &mut Tally) {
         compare::report_lines(tally, case, file, lines);
         compare_steps::text(tally, case, file, text);
         compare_steps_within(tally, case, file);
+        compare_check::tables(
+            tally,
+            case,
+            &file::read(file).expect("an example is a chain file"),
+            file,
+        );
     }
     for (line, printed) in plan::KNOWN {
         let case = Case { family: "known plans", seed: 0 };
@@ -155,6 +163,8 @@ fn far_too_long(tally: &mut Tally) {
     compare_steps::entry(tally, case, &file, MOST_STATES);
     compare_within::entry(tally, case, &file, 3);
     compare_within::program(tally, case, &["3".to_string()], &file);
+    compare_check::entry(tally, case, &file, &[]);
+    compare_check::program(tally, case, &file, None);
     let request = Request { file, mode: EXACT, answer_length: ANSWER };
     compare::entry(tally, case, &request, Asked::EntryOnDamage);
 }
@@ -195,11 +205,14 @@ fn one_chain(tally: &mut Tally, seed: u64, place: u64, with_report: bool) {
     compare_steps::entry(tally, case, &file, list_length(&mut random, chain.states()));
     compare_choice::entry(tally, case, &file, order_length(&mut random, chain.states()));
     compare_within::entry(tally, case, &file, compare_within::steps(&mut random));
+    let table = compare_check::table(&mut random, &chain);
+    compare_check::entry(tally, case, &file, &table);
     if with_report {
         compare::report(tally, case, &file);
         compare_steps::program(tally, case, &file);
         compare_choice::program(tally, case, &file);
         compare_within::program(tally, case, &words(&mut random), &file);
+        compare_check::program(tally, case, &file, Some(&table));
     }
 }
 
@@ -243,11 +256,14 @@ fn one_damage(tally: &mut Tally, seed: u64, place: u64, with_report: bool) {
     let own = request.file.get(block::FIRST_RECORD).map_or(0, |&n| usize::from(n));
     compare_choice::entry(tally, case, &request.file, random.pick(&[own, own, any]));
     compare_within::entry(tally, case, &request.file, compare_within::steps(&mut random));
+    let table = compare_check::any_table(&mut random, &request.file);
+    compare_check::entry(tally, case, &request.file, &table);
     if with_report || damage.0 == RECORDS_WRONG {
         compare::report(tally, case, &request.file);
         compare_steps::program(tally, case, &request.file);
         compare_choice::program(tally, case, &request.file);
         compare_within::program(tally, case, &words(&mut random), &request.file);
+        compare_check::program(tally, case, &request.file, Some(&table));
     }
 }
 
