@@ -42,3 +42,7 @@ pub mod Cases
 pub mod Demand
 -- The requests that came after: planning copies.
 pub mod Copies
+-- Saving what is left of a damaged file: the chain whose rows may fall short.
+pub mod Left
+-- Saving what is left of a damaged file: lost blocks, the salvaging reader, the text.
+pub mod Salvage
