@@ -13,6 +13,7 @@ pub mod Before
 pub mod FileOne
 pub mod Alike
 pub mod Written
+pub mod Completed
 pub mod ReportOne
 pub mod StepsOne
 pub mod CallOne
