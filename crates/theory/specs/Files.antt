@@ -14,8 +14,10 @@ pub mod FileOne
 pub mod Alike
 pub mod Written
 pub mod Completed
+pub mod Opened
 pub mod ReportOne
 pub mod StepsOne
+pub mod SalvageOne
 pub mod CallOne
 pub mod CallRead
 pub mod CallBounds

@@ -14,6 +14,7 @@ pub mod Entries
 pub mod DemandTwo
 pub mod DemandThree
 pub mod LeftHolds
+pub mod LeftOne
 pub mod Small
 pub mod Steps
 pub mod StepsComputed

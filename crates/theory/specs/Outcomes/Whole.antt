@@ -89,7 +89,7 @@ module _ (c : Chain) (k : Sets) (o : List ℕ) (ready : Prepared c k o) (pay : �
         upper-bound = chance-most c k o ready rounding pay (λ _. unpaid) alive d x share
 
 -- Where the start is a goal, or has no path to one.
-one-lowest : (p : ℕ) → Lowest p 1
+pub one-lowest : (p : ℕ) → Lowest p 1
 one-lowest p =
     record {
       whole = omega arith;
