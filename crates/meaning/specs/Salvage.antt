@@ -27,6 +27,8 @@ use Rattle.meaning.specs.File.{
   plainIn,
   Tables,
   Short,
+  Reading,
+  noReading,
 }
 use Rattle.meaning.specs.Buffer.{Writing}
 use Rattle.meaning.specs.Text.{bytesOf, decimal}
@@ -106,28 +108,14 @@ leftTables f v t =
       rewards = filled (rewardsIn f) (t .rewards);
     }
 
--- What the salvaging reader answers: a number and its block; or the head's numbers and the goals, how many edges are kept, and for each block the
--- number by which it is lost, 0 where it is kept.
+-- What the salvaging reader answers: as the reader does, a number and its block, or the head's numbers and the goals, but with the number of edges
+-- that are kept; and for each block the number by which it is lost, 0 where it is kept.
 pub record Salvage : Type 0 where
-  pub number : ℕ
-  pub place : ℕ
-  pub states : ℕ
-  pub start : ℕ
-  pub goals : ℕ
-  pub edges : ℕ
+  pub reading : Reading
   pub lost : List ℕ
 
 abbrev pub noSalvage : ℕ → ℕ → Salvage
-noSalvage number place =
-    record {
-      number = number;
-      place = place;
-      states = 0;
-      start = 0;
-      goals = 0;
-      edges = 0;
-      lost = replicate mostBlocks 0;
-    }
+noSalvage number place = record { reading = noReading number place; lost = replicate mostBlocks 0 }
 
 -- The verdict on block b in a list of them.
 abbrev pub verdict : List ℕ → ℕ → ℕ
@@ -136,12 +124,15 @@ verdict lost b = getD lost b 0
 abbrev pub salvage : Input → List ℕ → Salvage
 salvage f lost =
     record {
-      number = 0;
-      place = 0;
-      states = headStates f;
-      start = headStart f;
-      goals = goalsIn f;
-      edges = keptBefore f (verdict lost) (headEdges f);
+      reading =
+          record {
+            number = 0;
+            place = 0;
+            states = headStates f;
+            start = headStart f;
+            goals = goalsIn f;
+            edges = keptBefore f (verdict lost) (headEdges f);
+          };
       lost = lost;
     }
 

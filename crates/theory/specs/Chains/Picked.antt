@@ -1,5 +1,5 @@
 -- Edges picked from a row of them by a test: how many they are, at which place each stands, and what flows along them.
-use Prim.Native.Nat.{ℕ, zero, suc, _+_, _*_, _<_}
+use Prim.Native.Nat.{ℕ, zero, suc, _+_, _*_, _≤_, _<_}
 use mathlib.Core.Path.{_≡_, refl, sym, ap, _∙_}
 use mathlib.Core.Bool.{Bool, true, false}
 use mathlib.Core.List.{List, [], _++_, append-nil}
@@ -29,6 +29,15 @@ join-cases test f n P picked left = go (test n) refl
 -- Numbers that are picked are counted on.
 pub picked-rises : (test : ℕ → Bool) (d e : ℕ) → d < e → test d ≡ true → pickedTo test d < pickedTo test e
 picked-rises test d e h t = let u = sum-up (λ d. only (test d) 1) d e h in omega (arith, rw t at u)
+
+pub picked-small : (test : ℕ → Bool) (e : ℕ) → pickedTo test e ≤ e
+unfolding sumTo
+picked-small test zero = omega arith
+picked-small test (suc e) = go (picked-small test e) (test e)
+  where
+    go : pickedTo test e ≤ e → (b : Bool) → pickedTo test e + only b 1 ≤ suc e
+    go h true = omega arith
+    go h false = omega arith
 
 -- Each place among the picked is that of one of them.
 abbrev pub PickedAt : (ℕ → Bool) → ℕ → ℕ → Type 0
