@@ -8,8 +8,8 @@ use native.Mathlib.Nat.{mul-le-mul-left, mul-comm}
 use lib.Dec.{eqb}
 use borrow.Author.Tests.{eq-eqb, eqb-true}
 use Rattle.meaning.specs.Number.{sumTo, only}
-use Rattle.meaning.specs.Chain.{edgeCount, from, to, weight, carried, flow}
-use Rattle.theory.specs.Numbers.Sum.{sum-ext, sum-add, sum-zero, sum-scale, sum-swap, sum-one, sum-term, sum-tight, sum-le}
+use Rattle.meaning.specs.Chain.{edgeCount, from, to, weight, carried, flow, rowSum}
+use Rattle.theory.specs.Numbers.Sum.{sum-ext, sum-le, sum-add, sum-zero, sum-scale, sum-swap, sum-one, sum-term, sum-tight}
 
 only-add : (b : Bool) (w x y : ℕ) → only b (w * (x + y)) ≡ only b (w * x) + only b (w * y)
 only-add true w x y = omega arith
@@ -23,9 +23,9 @@ only-one : (b : Bool) (x : ℕ) → x * only b 1 ≡ only b x
 only-one true x = omega arith
 only-one false x = omega arith
 
-only-below : (b : Bool) (w x y : ℕ) → (b ≡ true → x ≤ y) → only b (w * x) ≤ only b (w * y)
-only-below true w x y h = mul-le-mul-left w (h refl)
-only-below false w x y h = omega arith
+only-le : (b : Bool) (w x y : ℕ) → x ≤ y → only b (w * x) ≤ only b (w * y)
+only-le true w x y h = mul-le-mul-left w h
+only-le false w x y h = omega arith
 
 module _ (edges : List ℕ) (i : ℕ) where
   -- Only the targets of i's edges count.
@@ -36,12 +36,6 @@ module _ (edges : List ℕ) (i : ℕ) where
       go : (e : ℕ) → e < edgeCount edges → (b : Bool) → eqb (from edges e) i ≡ b → only b (weight edges e * f (to edges e)) ≡ only b (weight edges e * g (to edges e))
       go e l true q = ap (λ k. weight edges e * k) (h e l (eqb-true (from edges e) i q))
       go e l false q = refl
-
-  pub flow-le : (f g : ℕ → ℕ) → ((e : ℕ) → e < edgeCount edges → from edges e ≡ i → f (to edges e) ≤ g (to edges e)) → flow edges i f ≤ flow edges i g
-  unfolding flow carried
-  flow-le f g h =
-      sum-le _ _ (edgeCount edges)
-      (λ e l. only-below (eqb (from edges e) i) (weight edges e) _ _ (λ q. h e l (eqb-true (from edges e) i q)))
 
   pub flow-add : (f g : ℕ → ℕ) → flow edges i (λ t. f t + g t) ≡ flow edges i f + flow edges i g
   unfolding flow carried
@@ -95,7 +89,20 @@ module _ (edges : List ℕ) (i : ℕ) where
       (λ e. only (eqb (from edges e) i) (weight edges e * f (to edges e)))
       (λ e. only (eqb (from edges e) i) (weight edges e * m))
       (edgeCount edges)
-      (λ e k. only-below (eqb (from edges e) i) (weight edges e) (f (to edges e)) m (λ _. h e k))
+      (λ e k. only-le (eqb (from edges e) i) (weight edges e) (f (to edges e)) m (h e k))
       l
       e
       k)
+
+  -- Where each target is worth no more.
+  pub flow-le : (f g : ℕ → ℕ) → ((e : ℕ) → e < edgeCount edges → from edges e ≡ i → f (to edges e) ≤ g (to edges e)) → flow edges i f ≤ flow edges i g
+  unfolding flow carried
+  flow-le f g h = sum-le _ _ (edgeCount edges) (λ e l. go e l (eqb (from edges e) i) refl)
+    where
+      go : (e : ℕ) → e < edgeCount edges → (b : Bool) → eqb (from edges e) i ≡ b → only b (weight edges e * f (to edges e)) ≤ only b (weight edges e * g (to edges e))
+      go e l true q = mul-le-mul-left (weight edges e) (h e l (eqb-true (from edges e) i q))
+      go e l false q = omega arith
+
+  -- Where each target is worth at most m, all together are worth at most m times the row sum.
+  pub flow-most : (f : ℕ → ℕ) (m : ℕ) → ((e : ℕ) → e < edgeCount edges → from edges e ≡ i → f (to edges e) ≤ m) → flow edges i f ≤ m * rowSum edges i
+  flow-most f m h = omega (arith, flow-le f (λ _. m * 1) (λ e l q. omega (arith, h e l q)), flow-scale m (λ _. 1))
