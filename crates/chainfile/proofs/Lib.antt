@@ -5,6 +5,7 @@ pub mod Content
 pub mod Tested
 pub mod Filling
 pub mod Flags
+pub mod Saving
 pub mod Steps
 pub mod Storing
 pub mod Unique

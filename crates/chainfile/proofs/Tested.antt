@@ -1,25 +1,20 @@
 -- What the tests of a block tell together, and what a block that is right or wrong tells of the file.
-use Prim.Native.Nat.{ℕ}
+use Prim.Native.Nat.{ℕ, _+_, _≤_, _<_}
 use mathlib.Core.Path.{_≡_, sym, subst}
 use mathlib.Core.Logic.{⊎-elim}
 use native.Mathlib.Omega.{arith}
-use Rattle.meaning.specs.Block.{Input}
-use Rattle.meaning.specs.File.{
-  BlockRefused,
-  BlockRight,
-  LengthFault,
-  TotalFault,
-  FileRefused,
-  Accepted,
-}
-use Rattle.theory.specs.Numbers.Sum.{same, below}
+use mathlib.Core.List.{List}
+use Rattle.meaning.specs.Block.{Input, stateBlocks, demanded}
+use Rattle.meaning.specs.File.{BlockRefused, BlockRight, FileRefused}
+use Rattle.meaning.specs.Salvage.{FrontRefused, Opened, verdict}
+use Rattle.theory.specs.Numbers.Sum.{same}
 use Rattle.chainfile.specs.declared.block.Block.{Block}
 use Rattle.chainfile.specs.declared.block.Block.the-variants.{Right, Wrong}
 use Rattle.chainfile.specs.declared.judge.Verdict.{Verdict}
 use Rattle.chainfile.specs.declared.judge.Verdict.the-variants.{Accepted as Taken, Refused as Refusing}
 use Rattle.chainfile.specs.Input.{input}
-use Rattle.chainfile.specs.Tells.{tested, further, judged, Within}
-use Rattle.theory.specs.Files.Right.{bounded, flag-low}
+use Rattle.chainfile.specs.Tells.{tested, Begun, further, judged, Front, fronted, Verdicts, Within}
+use Rattle.theory.specs.Files.Right.{bounded, flag-front}
 
 -- A block that is found right or wrong.
 module _ (f : Input) (b : ℕ) {r : Block} (t : tested f b r) where
@@ -29,29 +24,40 @@ module _ (f : Input) (b : ℕ) {r : Block} (t : tested f b r) where
   pub found-right : r ≡ Right → BlockRight f b
   found-right e = subst (λ (x : Block). tested f b x) e t
 
-pub within : (f : Input) → Accepted f → Within (input (f .kept) 0)
-within f a =
-    let n = bounded f (a .blocks 0 (omega arith)) in
-    record { few-states = n .few-states; few-edges = n .few-edges; flags = flag-low f a }
+pub within : (f : Input) → ((b : ℕ) → b ≤ stateBlocks f → BlockRight f b) → Within (input (f .kept) 0)
+within f front =
+    let n = bounded f (front 0 (omega arith)) in
+    record { few-states = n .few-states; few-edges = n .few-edges; flags = flag-front f front }
 
--- The head and all further blocks together.
-module _ (f : Input) (whole : LengthFault f → ⊥) (head : BlockRight f 0) (total : TotalFault f → ⊥) where
-  pub judge : (r : Verdict) → further f r → judged f r
-  judge Taken blocks =
-      record {
-        whole = whole;
-        total = total;
-        blocks = λ b h. ⊎-elim (λ (e : b ≡ 0). subst (BlockRight f) (sym e) head) (λ (d : b ≡ 0 → ⊥). blocks b (omega arith) h) (same b 0);
-      }
+-- What is found of a file.
+pub found : (T : Verdict → Type 0) {r x : Verdict} → T r → r ≡ x → T x
+found T t e = subst T e t
+
+-- The head and further blocks together.
+module _ (f : Input) (begun : Begun f) where
+  blocks : (end : ℕ) → ((b : ℕ) → 0 < b → b < end → BlockRight f b) → (b : ℕ) → b < end → BlockRight f b
+  blocks end right b h =
+      ⊎-elim (λ (e : b ≡ 0). subst (BlockRight f) (sym e) (begun .head)) (λ (d : b ≡ 0 → ⊥). right b (omega arith) h) (same b 0)
+
+  pub judge : (r : Verdict) → further f (demanded f) r → judged f r
+  judge Taken right = record { whole = begun .whole; total = begun .total; blocks = blocks (demanded f) right }
   judge (Refusing number place) w =
-      FileRefused.block-wrong number place whole total (w .after) (w .below)
-      (λ a h. ⊎-elim (λ (e : a ≡ 0). subst (BlockRight f) (sym e) head) (λ (d : a ≡ 0 → ⊥). w .before a (omega arith) h) (same a 0))
-      (w .refused)
+      FileRefused.block-wrong number place (begun .whole) (begun .total) (w .after) (w .below) (blocks place (w .before)) (w .refused)
 
--- A file that is found refused or accepted.
-module _ (f : Input) {r : Verdict} (t : judged f r) where
-  pub found-refused : {number place : ℕ} → r ≡ Refusing number place → FileRefused f number place
-  found-refused e = subst (λ (x : Verdict). judged f x) e t
+  pub front : (r : Verdict) → further f (1 + stateBlocks f) r → fronted f r
+  front Taken right =
+      record { whole = begun .whole; total = begun .total; blocks = λ b h. blocks (1 + stateBlocks f) right b (omega arith) }
+  front (Refusing number place) w =
+      FrontRefused.states-wrong number place (begun .whole) (begun .total) (w .after) (omega (arith, w .below)) (blocks place (w .before)) (w .refused)
 
-  pub found-accepted : r ≡ Taken → Accepted f
-  found-accepted e = subst (λ (x : Verdict). judged f x) e t
+-- The verdicts on the edge blocks of a file whose front is right.
+pub opened : (f : Input) (lost : List ℕ) → Front f → Verdicts f lost → Opened f (verdict lost)
+opened f lost front v =
+    record {
+      whole = front .whole;
+      total = front .total;
+      front = front .blocks;
+      kept = λ b l h. v .edges b l h .kept;
+      lost = λ b l h. v .edges b l h .lost;
+      none = v .others;
+    }

@@ -1,15 +1,20 @@
--- What the reader promises determines its answer, case and all, and the tables afterwards.
+-- What each reader promises determines its answer, case and all, and the tables afterwards.
 use Prim.Native.Nat.{ℕ, _<_}
 use mathlib.Core.Path.{_≡_, ap, ap₂}
+use mathlib.Core.List.{List}
 use native.Mathlib.Omega.{arith}
 use Rattle.meaning.specs.Block.{Input}
 use Rattle.meaning.specs.File.{Tables, Reading as Answer, ReadOutcome}
+use Rattle.meaning.specs.Salvage.{Salvage, SalvageOutcome}
 use Rattle.theory.specs.Files.FileOne.{file-numbers, read-one}
+use Rattle.theory.specs.Files.Opened.{front-file}
+use Rattle.theory.specs.Files.SalvageOne.{salvage-read-one}
 use Rattle.chain.specs.declared.Chain.{Chain as Frame}
 use Rattle.chain.proofs.Unique.{framed}
 use Rattle.chainfile.specs.declared.Reading.{Reading}
 use Rattle.chainfile.specs.declared.Reading.the-variants.{Chain, Refused}
-use Rattle.chainfile.specs.Tells.{told}
+use Rattle.chainfile.specs.declared.Left.{Left}
+use Rattle.chainfile.specs.Tells.{told, toldLeft}
 use Rattle.theory.specs.Files.Right.{bounded}
 
 -- A chain has states, and a refusal a number.
@@ -51,3 +56,30 @@ pub unique : (f : Input) (t after after′ : Tables) (r r′ : Reading) → Read
 unique f t after after′ r r′ o o′ =
     let e = read-one o o′ in
     (told-one r r′ (is-proper f t after r o) (is-proper f t after′ r′ o′) (e .0), e .1)
+
+-- So does what the salvaging reader promises.
+module _ {a b : Salvage} (e : a ≡ b) where
+  numbers : a .reading .number ≡ b .reading .number
+  numbers = ap (λ (a : Salvage). a .reading .number) e
+
+  chains : a .reading .states ≡ b .reading .states
+  chains = ap (λ (a : Salvage). a .reading .states) e
+
+left-proper : (f : Input) (t after : Tables) (r : Reading) (lost : List ℕ) → SalvageOutcome f t (record { reading = told r; lost = lost }) after → proper r
+unfolding proper
+left-proper f t after (Chain c edges) lost (SalvageOutcome.short s e d) = absurd (omega (arith, numbers e))
+left-proper f t after (Chain c edges) lost (SalvageOutcome.refused s n p w e d) = absurd (omega (arith, numbers e, file-numbers (front-file w)))
+left-proper f t after (Chain c edges) lost (SalvageOutcome.opened s l h o e d) = omega (arith, chains e, bounded f (o .front 0 (omega arith)))
+left-proper f t after (Refused n p) lost (SalvageOutcome.short s e d) = omega (arith, numbers e)
+left-proper f t after (Refused n p) lost (SalvageOutcome.refused s n′ p′ w e d) = omega (arith, numbers e, file-numbers (front-file w))
+left-proper f t after (Refused n p) lost (SalvageOutcome.opened s l h o e d) = absurd (omega (arith, chains e, bounded f (o .front 0 (omega arith))))
+
+pub left-unique : (f : Input) (t after after′ : Tables) (r r′ : Left) → SalvageOutcome f t (toldLeft r) after → SalvageOutcome f t (toldLeft r′) after′
+    → (r ≡ r′) × (after ≡ after′)
+left-unique f t after after′ r r′ o o′ =
+    let e = salvage-read-one o o′ in
+    let reading : r .reading ≡ r′ .reading =
+    told-one (r .reading) (r′ .reading) (left-proper f t after (r .reading) (r .lost) o) (left-proper f t after′ (r′ .reading) (r′ .lost) o′)
+    (ap (λ (a : Salvage). a .reading) (e .0)) in
+    let lost : r .lost ≡ r′ .lost = ap (λ (a : Salvage). a .lost) (e .0) in
+    (λ i. record { reading = reading i; lost = lost i }, e .1)

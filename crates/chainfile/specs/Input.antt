@@ -1,15 +1,12 @@
--- An input from what is kept of it, and the most blocks that a file has.
-use Prim.Native.Nat.{ℕ, _+_}
+-- An input from what is kept of it, and where the longest file ends.
+use Prim.Native.Nat.{ℕ}
 use mathlib.Core.List.{List}
-use Rattle.meaning.specs.Chain.{mostStates, mostEdges}
-use Rattle.meaning.specs.Block.{Input, blockAt, blocksOf}
+use Rattle.meaning.specs.Block.{Input, blockAt}
+use Rattle.meaning.specs.File.{mostBlocks}
 
 abbrev pub input : List ℕ → ℕ → Input
 input kept more = record { kept = kept; more = more }
 
--- The most blocks of a file, and where they end.
-abbrev pub mostBlocks : ℕ
-mostBlocks = 1 + blocksOf mostStates + blocksOf mostEdges
-
+-- Where the most blocks of a file end.
 abbrev pub end : ℕ
 end = blockAt mostBlocks

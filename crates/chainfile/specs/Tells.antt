@@ -1,38 +1,93 @@
 -- What the answers tell.
-use Prim.Native.Nat.{ℕ, _≤_, _<_}
+use Prim.Native.Nat.{ℕ, _+_, _≤_, _<_}
+use mathlib.Core.Path.{_≡_}
+use mathlib.Core.Logic.{_⊎_}
+use mathlib.Core.Bool.{true, false}
 use mathlib.Core.List.{List}
+use lib.ListN.{length}
 use Rattle.meaning.specs.Chain.{mostStates, mostEdges}
-use Rattle.meaning.specs.Block.{Input, demanded, headStates, headEdges, flagIn}
-use Rattle.meaning.specs.File.{BlockRefused, BlockRight, FileRefused, Accepted, Tables, Reading as Answer, noReading}
+use Rattle.meaning.specs.Block.{Input, stateBlocks, demanded, headStates, headEdges, flagIn}
+use Rattle.meaning.specs.File.{
+  LengthFault,
+  BlockRefused,
+  BlockRight,
+  TotalFault,
+  FileRefused,
+  Accepted,
+  mostBlocks,
+  edgeIn,
+  Tables,
+  Reading as Answer,
+  noReading,
+}
+use Rattle.meaning.specs.Salvage.{FrontRefused, edgeKept, leftTables, Salvage, verdict, salvage}
+use Rattle.chain.specs.Edge.{placed}
 use Rattle.chainfile.specs.declared.block.Block.{Block}
 use Rattle.chainfile.specs.declared.block.Block.the-variants.{Right, Wrong}
 use Rattle.chainfile.specs.declared.judge.Verdict.{Verdict}
 use Rattle.chainfile.specs.declared.judge.Verdict.the-variants.{Accepted as Taken, Refused as Refusing}
 use Rattle.chainfile.specs.declared.Reading.{Reading}
 use Rattle.chainfile.specs.declared.Reading.the-variants.{Chain, Refused}
+use Rattle.chainfile.specs.declared.Left.{Left}
 
 -- A block is right, or refused with a number.
 abbrev pub tested : Input → ℕ → Block → Type 0
 tested f b Right = BlockRight f b
 tested f b (Wrong number) = BlockRefused f b number
 
--- A further block is the first that is refused.
-pub record FirstWrong (f : Input) (number b : ℕ) : Type 0 where
+-- The length, the head and the block total are right, or one of them is refused.
+pub record Begun (f : Input) : Type 0 where
+  pub whole : LengthFault f → ⊥
+  pub head : BlockRight f 0
+  pub total : TotalFault f → ⊥
+
+abbrev pub begun : Input → Verdict → Type 0
+begun f Taken = Begun f
+begun f (Refusing number place) = FrontRefused f number place
+
+-- Of the further blocks before `end` one is the first that is refused.
+pub record FirstWrong (f : Input) (end number b : ℕ) : Type 0 where
   pub after : 0 < b
-  pub below : b < demanded f
+  pub below : b < end
   pub before : (a : ℕ) → 0 < a → a < b → BlockRight f a
   pub refused : BlockRefused f b number
 
-abbrev pub further : Input → Verdict → Type 0
-further f Taken = (b : ℕ) → 0 < b → b < demanded f → BlockRight f b
-further f (Refusing number place) = FirstWrong f number place
+abbrev pub further : Input → ℕ → Verdict → Type 0
+further f end Taken = (b : ℕ) → 0 < b → b < end → BlockRight f b
+further f end (Refusing number place) = FirstWrong f end number place
 
 -- A file is accepted, or refused with a number and a place.
 abbrev pub judged : Input → Verdict → Type 0
 judged f Taken = Accepted f
 judged f (Refusing number place) = FileRefused f number place
 
--- What the tests of an accepted file keep its numbers within.
+-- The head, the total and the state blocks are right, or the front is refused with a number and a place.
+pub record Front (f : Input) : Type 0 where
+  pub whole : LengthFault f → ⊥
+  pub total : TotalFault f → ⊥
+  pub blocks : (b : ℕ) → b ≤ stateBlocks f → BlockRight f b
+
+abbrev pub fronted : Input → Verdict → Type 0
+fronted f Taken = Front f
+fronted f (Refusing number place) = FrontRefused f number place
+
+-- A block is kept, which the number 0 says, or lost by the number.
+pub record LostBy (f : Input) (b number : ℕ) : Type 0 where
+  pub kept : number ≡ 0 → BlockRight f b
+  pub lost : (number ≡ 0 → ⊥) → BlockRefused f b number
+
+-- The numbers by which the edge blocks are lost; that of every other block is 0.
+pub record Verdicts (f : Input) (lost : List ℕ) : Type 0 where
+  pub size : length lost ≡ mostBlocks
+  pub edges : (b : ℕ) → stateBlocks f < b → b < demanded f → LostBy f b (verdict lost b)
+  pub others : (b : ℕ) → (b ≤ stateBlocks f) ⊎ (demanded f ≤ b) → verdict lost b ≡ 0
+
+-- Where edge e is kept it goes to place k of the table, and the next place is the one after it; else nothing goes there.
+pub data EdgeSet (f : Input) (lost : List ℕ) (e k : ℕ) (before after : List ℕ) (next : ℕ) : Type 0 where
+  set : edgeKept f (verdict lost) e ≡ true → after ≡ placed before k (edgeIn f e) → next ≡ k + 1 → EdgeSet f lost e k before after next
+  skipped : edgeKept f (verdict lost) e ≡ false → after ≡ before → next ≡ k → EdgeSet f lost e k before after next
+
+-- What the tests of a file's front keep its numbers within.
 pub record Within (f : Input) : Type 0 where
   pub few-states : headStates f ≤ mostStates
   pub few-edges : headEdges f ≤ mostEdges
@@ -47,3 +102,12 @@ abbrev pub told : Reading → Answer
 told (Chain c edges) =
     record { number = 0; place = 0; states = c .states; start = c .start; goals = c .goals; edges = edges }
 told (Refused number place) = noReading number place
+
+abbrev pub toldLeft : Left → Salvage
+toldLeft r = record { reading = told (r .reading); lost = r .lost }
+
+-- The verdicts on the edge blocks, and the tables and the answer of what is left by them.
+pub record LeftOver (f : Input) (before : Tables) (a : Salvage) (after : Tables) : Type 0 where
+  pub verdicts : Verdicts f (a .lost)
+  pub answer : a ≡ salvage f (a .lost)
+  pub tables : after ≡ leftTables f (verdict (a .lost)) before

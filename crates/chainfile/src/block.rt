@@ -2,9 +2,9 @@
 ghost use mathlib.Core.Path.{_≡_};
 ghost use Prim.Native.Nat.{ℕ, _*_, _-_, _≤_, _<_, min};
 ghost use Rattle.meaning.specs.Block.{recordsAt, fullBlock, firstVersion, versionIn};
-ghost use Rattle.meaning.specs.File.{CheckFault, BlockNumberFault, VersionFault, KindFault, ReservedFault, ContentFault, kindOf, countOf};
+ghost use Rattle.meaning.specs.File.{CheckFault, BlockNumberFault, VersionFault, KindFault, ReservedFault, ContentFault, kindOf, countOf, mostBlocks};
 ghost use Rattle.meaning.specs.Number.{decides};
-ghost use Rattle.chainfile.specs.Input.{input, mostBlocks};
+ghost use Rattle.chainfile.specs.Input.{input};
 ghost use Rattle.chainfile.specs.Tells.{tested};
 use crate::bytes;
 use crate::head;

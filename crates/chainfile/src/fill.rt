@@ -1,19 +1,22 @@
-// The tables of an accepted file.
+// The tables of a file, with the edges of its lost blocks left out.
 ghost use mathlib.Core.Path.{_≡_};
 ghost use Prim.Native.Nat.{_+_, _*_, _/_, _≤_, _<_};
 ghost use lib.ListN.{length};
 ghost use Rattle.meaning.specs.Number.{tabFrom, filled};
-ghost use Rattle.meaning.specs.Chain.{edgeSize};
-ghost use Rattle.meaning.specs.Block.{numberAt, recordSize, fullBlock, headStates, headEdges, recordAt, stateAt};
-ghost use Rattle.meaning.specs.File.{ShortOf, Short, filledIn, edgesIn, goalsIn};
+ghost use Rattle.meaning.specs.Chain.{mostEdges, edgeSize};
+ghost use Rattle.meaning.specs.Block.{numberAt, recordSize, fullBlock, headStates, headEdges, stateBlocks, recordAt, stateAt};
+ghost use Rattle.meaning.specs.File.{ShortOf, Short, mostBlocks, edgeIn, goalsIn};
+ghost use Rattle.meaning.specs.Salvage.{keptEdges, keptBefore, leftTables, verdict};
 ghost use Rattle.meaning.specs.Number.{decides};
-ghost use Rattle.chainfile.specs.Input.{input, mostBlocks, end};
-ghost use Rattle.chainfile.specs.Tells.{Within, tables};
+ghost use Rattle.chain.specs.Edge.{placed};
+ghost use Rattle.chainfile.specs.Input.{input, end};
+ghost use Rattle.chainfile.specs.Tells.{Within, EdgeSet, tables};
 use crate::bytes;
 use crate::head;
 use crate::layout;
 use chain::Chain;
 use chain::edge;
+use chain::table;
 
 // 2: a table is shorter than the largest chain needs.
 pub(crate) fn short(denominators: usize, edges: usize, order: usize, rewards: usize) -> bool
@@ -73,43 +76,72 @@ pub(crate) fn goals(kept: &[u8]) -> u64
     goals
 }
 
-// The edges, a record each.
-fn edge_numbers(kept: &[u8], table: &mut [u64])
+// Edge e of the file, set at place k of the table.
+fn edge_record(kept: &[u8], first: usize, e: usize, table: &mut [u64], k: usize)
+    requires { ⌜ (first ≡ 1 + stateBlocks (input (now kept) 0)) × (first + e / fullBlock < mostBlocks) ⌝ }
+    ensures { λ _. ⌜ now (table .exit) ≡ placed (now (table .entry)) k (edgeIn (input (now (kept .entry)) 0) e) ⌝ }
+{
+    let at = record_at(first, e);
+    let from = bytes::byte(kept, at + layout::FROM);
+    let to = bytes::byte(kept, at + layout::TO);
+    let weight = bytes::number(kept, at + layout::WEIGHT, layout::QUAD);
+    let reward = bytes::number(kept, at + layout::EDGE_REWARD, layout::PAIR);
+    edge::put(table, k, from, to, weight, reward);
+}
+
+// An edge of a lost block is skipped. Answers the place of the next edge.
+fn keep(kept: &[u8], lost: &[u64], first: usize, e: usize, table: &mut [u64], k: usize) -> usize
+    requires { ⌜ (first ≡ 1 + stateBlocks (input (now kept) 0)) × (first + e / fullBlock < mostBlocks) × (k ≤ mostEdges) ⌝ }
+    ensures { λ r. ⌜ EdgeSet (input (now (kept .entry)) 0) (now (lost .entry)) e k (now (table .entry)) (now (table .exit)) r ⌝ }
+{
+    if table::at(lost, first + e / layout::FULL) != 0 {
+        return k;
+    }
+    edge_record(kept, first, e, table, k);
+    k + 1
+}
+
+// The kept edges, a record each. Answers how many.
+fn edge_numbers(kept: &[u8], lost: &[u64], table: &mut [u64]) -> usize
     requires { ⌜ Within (input (now kept) 0) ⌝ }
-    requires { ⌜ edgeSize * headEdges (input (now kept) 0) ≤ length (now table) ⌝ }
-    ensures { λ _. ⌜ now (table .exit) ≡ filled (edgesIn (input (now (kept .entry)) 0)) (now (table .entry)) ⌝ }
+    requires { ⌜ edgeSize * mostEdges ≤ length (now table) ⌝ }
+    ensures { λ r.
+        let f = input (now (kept .entry)) 0 in
+        let v = verdict (now (lost .entry)) in
+        ⌜ (now (table .exit) ≡ filled (keptEdges f v (headEdges f)) (now (table .entry))) × (r ≡ keptBefore f v (headEdges f)) ⌝ }
 {
     let count = head::edges(kept);
     let first = 1 + head::state_blocks(kept);
+    let mut k = 0;
     let mut e = 0;
     while e < count {
-        let at = record_at(first, e);
-        let from = bytes::byte(kept, at + layout::FROM);
-        let to = bytes::byte(kept, at + layout::TO);
-        let weight = bytes::number(kept, at + layout::WEIGHT, layout::QUAD);
-        let reward = bytes::number(kept, at + layout::EDGE_REWARD, layout::PAIR);
-        edge::put(table, e, from, to, weight, reward);
+        k = keep(kept, lost, first, e, table, k);
         e += 1;
     }
+    k
 }
 
-// Fills the four tables from the front, and leaves the entries past the chain's own.
+// Fills the four tables from the front, and leaves the entries past the chain's own. Answers how many edges are kept.
 pub(crate) fn tables(
     kept: &[u8],
+    lost: &[u64],
     denominators: &mut [u64],
     edges: &mut [u64],
     order: &mut [u64],
     rewards: &mut [u64],
-)
+) -> usize
     requires { ⌜ Within (input (now kept) 0) ⌝ }
     requires { ⌜ (Short (tables (now denominators) (now edges) (now order) (now rewards)) → ⊥) ⌝ }
-    ensures { λ _.
+    ensures { λ r.
+        let f = input (now (kept .entry)) 0 in
+        let v = verdict (now (lost .entry)) in
         let before = tables (now (denominators .entry)) (now (edges .entry)) (now (order .entry)) (now (rewards .entry)) in
         let after = tables (now (denominators .exit)) (now (edges .exit)) (now (order .exit)) (now (rewards .exit)) in
-        ⌜ after ≡ filledIn (input (now (kept .entry)) 0) before ⌝ }
+        ⌜ (after ≡ leftTables f v before) × (r ≡ keptBefore f v (headEdges f)) ⌝ }
 {
     state_numbers(kept, layout::DENOMINATOR, layout::QUAD, denominators);
-    edge_numbers(kept, edges);
+    let count = edge_numbers(kept, lost, edges);
     state_numbers(kept, layout::ORDER, layout::SINGLE, order);
     state_numbers(kept, layout::REWARD, layout::PAIR, rewards);
+    count
 }

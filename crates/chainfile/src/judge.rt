@@ -1,10 +1,9 @@
-// A whole file: 20, the head block, the block total, and then each further block in turn.
+// A whole file, or its front: 20, the head block, the block total, and then each further block in turn.
 ghost use Prim.Native.Nat.{ℕ, _≤_};
-ghost use Rattle.meaning.specs.Block.{demanded};
-ghost use Rattle.meaning.specs.File.{LengthFault, TotalFault};
+ghost use Rattle.meaning.specs.File.{LengthFault, TotalFault, mostBlocks};
 ghost use Rattle.meaning.specs.Number.{decides};
-ghost use Rattle.chainfile.specs.Input.{input, mostBlocks};
-ghost use Rattle.chainfile.specs.Tells.{further, judged};
+ghost use Rattle.chainfile.specs.Input.{input};
+ghost use Rattle.chainfile.specs.Tells.{begun, further, judged, fronted};
 use crate::block;
 use crate::block::Block;
 use crate::head;
@@ -49,14 +48,29 @@ fn total_wrong(kept: &[u8], more: u64) -> bool
     false
 }
 
-// Each block after the head.
-fn further(kept: &[u8]) -> Verdict
-    requires { ⌜ demanded (input (now kept) 0) ≤ mostBlocks ⌝ }
-    ensures { λ r. ⌜ ((more : ℕ) → further (input (now (kept .entry)) more) r) ⌝ }
+// 20, the head block and the block total.
+fn begins(kept: &[u8], more: u64) -> Verdict
+    ensures { λ r. ⌜ begun (input (now (kept .entry)) more) r ⌝ }
 {
-    let demanded = head::demanded(kept);
+    if length_wrong(kept, more) {
+        return Verdict::Refused(20, 0);
+    }
+    if let Block::Wrong(number) = block::test(kept, 0) {
+        return Verdict::Refused(number, 0);
+    }
+    if total_wrong(kept, more) {
+        return Verdict::Refused(24, 0);
+    }
+    Verdict::Accepted
+}
+
+// Each block after the head and before block `end`.
+fn further(kept: &[u8], end: usize) -> Verdict
+    requires { ⌜ end ≤ mostBlocks ⌝ }
+    ensures { λ r. ⌜ ((more : ℕ) → further (input (now (kept .entry)) more) end r) ⌝ }
+{
     let mut b = 1;
-    while b < demanded {
+    while b < end {
         if let Block::Wrong(number) = block::test(kept, b) {
             return Verdict::Refused(number, b);
         }
@@ -68,14 +82,18 @@ fn further(kept: &[u8]) -> Verdict
 pub(crate) fn judge(kept: &[u8], more: u64) -> Verdict
     ensures { λ r. ⌜ judged (input (now (kept .entry)) more) r ⌝ }
 {
-    if length_wrong(kept, more) {
-        return Verdict::Refused(20, 0);
+    if let Verdict::Refused(number, place) = begins(kept, more) {
+        return Verdict::Refused(number, place);
     }
-    if let Block::Wrong(number) = block::test(kept, 0) {
-        return Verdict::Refused(number, 0);
+    further(kept, head::demanded(kept))
+}
+
+// The same but for the edge blocks.
+pub(crate) fn front(kept: &[u8], more: u64) -> Verdict
+    ensures { λ r. ⌜ fronted (input (now (kept .entry)) more) r ⌝ }
+{
+    if let Verdict::Refused(number, place) = begins(kept, more) {
+        return Verdict::Refused(number, place);
     }
-    if total_wrong(kept, more) {
-        return Verdict::Refused(24, 0);
-    }
-    further(kept)
+    further(kept, 1 + head::state_blocks(kept))
 }

@@ -34,9 +34,11 @@ pub const RECORD: usize = 8;
 
 pub const FULL: usize = (CHECKED - RECORDS) / RECORD;
 
-// The bytes of the longest file: the head, the blocks of the states and those of the edges.
-pub const LONGEST: usize = BLOCK
-    * (1 + (Chain::STATES + FULL - 1) / FULL + (Chain::EDGES + FULL - 1) / FULL);
+// The most blocks of a file: the head, the blocks of the states and those of the edges.
+pub const BLOCKS: usize = 1 + (Chain::STATES + FULL - 1) / FULL + (Chain::EDGES + FULL - 1) / FULL;
+
+// The bytes of the longest file.
+pub const LONGEST: usize = BLOCK * BLOCKS;
 
 // The bytes of a number of one, of two and of four bytes.
 pub const SINGLE: usize = 1;

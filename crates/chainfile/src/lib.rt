@@ -1,8 +1,12 @@
-// The reader of chain files: a file is refused with its number and place, or its chain and tables are handed over. What is public beside it is for the writer.
+// The readers of chain files: a file is refused with its number and place, or its chain and tables are handed over; the salvaging reader hands over
+// what is left of it. What is public beside them is for the writer.
 ghost use mathlib.Core.Path.{_≡_};
-ghost use Rattle.meaning.specs.File.{ReadOutcome, reading};
+ghost use Prim.Native.Nat.{ℕ};
+ghost use Rattle.meaning.specs.Block.{headStates, headStart};
+ghost use Rattle.meaning.specs.File.{Short, ReadOutcome, reading, goalsIn};
+ghost use Rattle.meaning.specs.Salvage.{noSalvage, SalvageOutcome};
 ghost use Rattle.chainfile.specs.Input.{input};
-ghost use Rattle.chainfile.specs.Tells.{Within, told, tables};
+ghost use Rattle.chainfile.specs.Tells.{Within, LeftOver, told, toldLeft, tables};
 use crate::judge::Verdict;
 use chain::Chain;
 
@@ -12,6 +16,7 @@ mod fill;
 pub mod head;
 mod judge;
 pub mod layout;
+mod lost;
 mod records;
 mod store;
 pub mod sums;
@@ -24,12 +29,29 @@ pub enum Reading {
     Refused { number: u32, place: usize },
 }
 
+// What the salvaging reader answers: with the chain the number of edges that are kept, and for each block the number by which it is lost, 0 where it is
+// kept.
+pub struct Left {
+    pub reading: Reading,
+    pub lost: [u64; layout::BLOCKS],
+}
+
+// The chain but for its tables.
+fn chain(kept: &[u8]) -> Chain
+    requires { ⌜ Within (input (now kept) 0) ⌝ }
+    ensures { λ r.
+        let f = input (now (kept .entry)) 0 in
+        ⌜ (r .states ≡ headStates f) × (r .start ≡ headStart f) × (r .goals ≡ goalsIn f) ⌝ }
+{
+    Chain::new(head::states(kept), head::start(kept), fill::goals(kept))
+}
+
 // What an accepted file answers.
 fn answer(kept: &[u8]) -> Reading
     requires { ⌜ Within (input (now kept) 0) ⌝ }
     ensures { λ r. ⌜ told r ≡ reading (input (now (kept .entry)) 0) ⌝ }
 {
-    let chain = Chain::new(head::states(kept), head::start(kept), fill::goals(kept));
+    let chain = chain(kept);
     let edges = head::edges(kept);
     Reading::Chain { chain, edges }
 }
@@ -57,6 +79,62 @@ pub fn read(
     if let Verdict::Refused(number, place) = judge::judge(kept, more) {
         return Reading::Refused { number, place };
     }
-    fill::tables(kept, denominators, edges, order, rewards);
+    let lost = [0u64; layout::BLOCKS];
+    fill::tables(kept, &lost, denominators, edges, order, rewards);
     answer(kept)
+}
+
+// Nothing is left of a file that is refused.
+fn nothing(number: u32, place: usize) -> Left
+    ensures { λ r. ⌜ toldLeft r ≡ noSalvage number place ⌝ }
+{
+    Left {
+        reading: Reading::Refused { number, place },
+        lost: [0u64; layout::BLOCKS],
+    }
+}
+
+// Fills the tables with what is left of a file whose front is right.
+fn leave(
+    kept: &[u8],
+    denominators: &mut [u64],
+    edges: &mut [u64],
+    order: &mut [u64],
+    rewards: &mut [u64],
+) -> Left
+    requires { ⌜ Within (input (now kept) 0) ⌝ }
+    requires { ⌜ (Short (tables (now denominators) (now edges) (now order) (now rewards)) → ⊥) ⌝ }
+    ensures { λ r.
+        let before = tables (now (denominators .entry)) (now (edges .entry)) (now (order .entry)) (now (rewards .entry)) in
+        let after = tables (now (denominators .exit)) (now (edges .exit)) (now (order .exit)) (now (rewards .exit)) in
+        ⌜ ((more : ℕ) → LeftOver (input (now (kept .entry)) more) before (toldLeft r) after) ⌝ }
+{
+    let lost = lost::verdicts(kept);
+    let edges = fill::tables(kept, &lost, denominators, edges, order, rewards);
+    let chain = chain(kept);
+    let reading = Reading::Chain { chain, edges };
+    Left { reading, lost }
+}
+
+// Reads what is left of a chain file in the same way: only its front has to be right.
+pub fn salvage(
+    kept: &[u8],
+    more: u64,
+    denominators: &mut [u64],
+    edges: &mut [u64],
+    order: &mut [u64],
+    rewards: &mut [u64],
+) -> Left
+    ensures { λ r.
+        let before = tables (now (denominators .entry)) (now (edges .entry)) (now (order .entry)) (now (rewards .entry)) in
+        let after = tables (now (denominators .exit)) (now (edges .exit)) (now (order .exit)) (now (rewards .exit)) in
+        ⌜ SalvageOutcome (input (now (kept .entry)) more) before (toldLeft r) after ⌝ }
+{
+    if fill::short(denominators.len(), edges.len(), order.len(), rewards.len()) {
+        return nothing(2, 0);
+    }
+    if let Verdict::Refused(number, place) = judge::front(kept, more) {
+        return nothing(number, place);
+    }
+    leave(kept, denominators, edges, order, rewards)
 }

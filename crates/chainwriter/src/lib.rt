@@ -10,7 +10,7 @@ ghost use Rattle.meaning.specs.Write.{filing, WriteOutcome};
 ghost use Rattle.meaning.specs.Number.{decides};
 ghost use Rattle.chain.specs.Lent.{lent};
 ghost use Rattle.look.specs.Says.{Looks};
-ghost use Rattle.chainfile.specs.Input.{mostBlocks};
+ghost use Rattle.meaning.specs.File.{mostBlocks};
 ghost use Rattle.chainwriter.specs.Tells.{told};
 use chain::Chain;
 use chain::edge;

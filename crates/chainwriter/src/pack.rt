@@ -6,7 +6,7 @@ ghost use Rattle.meaning.specs.Number.{bit};
 ghost use Rattle.meaning.specs.Block.{recordSize, fullBlock};
 ghost use Rattle.chain.specs.Lent.{lent};
 ghost use Rattle.chainwriter.specs.Packed.{Fitting, headRecord, stateRecord, edgeRecord, recordOf, slotOf, frontOf, checkOf};
-ghost use Rattle.chainfile.specs.Input.{mostBlocks};
+ghost use Rattle.meaning.specs.File.{mostBlocks};
 use chain::Chain;
 use chain::edge;
 use chain::set;

@@ -104,8 +104,12 @@ pub data FromStart (c : Chain) : ℕ → Type 0 where
   step : (e : ℕ) → e < edgeCount (c .edges) → FromStart c (from (c .edges) e) → (Goal c (from (c .edges) e) → ⊥)
       → FromStart c (to (c .edges) e)
 
--- A state is live if it is no goal, can be reached from the start without passing a goal, and has a path to a goal.
-pub record Live (c : Chain) (i : ℕ) : Type 0 where
+-- A state is live if it is no goal, can be reached from the start without passing a goal, and has a path to an end.
+pub record LiveTo (c : Chain) (End : ℕ → Type 0) (i : ℕ) : Type 0 where
   pub unwon : Goal c i → ⊥
   pub reached : FromStart c i
-  pub leads : ToGoal c i
+  pub leads : PathTo (c .edges) End i
+
+-- The ends are the goals: it has a path to a goal.
+abbrev pub Live : Chain → ℕ → Type 0
+Live c i = LiveTo c (Goal c) i

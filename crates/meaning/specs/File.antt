@@ -34,6 +34,7 @@ use Rattle.meaning.specs.Block.{
   headStart,
   headEdges,
   headZeros,
+  blocksOf,
   stateBlocks,
   demanded,
   denominatorIn,
@@ -96,6 +97,10 @@ HeadFault f =
     ((headStates f ≡ 0) ⊎ (mostStates < headStates f))
     ⊎ ((headEdges f ≡ 0) ⊎ (mostEdges < headEdges f))
     ⊎ NonZero f (recordsAt 0 + headZeros) (recordsAt 0 + recordSize)
+
+-- The most blocks of a file.
+abbrev pub mostBlocks : ℕ
+mostBlocks = 1 + blocksOf mostStates + blocksOf mostEdges
 
 -- Of so many states' records from byte `at` on, one has a flag that is not 0 or 1.
 abbrev pub FlagFault : Input → ℕ → ℕ → Type 0

@@ -51,3 +51,7 @@ pub mod Line
 pub mod Within
 -- Checking a colleague's solver.
 pub mod Judge
+-- Saving what is left of a damaged file: the chain whose rows may fall short.
+pub mod Left
+-- Saving what is left of a damaged file: lost blocks, the salvaging reader, the text.
+pub mod Salvage

@@ -44,6 +44,11 @@ unfoldable pub tabFrom {ℓ} : {A : Type ℓ} → ℕ → ℕ → (ℕ → A) �
 tabFrom i zero f = []
 tabFrom i (suc n) f = f i ∷ tabFrom (suc i) n f
 
+-- The lists f 0, f 1, .., f (n - 1) one after the other, of the numbers of which the test holds.
+unfoldable pub joinTo : (ℕ → Bool) → (ℕ → List ℕ) → ℕ → List ℕ
+joinTo test f zero = []
+joinTo test f (suc n) = joinTo test f n ++ choose (test n) (f n) []
+
 -- A list at the front of a table; what is past the list's own stays.
 abbrev pub filled {ℓ} : {A : Type ℓ} → List A → List A → List A
 filled l t = l ++ drop (length l) t

@@ -4,7 +4,7 @@ use mathlib.Core.Path.{_≡_}
 use mathlib.Core.List.{List, _++_}
 use lib.ListN.{replicate, drop}
 use Rattle.meaning.specs.Number.{Reduced}
-use Rattle.meaning.specs.Chain.{Goal, ToGoal, Live}
+use Rattle.meaning.specs.Chain.{Chain, Goal, ToGoal, Live}
 use Rattle.meaning.specs.Figure.{Chance, Missed, Expected}
 use Rattle.meaning.specs.Row.{Row, cell, goalColumn, unknownColumn, exact, rounding}
 use Rattle.meaning.specs.Step.{row, Sets, Right, outside}
@@ -102,18 +102,19 @@ between p q s t =
 abbrev pub lastRow : Lent → Sets → Row
 lastRow l k = row (tableAt (earns plain l) rounding l k (l .chain .states)) (l .chain .start)
 
--- The bounds: both 1/1 where the start is a goal, both 0/1 where it has no path to one; else Goal / D and (Goal + Unknown) / D, with D of
--- the start's row at the end, each put in lowest terms.
+-- The bounds of the start's row z at the end: Goal / D and (Goal + Unknown) / D, each put in lowest terms.
+abbrev pub BoundsOf : Chain → Row → ℕ → ℕ → ℕ → ℕ → Type 0
+BoundsOf c z p q s t =
+    let n = c .states in
+    Reduced (cell z (goalColumn n)) (outside n (c .start) z) p q
+    × Reduced (cell z (goalColumn n) + cell z (unknownColumn n)) (outside n (c .start) z) s t
+
+-- The bounds: both 1/1 where the start is a goal, both 0/1 where it has no path to one; else those of the start's row at the end.
 pub data BoundsFigure (l : Lent) (a : Bounds) : Type 0 where
   won : Goal (l .chain) (l .chain .start) → a ≡ between 1 1 1 1 → BoundsFigure l a
   lost : (ToGoal (l .chain) (l .chain .start) → ⊥) → a ≡ between 0 1 0 1 → BoundsFigure l a
   live : (k : Sets) → Right (l .chain) k → Live (l .chain) (l .chain .start) → (p q s t : ℕ)
-      → (let n = l .chain .states in
-      let z = lastRow l k in
-      Reduced (cell z (goalColumn n)) (outside n (l .chain .start) z) p q
-      × Reduced (cell z (goalColumn n) + cell z (unknownColumn n)) (outside n (l .chain .start) z) s t)
-      → a ≡ between p q s t
-      → BoundsFigure l a
+      → BoundsOf (l .chain) (lastRow l k) p q s t → a ≡ between p q s t → BoundsFigure l a
 
 -- Nothing stops the bounds engine, which rounds a row that does not fit.
 abbrev pub BoundsStop : ℕ → ℕ → Type 0

@@ -154,9 +154,9 @@ abbrev pub lentFault : Bool → (ℕ → Type 0) → ℕ → Type 0
 lentFault true F = F
 lentFault false F = never
 
--- The faults in the order of their numbers, from 0, which is no refusal.
-abbrev pub faults : Entry → Lent → List (ℕ → Type 0)
-faults x l =
+-- The faults in the order of their numbers, from 0, which is no refusal; those of 9 are given.
+abbrev pub faultsWith : (ℕ → Type 0) → Entry → Lent → List (ℕ → Type 0)
+faultsWith sums x l =
     let c = l .chain in
     never
     ∷ whole
@@ -168,10 +168,13 @@ faults x l =
     ∷ EndFault (c .states) (c .edges)
     ∷ WeightFault (c .edges)
     ∷ PairFault (c .edges)
-    ∷ SumFault (c .states) (c .denominators) (c .edges)
+    ∷ sums
     ∷ lentFault (x .order) (OrderFault (c .states) (l .order))
     ∷ lentFault (x .rewards) (RewardFault (c .states) (l .rewards) (c .edges))
     ∷ []
+
+abbrev pub faults : Entry → Lent → List (ℕ → Type 0)
+faults x l = faultsWith (SumFault (l .chain .states) (l .chain .denominators) (l .chain .edges)) x l
 
 -- Number k applies at place p.
 abbrev pub Applies : Entry → Lent → ℕ → ℕ → Type 0

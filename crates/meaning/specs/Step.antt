@@ -8,7 +8,7 @@ use mathlib.Core.List.{List, []}
 use lib.ListN.{length, getD}
 use lib.Dec.{eqb, ltb}
 use Rattle.meaning.specs.Number.{only, choose, bit, tabFrom}
-use Rattle.meaning.specs.Chain.{M, Chain, along, ToGoal, Live}
+use Rattle.meaning.specs.Chain.{M, Chain, along, Goal, PathTo, LiveTo}
 use Rattle.meaning.specs.Row.{
   Row,
   cell,
@@ -34,10 +34,14 @@ pub record Sets : Type 0 where
   pub good : ℕ
   pub live : ℕ
 
--- The sets are the chain's own.
-pub record Right (c : Chain) (k : Sets) : Type 0 where
-  pub good : (i : ℕ) → (bit (k .good) i ≡ 1) ↔ ToGoal c i
-  pub live : (i : ℕ) → (bit (k .live) i ≡ 1) ↔ Live c i
+-- The sets are the chain's own: the states with a path to an end, and the live ones.
+pub record RightTo (c : Chain) (End : ℕ → Type 0) (k : Sets) : Type 0 where
+  pub good : (i : ℕ) → (bit (k .good) i ≡ 1) ↔ PathTo (c .edges) End i
+  pub live : (i : ℕ) → (bit (k .live) i ≡ 1) ↔ LiveTo c End i
+
+-- The ends are the goals.
+abbrev pub Right : Chain → Sets → Type 0
+Right c k = RightTo c (Goal c) k
 
 -- The row of a live state as the chain gives it: the weight to each live state, to goals, to states with no path to a goal; u in Unknown;
 -- and in Reward what one turn in the state earns, times its denominator, as pay says.
@@ -88,9 +92,13 @@ unfoldable pub after : Bool → ℕ → (ℕ → Bool) → List ℕ → Table �
 after b n go o t zero = t
 after b n go o t (suc p) = choose (go (getD o p 0)) (removed b n (getD o p 0) (after b n go o t p)) (after b n go o t p)
 
--- The table of a chain after the first p positions of the order o: no weight is Unknown at first.
+-- The table of a chain after the first p positions of the order o; u i is Unknown of the first row of i.
+abbrev pub stageFrom : Bool → Chain → Sets → (ℕ → ℕ) → (ℕ → ℕ) → List ℕ → ℕ → Table
+stageFrom b c k pay u o p = after b (c .states) (goes (c .start) (k .live)) o (first b c k pay u) p
+
+-- No weight is Unknown at first.
 abbrev pub stage : Bool → Chain → Sets → (ℕ → ℕ) → List ℕ → ℕ → Table
-stage b c k pay o p = after b (c .states) (goes (c .start) (k .live)) o (first b c k pay (λ _. 0)) p
+stage b c k pay o p = stageFrom b c k pay (λ _. 0) o p
 
 -- The lowest terms of a new row have a total above M, so that the bounds engine rounds it.
 abbrev pub Rounds : ℕ → Row → Type 0

@@ -3,6 +3,8 @@ pub mod Fine
 pub mod Rewards
 pub mod Flow
 pub mod Joined
+pub mod Picked
+pub mod Parted
 pub mod Path
 pub mod Sets
 pub mod Marks

@@ -13,8 +13,13 @@ pub mod Before
 pub mod FileOne
 pub mod Alike
 pub mod Written
+pub mod Completed
+pub mod Opened
+pub mod Decided
 pub mod ReportOne
 pub mod StepsOne
+pub mod SalvageOne
+pub mod SalvageExists
 pub mod CallOne
 pub mod CallRead
 pub mod CallBounds

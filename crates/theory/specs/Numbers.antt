@@ -2,6 +2,7 @@
 pub mod Decide
 pub mod Sum
 pub mod Tab
+pub mod Join
 pub mod Filter
 pub mod Gcd
 pub mod Bits

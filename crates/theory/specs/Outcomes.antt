@@ -1,5 +1,6 @@
 -- From a well-formed input to the answer: every entry has one outcome, and what it is held to; the chains worked by hand.
 pub mod Formed
+pub mod LeftFormed
 pub mod Bare
 pub mod Look
 pub mod Places
@@ -12,6 +13,8 @@ pub mod Determined
 pub mod Entries
 pub mod DemandTwo
 pub mod DemandThree
+pub mod LeftHolds
+pub mod LeftOne
 pub mod Small
 pub mod Steps
 pub mod StepsComputed

@@ -8,5 +8,6 @@ pub mod Stage
 pub mod Fits
 pub mod Unrounded
 pub mod Last
+pub mod Left
 pub mod Records
 pub mod Rewards

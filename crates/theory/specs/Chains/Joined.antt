@@ -7,7 +7,7 @@ use lib.ListN.{length, getD, length-append, List·getD-append}
 use lib.Seq.{getD-append-add}
 use lib.Dec.{eqb}
 use Rattle.meaning.specs.Number.{sumTo, only}
-use Rattle.meaning.specs.Chain.{edgeSize, plainEdge, edgeCount, from, to, weight, edgeReward, carried, flow}
+use Rattle.meaning.specs.Chain.{edgeSize, edge, plainEdge, edgeCount, from, to, weight, edgeReward, carried, flow}
 use Rattle.meaning.specs.Copies.{each}
 use Rattle.theory.specs.Numbers.Sum.{last-or-below, sum-ext, sum-join}
 
@@ -25,11 +25,14 @@ pub record IsEdge (edges : List ℕ) (e source target amount : ℕ) : Type 0 whe
 pub is-alone : (source target amount : ℕ) → IsEdge (plainEdge source target amount) 0 source target amount
 is-alone source target amount = record { source-is = refl; target-is = refl; amount-is = refl; reward-none = refl }
 
-pub flow-alone : (source target amount i : ℕ) (f : ℕ → ℕ) → flow (plainEdge source target amount) i f ≡ only (eqb source i) (amount * f target)
+pub flow-edge : (source target amount reward i : ℕ) (f : ℕ → ℕ) → flow (edge source target amount reward) i f ≡ only (eqb source i) (amount * f target)
 unfolding flow carried sumTo
-flow-alone source target amount i f = omega arith
+flow-edge source target amount reward i f = omega arith
 
-flow-none : (i : ℕ) (f : ℕ → ℕ) → flow [] i f ≡ 0
+pub flow-alone : (source target amount i : ℕ) (f : ℕ → ℕ) → flow (plainEdge source target amount) i f ≡ only (eqb source i) (amount * f target)
+flow-alone source target amount = flow-edge source target amount 0
+
+pub flow-none : (i : ℕ) (f : ℕ → ℕ) → flow [] i f ≡ 0
 unfolding flow sumTo
 flow-none i f = refl
 
@@ -37,10 +40,10 @@ module _ (a b : List ℕ) (m : ℕ) (whole : Edges a m) where
   pub edges-joined : (n : ℕ) → Edges b n → Edges (a ++ b) (m + n)
   edges-joined n h = omega (arith, length-append a b)
 
-  first-at : (j : ℕ) → j < edgeSize * m → getD (a ++ b) j 0 ≡ getD a j 0
+  pub first-at : (j : ℕ) → j < edgeSize * m → getD (a ++ b) j 0 ≡ getD a j 0
   first-at j h = List·getD-append a b 0 j (omega arith)
 
-  second-at : (j k : ℕ) → k ≡ edgeSize * m + j → getD (a ++ b) k 0 ≡ getD b j 0
+  pub second-at : (j k : ℕ) → k ≡ edgeSize * m + j → getD (a ++ b) k 0 ≡ getD b j 0
   second-at j k e =
       let s : k ≡ length a + j = omega arith in ap (λ k. getD (a ++ b) k 0) s ∙ getD-append-add a b j 0
 

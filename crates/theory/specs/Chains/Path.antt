@@ -1,11 +1,12 @@
--- Whether a state has a path to a goal, is reached from the start, or is live, is decided, by taking in the edges one by one.
+-- Whether a state has a path to an end, is reached from the start, or is live, is decided, by taking in the edges one by one.
 use Prim.Native.Nat.{ℕ, zero, suc, _<_}
 use mathlib.Core.Path.{_≡_, refl, sym, subst}
 use mathlib.Core.Logic.{_↔_, _⊎_, inl, inr, ⊎-elim, ⊎-map, Dec·and, Dec·not}
 use mathlib.Core.Bool.{Bool, true, false}
+use mathlib.Core.List.{List}
 use native.Mathlib.Omega.{arith}
 use native.Mathlib.Decide.{ℕ-discrete, map-dec}
-use Rattle.meaning.specs.Chain.{Chain, edgeCount, from, to, Goal, PathTo, ToGoal, FromStart, Live}
+use Rattle.meaning.specs.Chain.{Chain, edgeCount, from, to, Goal, PathTo, ToGoal, FromStart, LiveTo, Live}
 use Rattle.theory.specs.Numbers.Sum.{last-or-below}
 
 -- A decision as a test, and what the test says.
@@ -70,23 +71,26 @@ module _ (f t : ℕ → ℕ) (Used : ℕ → Type 0) (decUsed : (e : ℕ) → De
 pub decGoal : (c : Chain) (i : ℕ) → Dec (Goal c i)
 decGoal c i = ℕ-discrete _ _
 
-module _ (c : Chain) where
+module _ (edges : List ℕ) (End : ℕ → Type 0) where
   -- All edges, as they go.
   abbrev Onward : ℕ → Type 0
-  Onward = Reach (from (c .edges)) (to (c .edges)) (λ _. Unit {0}) (Goal c) (edgeCount (c .edges))
+  Onward = Reach (from edges) (to edges) (λ _. Unit {0}) End (edgeCount edges)
 
-  onward : {i : ℕ} → ToGoal c i → Onward i
+  onward : {i : ℕ} → PathTo edges End i → Onward i
   onward (PathTo.here i g) = here g
   onward (PathTo.step e h r) = along e h tt refl (onward r)
 
-  from-onward : {i : ℕ} → Onward i → ToGoal c i
+  from-onward : {i : ℕ} → Onward i → PathTo edges End i
   from-onward (here {i = i} g) = PathTo.here i g
-  from-onward (along e h u q r) = subst (ToGoal c) q (PathTo.step e h (from-onward r))
+  from-onward (along e h u q r) = subst (PathTo edges End) q (PathTo.step e h (from-onward r))
 
+  pub decPathTo : ((i : ℕ) → Dec (End i)) → (i : ℕ) → Dec (PathTo edges End i)
+  decPathTo dec i =
+      map-dec from-onward onward (reach (from edges) (to edges) (λ _. Unit {0}) (λ _. yes tt) End dec (edgeCount edges) i)
+
+module _ (c : Chain) where
   pub decToGoal : (i : ℕ) → Dec (ToGoal c i)
-  decToGoal i =
-      map-dec from-onward onward
-      (reach (from (c .edges)) (to (c .edges)) (λ _. Unit {0}) (λ _. yes tt) (Goal c) (decGoal c) (edgeCount (c .edges)) i)
+  decToGoal = decPathTo (c .edges) (Goal c) (decGoal c)
 
   -- The edges that leave no goal, the other way round.
   abbrev Unwon : ℕ → Type 0
@@ -111,7 +115,10 @@ module _ (c : Chain) where
       (edgeCount (c .edges))
       i)
 
-  pub decLive : (i : ℕ) → Dec (Live c i)
-  decLive i =
+  pub decLiveTo : (End : ℕ → Type 0) → ((i : ℕ) → Dec (End i)) → (i : ℕ) → Dec (LiveTo c End i)
+  decLiveTo End dec i =
       map-dec (λ p. record { unwon = p .0; reached = p .1 .0; leads = p .1 .1 }) (λ l. (l .unwon, (l .reached, l .leads)))
-      (Dec·and (Dec·not (decGoal c i)) (Dec·and (decFromStart i) (decToGoal i)))
+      (Dec·and (Dec·not (decGoal c i)) (Dec·and (decFromStart i) (decPathTo (c .edges) End dec i)))
+
+  pub decLive : (i : ℕ) → Dec (Live c i)
+  decLive = decLiveTo (Goal c) (decGoal c)

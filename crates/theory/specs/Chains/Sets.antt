@@ -6,10 +6,10 @@ use mathlib.Core.Bool.{Bool, true, false}
 use native.Mathlib.Omega.{arith}
 use native.Mathlib.Nat.{div-one, div-div-eq-div-mul, pow-succ', div-eq-of-lt, pow-le-pow-right, zero-div}
 use Rattle.meaning.specs.Number.{only, bit}
-use Rattle.meaning.specs.Chain.{Chain, edgeCount, from, PathTo, ToGoal, Live}
-use Rattle.meaning.specs.Step.{Sets, Right}
+use Rattle.meaning.specs.Chain.{Chain, edgeCount, from, Goal, PathTo, ToGoal, LiveTo}
+use Rattle.meaning.specs.Step.{Sets, RightTo, Right}
 use Rattle.theory.specs.Numbers.Sum.{same, below}
-use Rattle.theory.specs.Chains.Path.{test, test-law, decToGoal, decLive}
+use Rattle.theory.specs.Chains.Path.{test, test-law, decGoal, decPathTo, decLiveTo}
 
 -- The number whose bits, up to n, are the tests.
 unfoldable pub packed : ℕ → (ℕ → Bool) → ℕ
@@ -77,10 +77,10 @@ set-one P s t p q =
     (λ (n : bit s i ≡ 1 → ⊥). let m : bit t i ≡ 1 → ⊥ = λ e. n (p i .1 (q i .0 e)) in omega arith)
     (same (bit s i) 1))
 
-pub right-one : {c : Chain} {k k' : Sets} → Right c k → Right c k' → k ≡ k'
-right-one {c} {k} {k'} R R' =
-    let g : k .good ≡ k' .good = set-one (ToGoal c) (k .good) (k' .good) (R .good) (R' .good) in
-    let l : k .live ≡ k' .live = set-one (Live c) (k .live) (k' .live) (R .live) (R' .live) in
+pub right-one : {c : Chain} {End : ℕ → Type 0} {k k' : Sets} → RightTo c End k → RightTo c End k' → k ≡ k'
+right-one {c} {End} {k} {k'} R R' =
+    let g : k .good ≡ k' .good = set-one (PathTo (c .edges) End) (k .good) (k' .good) (R .good) (R' .good) in
+    let l : k .live ≡ k' .live = set-one (LiveTo c End) (k .live) (k' .live) (R .live) (R' .live) in
     λ i. record { good = g i; live = l i }
 
 -- The number of a set of states below n, by a test of it.
@@ -99,19 +99,32 @@ packed-set n f P law inside i = (
     tested true e = refl
     tested false e = absurd (omega arith)
 
+module _ (c : Chain) (sources : (e : ℕ) → e < edgeCount (c .edges) → from (c .edges) e < c .states) where
+  -- What has a path to an end is a state, where the ends are.
+  module _ (End : ℕ → Type 0) (dec : (i : ℕ) → Dec (End i)) (inside : (i : ℕ) → End i → i < c .states) where
+    path-state : (i : ℕ) → PathTo (c .edges) End i → i < c .states
+    path-state i (PathTo.here j g) = inside j g
+    path-state i (PathTo.step e l p) = sources e l
+
+    pub right-to-exists : (k : Sets) × RightTo c End k
+    right-to-exists =
+        let to-end = decPathTo (c .edges) End dec in
+        let alive = decLiveTo c End dec in (
+          record { good = packed (c .states) (λ i. test (to-end i)); live = packed (c .states) (λ i. test (alive i)) },
+          record {
+            good = packed-set (c .states) (λ i. test (to-end i)) (PathTo (c .edges) End) (λ i. test-law (to-end i)) path-state;
+            live = packed-set (c .states) (λ i. test (alive i)) (LiveTo c End) (λ i. test-law (alive i)) (λ i l. path-state i (l .leads));
+          },
+        )
+
+-- The ends are the goals.
 module _ (c : Chain) (goals : c .goals < 2 ^ c .states) (sources : (e : ℕ) → e < edgeCount (c .edges) → from (c .edges) e < c .states) where
+  inside : (i : ℕ) → Goal c i → i < c .states
+  inside i = bit-below (c .goals) (c .states) i goals
+
   -- What has a path to a goal is a state.
   pub goal-state : (i : ℕ) → ToGoal c i → i < c .states
-  goal-state i (PathTo.here j g) = bit-below (c .goals) (c .states) j goals g
-  goal-state i (PathTo.step e l p) = sources e l
+  goal-state = path-state c sources (Goal c) (decGoal c) inside
 
   pub right-exists : (k : Sets) × Right c k
-  right-exists = (
-    record { good = packed (c .states) (λ i. test (decToGoal c i)); live = packed (c .states) (λ i. test (decLive c i)) },
-    record {
-      good = packed-set (c .states) (λ i. test (decToGoal c i)) (ToGoal c) (λ i. test-law (decToGoal c i)) goal-state;
-      live =
-          packed-set (c .states) (λ i. test (decLive c i)) (Live c) (λ i. test-law (decLive c i))
-          (λ i l. goal-state i (l .leads));
-    },
-  )
+  right-exists = right-to-exists c sources (Goal c) (decGoal c) inside

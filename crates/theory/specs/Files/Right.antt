@@ -28,6 +28,7 @@ use Rattle.meaning.specs.Block.{
   blocksOf,
   headStates,
   headEdges,
+  stateBlocks,
   demanded,
   flagIn,
 }
@@ -153,13 +154,17 @@ bounded f r =
     let edges : mostEdges < headEdges f → ⊥ = λ h. content-right r (ContentFault.record-wrong refl (inr (inl (inr h)))) in
     record { some-states = omega arith; few-states = omega arith; some-edges = omega arith; few-edges = omega arith; few-blocks = omega arith }
 
--- The flags of an accepted file are 0 or 1.
-pub flag-low : (f : Input) → Accepted f → (i : ℕ) → i < headStates f → flagIn f i ≤ 1
-flag-low f a i h =
+-- The flags of a file whose front is right are 0 or 1.
+pub flag-front : (f : Input) → ((b : ℕ) → b ≤ stateBlocks f → BlockRight f b) → (i : ℕ) → i < headStates f → flagIn f i ≤ 1
+flag-front f front i h =
     let b = 1 + i / fullBlock in
     let k = kind-state f b (λ z. omega arith) (omega arith) in
     ⊎-elim
     (λ (w : 1 < flagIn f i).
-    absurd (content-right (a .blocks b (omega arith)) (ContentFault.flag-wrong k (i % fullBlock, (omega (arith, at-state f b k .1), w)))))
+    absurd (content-right (front b (omega arith)) (ContentFault.flag-wrong k (i % fullBlock, (omega (arith, at-state f b k .1), w)))))
     (λ (l : flagIn f i ≤ 1). l)
     (below 1 (flagIn f i))
+
+-- So are those of an accepted file.
+pub flag-low : (f : Input) → Accepted f → (i : ℕ) → i < headStates f → flagIn f i ≤ 1
+flag-low f a = flag-front f (λ b h. a .blocks b (omega arith))

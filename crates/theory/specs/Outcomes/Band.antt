@@ -10,7 +10,7 @@ use lib.Dec.{eqb}
 use lib.ListN.{getD}
 use borrow.Author.Tests.{eq-eqb, ne-eqb}
 use Rattle.meaning.specs.Number.{sumTo, only, choose, present, bit}
-use Rattle.meaning.specs.Chain.{Chain, to}
+use Rattle.meaning.specs.Chain.{Chain, to, Goal}
 use Rattle.meaning.specs.Row.{cell, exact}
 use Rattle.meaning.specs.Step.{Table, row, Sets, removed, after}
 use Rattle.meaning.specs.Refusal.{plain}
@@ -25,7 +25,7 @@ use Rattle.theory.specs.Numbers.Window.{window}
 use Rattle.theory.specs.Chains.Counted.{count-sum}
 use Rattle.theory.specs.Rows.Settle.{one-engine}
 use Rattle.theory.specs.Stages.Fits.{stage-fits}
-use Rattle.theory.specs.Stages.Last.{Prepared, turn-loose}
+use Rattle.theory.specs.Stages.Last.{Prepared, prepared-whole, turn-loose}
 use Rattle.theory.specs.Stages.Weighs.{Wide, Into, state, goal, trap, first-weighs, removed-weighs}
 use Rattle.theory.specs.Outcomes.StepsStates.{Removable, goes-law}
 
@@ -138,8 +138,8 @@ module _ (c : Chain) (k : Sets) (o : List ℕ) (ready : Prepared c k o) where
     band-removed : (p : ℕ) → p < n → counts c k o p ≡ true → Band p (at p) → Band (suc p) (removed exact n (turn p) (at p))
     band-removed p m t band q r h g w =
         let live = goes-law c k (ready .right) (turn p) .0 t .0 in
-        let loose = turn-loose c k o ready exact pay (one-engine exact refl) p m live in
-        let wide : Wide n (at p) = λ i h. stage-fits c k pay o exact p i h .wide in
+        let loose = turn-loose c k o (λ _. 0) (Goal c) (prepared-whole ready) exact pay (one-engine exact refl) p m live in
+        let wide : Wide n (at p) = λ i h. stage-fits c k pay (λ _. 0) o exact p i h .wide in
         let e = removed-weighs n (turn p) (at p) wide (inside p m) loose (turn q) (inside q h) (turn r) (omega (arith, inside r g)) .0 w in
         let more : (q : ℕ) → (turn q ≡ turn p → ⊥) → Stays p q → Stays (suc p) q =
         λ q d. stays-more p q (λ f _. d (ap turn f)) in

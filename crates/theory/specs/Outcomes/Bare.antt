@@ -7,14 +7,17 @@ use lib.ListN.{getD}
 use native.Mathlib.Omega.{arith}
 use native.Mathlib.Nat.{le-refl}
 use Rattle.meaning.specs.Number.{only}
-use Rattle.meaning.specs.Chain.{edgeSize}
+use Rattle.meaning.specs.Chain.{Chain, edgeSize}
 use Rattle.meaning.specs.Refusal.{Lent, Entry, bare, whole, never, Misshaped, faults, Applies, Refused, WellFormed}
 use Rattle.theory.specs.Numbers.Sum.{below}
 use Rattle.theory.specs.Outcomes.Formed.{room-enough}
 
--- What is lent of it to an entry that is lent a chain alone.
+-- What an entry is lent that is lent a chain alone; and of what is lent, its chain alone.
+abbrev pub chainAlone : Chain → Lent
+chainAlone c = record { chain = c; order = []; rewards = []; work = []; list = 0 }
+
 abbrev pub alone : Lent → Lent
-alone l = record { chain = l .chain; order = []; rewards = []; work = []; list = 0 }
+alone l = chainAlone (l .chain)
 
 -- Each fault of one list is that fault of another.
 pub data Entails : List (ℕ → Type 0) → List (ℕ → Type 0) → Type 1 where

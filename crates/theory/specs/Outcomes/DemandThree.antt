@@ -15,6 +15,7 @@ use Rattle.meaning.specs.Stop.{earns, Stops, before-steps, in-step, Stopped}
 use Rattle.meaning.specs.Outcome.{refused, stopped, answered, Bounds, between, lastRow, BoundsFigure, BoundsOutcome}
 use Rattle.meaning.specs.Demand.{AtMost, ChanceBetween, BothChance, Unrounded}
 use Rattle.theory.specs.Rows.Settle.{one-engine}
+use Rattle.theory.specs.Chains.Fine.{Fine}
 use Rattle.theory.specs.Figures.Shares.{shares-exist}
 use Rattle.theory.specs.Outcomes.Formed.{formed-fine, start-in, unpaid}
 use Rattle.theory.specs.Outcomes.Whole.{
@@ -30,12 +31,12 @@ use Rattle.theory.specs.Outcomes.Whole.{
 use Rattle.theory.specs.Figures.Unique.{chance-one}
 
 -- A fraction in lowest terms keeps its place beside x over d: a over b is x over d's lower, or upper, bound.
-below-share : (a b p q d x s t : ℕ) → 0 < b → 0 < d → Reduced a b p q → s * d ≡ x * t → a * d ≤ x * b → AtMost p q s t
+pub below-share : (a b p q d x s t : ℕ) → 0 < b → 0 < d → Reduced a b p q → s * d ≡ x * t → a * d ≤ x * b → AtMost p q s t
 below-share a b p q d x s t whole above r e h =
     le-of-mul-le-mul-left {k = b * d}
     (omega (arith, ap (λ z. z * (d * t)) (r .same), ap (λ z. z * (b * q)) e, mul-le-mul-left (q * t) h)) (mul-pos whole above)
 
-above-share : (a b p q d x s t : ℕ) → 0 < b → 0 < d → Reduced a b p q → s * d ≡ x * t → x * b ≤ a * d → AtMost s t p q
+pub above-share : (a b p q d x s t : ℕ) → 0 < b → 0 < d → Reduced a b p q → s * d ≡ x * t → x * b ≤ a * d → AtMost s t p q
 above-share a b p q d x s t whole above r e h =
     le-of-mul-le-mul-left {k = b * d}
     (omega (arith, ap (λ z. z * (d * t)) (r .same), ap (λ z. z * (b * q)) e, mul-le-mul-left (q * t) h)) (mul-pos whole above)
@@ -48,19 +49,19 @@ rounding-unstopped s = none (s .stops)
     none (before-steps f) = one-engine rounding (f .0) refl
     none (in-step p h w f) = one-engine rounding (f .0) refl
 
+-- A chance that is known is both of its bounds.
+pub known : {c : Chain} → Fine c → (u v : ℕ) → Chance c u v → ChanceBetween c (between u v u v)
+known fine u v h =
+    record {
+      lower-lowest = h .lowest;
+      upper-lowest = h .lowest;
+      lower = λ p q k. let o = chance-one fine h k in rw (o .0, o .1) (omega arith);
+      upper = λ p q k. let o = chance-one fine h k in rw (o .0, o .1) (omega arith);
+    }
+
 module _ (l : Lent) (formed : WellFormed plain l) where
   abbrev c : Chain
   c = l .chain
-
-  -- A chance that is known is both of its bounds.
-  known : (u v : ℕ) → Chance c u v → ChanceBetween c (between u v u v)
-  known u v h =
-      record {
-        lower-lowest = h .lowest;
-        upper-lowest = h .lowest;
-        lower = λ p q k. let o = chance-one (formed-fine plain l formed) h k in rw (o .0, o .1) (omega arith);
-        upper = λ p q k. let o = chance-one (formed-fine plain l formed) h k in rw (o .0, o .1) (omega arith);
-      }
 
   module _ (k : Sets) (right : Right c k) (alive : Live c (c .start)) (p q s t : ℕ)
       (lowest : Reduced (cell (lastRow l k) (goalColumn (c .states))) (outside (c .states) (c .start) (lastRow l k)) p q)
@@ -117,8 +118,8 @@ module _ (l : Lent) (formed : WellFormed plain l) where
     bounds-hold = outcome (ChanceBetween c) a w held
       where
         held : (b : Bounds) → BoundsFigure l b → ChanceBetween c b
-        held b (BoundsFigure.won g e) = subst (ChanceBetween c) (sym e) (known 1 1 (chance-won c (start-in plain l formed) g))
-        held b (BoundsFigure.lost g e) = subst (ChanceBetween c) (sym e) (known 0 1 (chance-lost c (start-in plain l formed) g))
+        held b (BoundsFigure.won g e) = subst (ChanceBetween c) (sym e) (known (formed-fine plain l formed) 1 1 (chance-won c (start-in plain l formed) g))
+        held b (BoundsFigure.lost g e) = subst (ChanceBetween c) (sym e) (known (formed-fine plain l formed) 0 1 (chance-lost c (start-in plain l formed) g))
         held b (BoundsFigure.live k r v p q s t f e) = subst (ChanceBetween c) (sym e) (live-holds k r v p q s t (f .0) (f .1))
 
     -- Both are the chance where no row was rounded.

@@ -1,15 +1,14 @@
 -- Each of the three entries has one outcome for one input, work table included.
-use Prim.Native.Nat.{ℕ, _+_}
+use Prim.Native.Nat.{ℕ, _<_}
 use mathlib.Core.Path.{_≡_, refl, sym, ap₂, subst, _∙_}
 use mathlib.Core.Bool.{Bool}
 use mathlib.Core.List.{List}
-use Rattle.meaning.specs.Number.{Reduced}
 use Rattle.meaning.specs.Chain.{Chain, PathTo, Live}
-use Rattle.meaning.specs.Row.{cell, goalColumn, unknownColumn, exact}
+use Rattle.meaning.specs.Row.{Row, exact}
 use Rattle.meaning.specs.Step.{Sets, Right, outside}
 use Rattle.meaning.specs.Refusal.{Lent, Entry, plain, paid, WellFormed}
 use Rattle.meaning.specs.Stop.{earns, Stops, Stopped}
-use Rattle.meaning.specs.Outcome.{Answer, fraction, ChanceFigure, ChanceOutcome, RewardFigure, RewardOutcome, Bounds, between, lastRow, BoundsFigure, BoundsOutcome}
+use Rattle.meaning.specs.Outcome.{Answer, fraction, ChanceFigure, ChanceOutcome, RewardFigure, RewardOutcome, Bounds, between, lastRow, BoundsOf, BoundsFigure, BoundsOutcome}
 use Rattle.theory.specs.Figures.Unique.{reduced-one, chance-one, expected-one}
 use Rattle.theory.specs.Chains.Sets.{right-one}
 use Rattle.theory.specs.Outcomes.Formed.{formed-fine, start-in, unpaid}
@@ -20,6 +19,14 @@ use Rattle.theory.specs.Outcomes.Determined.{stops-one, outcome-one}
 pub stopped-one : {pay : ℕ → ℕ} {b : Bool} {l : Lent} (n p n′ p′ : ℕ) → Stopped pay b l n p → Stopped pay b l n′ p′ → (n ≡ n′) × (p ≡ p′)
 stopped-one {pay} {b} {l} n p n′ p′ s s′ =
     stops-one (s .stops) (subst (λ k. Stops pay b l k n′ p′) (right-one (s′ .right) (s .right)) (s′ .stops))
+
+-- The two fractions of a row at the end are one.
+pub row-bounds-one : (c : Chain) (z : Row) → 0 < outside (c .states) (c .start) z → (p q s t p′ q′ s′ t′ : ℕ)
+    → BoundsOf c z p q s t → BoundsOf c z p′ q′ s′ t′ → between p q s t ≡ between p′ q′ s′ t′
+row-bounds-one c z whole p q s t p′ q′ s′ t′ f f′ =
+    let lower = reduced-one whole (f .0) (f′ .0) in
+    let upper = reduced-one whole (f .1) (f′ .1) in
+    rw (lower .0, lower .1, upper .0, upper .1)
 
 module _ (l : Lent) where
   abbrev c : Chain
@@ -38,21 +45,11 @@ module _ (l : Lent) where
       let o = expected-one (formed-fine paid l w) (start-in paid l w) s h h′ in
       e ∙ ap₂ fraction (o .0) (o .1) ∙ sym e′
 
-  -- The two fractions of the bounds, of a live start.
-  abbrev Between : Sets → ℕ → ℕ → ℕ → ℕ → Type 0
-  Between k p q s t =
-      let n = c .states in
-      let z = lastRow l k in
-      Reduced (cell z (goalColumn n)) (outside n (c .start) z) p q
-      × Reduced (cell z (goalColumn n) + cell z (unknownColumn n)) (outside n (c .start) z) s t
-
   live-one : WellFormed plain l → (k : Sets) → Right c k → Live c (c .start) → (p q s t p′ q′ s′ t′ : ℕ)
-      → Between k p q s t → Between k p′ q′ s′ t′ → between p q s t ≡ between p′ q′ s′ t′
-  live-one w k right alive p q s t p′ q′ s′ t′ f f′ =
-      let whole = bounds-whole c k (l .order) (formed-prepared plain l w refl k right) (earns plain l) alive (unpaid plain l refl) in
-      let lower = reduced-one whole (f .0) (f′ .0) in
-      let upper = reduced-one whole (f .1) (f′ .1) in
-      rw (lower .0, lower .1, upper .0, upper .1)
+      → BoundsOf c (lastRow l k) p q s t → BoundsOf c (lastRow l k) p′ q′ s′ t′ → between p q s t ≡ between p′ q′ s′ t′
+  live-one w k right alive =
+      row-bounds-one c (lastRow l k)
+      (bounds-whole c k (l .order) (formed-prepared plain l w refl k right) (earns plain l) alive (unpaid plain l refl))
 
   bounds-figure-one : WellFormed plain l → (a a′ : Bounds) → BoundsFigure l a → BoundsFigure l a′ → a ≡ a′
   bounds-figure-one w a a′ (BoundsFigure.won g e) (BoundsFigure.won g′ e′) = e ∙ sym e′
@@ -64,7 +61,7 @@ module _ (l : Lent) where
   bounds-figure-one w a a′ (BoundsFigure.live k r v p q s t f e) (BoundsFigure.won g e′) = absurd (v .unwon g)
   bounds-figure-one w a a′ (BoundsFigure.live k r v p q s t f e) (BoundsFigure.lost n e′) = absurd (n (v .leads))
   bounds-figure-one w a a′ (BoundsFigure.live k r v p q s t f e) (BoundsFigure.live k′ r′ v′ p′ q′ s′ t′ f′ e′) =
-      let g : Between k p′ q′ s′ t′ = subst (λ z. Between z p′ q′ s′ t′) (right-one r′ r) f′ in
+      let g : BoundsOf c (lastRow l k) p′ q′ s′ t′ = subst (λ z. BoundsOf c (lastRow l z) p′ q′ s′ t′) (right-one r′ r) f′ in
       e ∙ live-one w k r v p q s t p′ q′ s′ t′ f g ∙ sym e′
 
   pub chance-determined : {a a′ : Answer} {w w′ : List ℕ} → ChanceOutcome l a w → ChanceOutcome l a′ w′ → (a ≡ a′) × (w ≡ w′)

@@ -12,25 +12,30 @@ use Rattle.theory.specs.Numbers.Every.{apart-once, holds-every}
 use Rattle.theory.specs.Chains.Fine.{Fine}
 
 -- Facts whose contrary cannot be.
-equal : (x y : ℕ) → ((x ≡ y → ⊥) → ⊥) → x ≡ y
+pub equal : (x y : ℕ) → ((x ≡ y → ⊥) → ⊥) → x ≡ y
 equal x y f = meet (λ h. f (λ e. omega arith)) (λ h. f (λ e. omega arith))
   where
     meet : (x < y → ⊥) → (y < x → ⊥) → x ≡ y
     meet f g = omega arith
 
-inside : (x y : ℕ) → (y ≤ x → ⊥) → x < y
+pub inside : (x y : ℕ) → (y ≤ x → ⊥) → x < y
 inside x y f = omega arith
 
-atMost : (x y : ℕ) → (y < x → ⊥) → x ≤ y
+pub atMost : (x y : ℕ) → (y < x → ⊥) → x ≤ y
 atMost x y f = omega arith
 
-positive : (x : ℕ) → (x ≡ 0 → ⊥) → 0 < x
+pub positive : (x : ℕ) → (x ≡ 0 → ⊥) → 0 < x
 positive x f = omega arith
 
 -- Room that is asked for and is there.
 pub room-enough : {asked work records list : ℕ} → asked ≤ work → records ≤ list → (work < asked) ⊎ (list < records) → ⊥
 room-enough h k (inl a) = omega (arith, h, a)
 room-enough h k (inr a) = omega (arith, k, a)
+
+-- An order with no fault names every state.
+pub order-whole : (n : ℕ) (o : ℕ → ℕ) → ((p : ℕ) → p < n → o p < n) → ((p : ℕ) → p < n → (q : ℕ) → q < p → o q ≡ o p → ⊥)
+    → (i : ℕ) → i < n → (p : ℕ) × (p < n) × (o p ≡ i)
+order-whole n o states new = holds-every n o states (apart-once n o new)
 
 -- A table that is lent has its faults.
 lends : (b : Bool) (F : ℕ → Type 0) (p : ℕ) → b ≡ true → F p → lentFault b F p
@@ -114,7 +119,7 @@ module _ (x : Entry) (l : Lent) (formed : WellFormed x l) where
     order-new p h o k e = order-fault p (h, inr (o, (k, e)))
 
     pub order-every : (i : ℕ) → i < c .states → (p : ℕ) × (p < c .states) × (getD (l .order) p 0 ≡ i)
-    order-every = holds-every (c .states) (λ p. getD (l .order) p 0) order-in (apart-once (c .states) (λ p. getD (l .order) p 0) order-new)
+    order-every = order-whole (c .states) (λ p. getD (l .order) p 0) order-in order-new
 
   module _ (lent : x .rewards ≡ true) where
     pub rewards-length : length (l .rewards) ≡ c .states

@@ -2,22 +2,23 @@
 use Prim.Native.Nat.{ℕ}
 use mathlib.Core.Path.{_≡_, refl}
 use mathlib.Core.Bool.{Bool, true}
+use Rattle.meaning.specs.Chain.{Goal}
 use Rattle.meaning.specs.Row.{exact, rounding}
 use Rattle.meaning.specs.Refusal.{Lent, Entry, plain, paid, WellFormed}
 use Rattle.meaning.specs.Stop.{earns}
 use Rattle.meaning.specs.Demand.{OutsideAtTurn, OutsideAtEnd}
 use Rattle.theory.specs.Rows.Settle.{one-engine}
-use Rattle.theory.specs.Stages.Last.{turn-loose, last-loose}
+use Rattle.theory.specs.Stages.Last.{prepared-whole, turn-loose, last-loose}
 use Rattle.theory.specs.Outcomes.Formed.{unpaid}
 use Rattle.theory.specs.Outcomes.Whole.{formed-prepared}
 
 -- The engine that rounds earns nothing.
 module _ (b : Bool) (x : Entry) (l : Lent) (formed : WellFormed x l) (ordered : x .order ≡ true) (free : b ≡ rounding → (i : ℕ) → earns x l i ≡ 0) where
   turn-outside : OutsideAtTurn (earns x l) b l
-  turn-outside k right = turn-loose (l .chain) k (l .order) (formed-prepared x l formed ordered k right) b (earns x l) free
+  turn-outside k right = turn-loose (l .chain) k (l .order) (λ _. 0) (Goal (l .chain)) (prepared-whole (formed-prepared x l formed ordered k right)) b (earns x l) free
 
   end-outside : OutsideAtEnd (earns x l) b l
-  end-outside k right = last-loose (l .chain) k (l .order) (formed-prepared x l formed ordered k right) b (earns x l) free
+  end-outside k right = last-loose (l .chain) k (l .order) (λ _. 0) (Goal (l .chain)) (prepared-whole (formed-prepared x l formed ordered k right)) b (earns x l) free
 
 module _ (l : Lent) where
   -- The chance.

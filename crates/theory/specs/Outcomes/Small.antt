@@ -23,7 +23,9 @@ use Rattle.meaning.specs.Outcome.{
   RewardFigure,
   RewardOutcome,
   Bounds,
+  between,
   lastRow,
+  BoundsOf,
   BoundsFigure,
   BoundsOutcome,
 }
@@ -53,7 +55,7 @@ reduced-small a b p q whole h k r =
 small : {p q p′ q′ : ℕ} → (p ≡ p′) × (q ≡ q′) → Small p q → Small p′ q′
 small e s = record { numerator = omega (arith, e .0, s .numerator); denominator = omega (arith, e .1, s .denominator) }
 
-one-small : (p : ℕ) → p ≤ 1 → Small p 1
+pub one-small : (p : ℕ) → p ≤ 1 → Small p 1
 one-small p h = record { numerator = omega arith; denominator = omega arith }
 
 module _ (x : Entry) (l : Lent) (formed : WellFormed x l) (none : (number place : ℕ) → Stopped (earns x l) exact l number place → ⊥) where
@@ -134,7 +136,7 @@ reward-figure l formed none sure p q h = go (right-exists (l .chain) (goals-in p
     go : (k : Sets) × Right (l .chain) k → Small p q
     go s = at (s .0) (s .1) (begins (l .chain) (s .0) (s .1))
 
-nought : Small 0 0
+pub nought : Small 0 0
 nought = record { numerator = omega arith; denominator = omega arith }
 
 -- A refusal has noughts, and infinite 1 over 0.
@@ -154,18 +156,23 @@ reward-small {l} (answered f t (RewardFigure.expected u p q h e) s) =
 abbrev pub BothSmall : Bounds → Type 0
 BothSmall a = Small (a .lowerNumerator) (a .lowerDenominator) × Small (a .upperNumerator) (a .upperDenominator)
 
+-- Those of a row that fits.
+pub row-small : (c : Chain) (z : Row) → 0 < outside (c .states) (c .start) z → total (c .states) z ≤ M → (p q s t : ℕ) → BoundsOf c z p q s t
+    → BothSmall (between p q s t)
+row-small c z whole all p q s t f =
+    let m = c .states in
+    let two : cell z m + cell z (m + 2) ≤ total m z = sum-two (cell z) (m + 3) m (m + 2) (omega arith) (omega arith) (omega arith) in
+    (reduced-small _ _ p q whole (omega arith) (omega arith) (f .0), reduced-small _ _ s t whole (omega arith) (omega arith) (f .1))
+
 bounds-figure : (l : Lent) → WellFormed plain l → (a : Bounds) → BoundsFigure l a → BothSmall a
 bounds-figure l formed a (BoundsFigure.won g e) = rw e (one-small 1 (omega arith), one-small 1 (omega arith))
 bounds-figure l formed a (BoundsFigure.lost g e) = rw e (one-small 0 (omega arith), one-small 0 (omega arith))
 bounds-figure l formed a (BoundsFigure.live k right v p q s t f e) =
     let c = l .chain in
-    let m = c .states in
-    let z = lastRow l k in
-    let whole = bounds-whole c k (l .order) (formed-prepared plain l formed refl k right) (earns plain l) v (unpaid plain l refl) in
-    let all : total m z ≤ M = bounds-fit c k (earns plain l) (l .order) m (c .start) (start-in plain l formed) in
-    let two : cell z m + cell z (m + 2) ≤ total m z = sum-two (cell z) (m + 3) m (m + 2) (omega arith) (omega arith) (omega arith) in
     rw e
-    (reduced-small _ _ p q whole (omega arith) (omega arith) (f .0), reduced-small _ _ s t whole (omega arith) (omega arith) (f .1))
+    (row-small c (lastRow l k)
+    (bounds-whole c k (l .order) (formed-prepared plain l formed refl k right) (earns plain l) v (unpaid plain l refl))
+    (bounds-fit c k (earns plain l) (l .order) (c .states) (c .start) (start-in plain l formed)) p q s t f)
 
 pub bounds-small : {l : Lent} {a : Bounds} {w : List ℕ} → BoundsOutcome l a w → BothSmall a
 bounds-small (refused number place r e s) = rw e (nought, nought)

@@ -1,17 +1,18 @@
 -- The turns of a chosen order: what they read of it, what holds of the table at each of them, and how many they are.
 use Prim.Native.Nat.{ℕ, zero, suc, _≤_, _<_}
+use mathlib.Core.Logic.{inl}
 use mathlib.Core.Path.{_≡_, refl, sym, ap, ap₂, subst, _∙_}
 use mathlib.Core.Bool.{Bool, true}
 use mathlib.Core.List.{List, []}
 use native.Mathlib.Omega.{arith}
 use lib.ListN.{getD}
 use Rattle.meaning.specs.Number.{only, choose}
-use Rattle.meaning.specs.Chain.{Chain}
+use Rattle.meaning.specs.Chain.{Chain, Goal}
 use Rattle.meaning.specs.Row.{exact}
 use Rattle.meaning.specs.Step.{Table, row, Sets, Right, outside, removed, goes, after}
 use Rattle.meaning.specs.Choice.{product, exactAt, productAt, Left, Next, productsTo}
 use Rattle.theory.specs.Numbers.Sum.{last-or-below, sum-ext}
-use Rattle.theory.specs.Chains.Fine.{Fine, reached-state}
+use Rattle.theory.specs.Chains.Fine.{Fine, fine-whole, reached-state}
 use Rattle.theory.specs.Rows.Settle.{one-engine}
 use Rattle.theory.specs.Stages.Given.{LiveRow}
 use Rattle.theory.specs.Stages.First.{first-sound}
@@ -122,7 +123,7 @@ module _ (c : Chain) (k : Sets) where
     unfolding after
     turns-sound o zero t =
         sound-map exact n (LiveRow c k) (Kept o 0) _ (λ i q. (q, λ r l. absurd (omega arith))) (λ i q. q .0)
-        (first-sound exact c k _ fine right (one-engine exact refl))
+        (first-sound exact c k _ (λ _. 0) (Goal c) (λ _ g. g) (λ _ g. inl g) (fine-whole fine) right (one-engine exact refl))
     turns-sound o (suc p) t =
         let x = t .turn p (omega arith) in
         let s = turns-sound o p (turns-less t) in

@@ -14,7 +14,7 @@ use Rattle.meaning.specs.Refusal.{Lent, Entry, WellFormed}
 use Rattle.meaning.specs.Stop.{earns}
 use Rattle.theory.specs.Numbers.Gcd.{reduced-share}
 use Rattle.theory.specs.Rows.Settle.{one-engine}
-use Rattle.theory.specs.Stages.Last.{Prepared, last-loose, last-known, chance-least, chance-most, chance-exact, reward-exact}
+use Rattle.theory.specs.Stages.Last.{Prepared, prepared-whole, last-loose, last-known, chance-least, chance-most, chance-exact, reward-exact}
 use Rattle.theory.specs.Stages.Unrounded.{unrounded}
 use Rattle.theory.specs.Outcomes.Formed.{formed-fine, start-in, order-in, order-new, order-every}
 
@@ -46,10 +46,10 @@ module _ (c : Chain) (k : Sets) (o : List ℕ) (ready : Prepared c k o) (pay : �
   module _ (alive : Live c (c .start)) where
     -- The exact engine: D is above 0, so that the figures have lowest terms; Unknown is 0.
     pub exact-whole : 0 < D exact
-    exact-whole = last-loose c k o ready exact pay free alive
+    exact-whole = last-loose c k o (λ _. 0) (Goal c) (prepared-whole ready) exact pay free alive
 
     pub exact-known : cell (last exact) (unknownColumn n) ≡ 0
-    exact-known = last-known c k o ready exact pay free alive refl
+    exact-known = last-known c k o (λ _. 0) (Goal c) (prepared-whole ready) exact pay free alive refl (λ _. refl)
 
     pub exact-chance : (p q : ℕ) → Reduced (cell (last exact) (goalColumn n)) (D exact) p q → Chance c p q
     exact-chance p q h =
@@ -79,7 +79,7 @@ module _ (c : Chain) (k : Sets) (o : List ℕ) (ready : Prepared c k o) (pay : �
     -- The bounds engine, which earns nothing: D is above 0, and the chance lies between its two fractions.
     module _ (unpaid : (i : ℕ) → pay i ≡ 0) where
       pub bounds-whole : 0 < D rounding
-      bounds-whole = last-loose c k o ready rounding pay (λ _. unpaid) alive
+      bounds-whole = last-loose c k o (λ _. 0) (Goal c) (prepared-whole ready) rounding pay (λ _. unpaid) alive
 
       module _ (d : ℕ) (x : ℕ → ℕ) (share : Shares c d x) where
         pub lower-bound : cell (last rounding) (goalColumn n) * d ≤ x (c .start) * D rounding
@@ -89,7 +89,7 @@ module _ (c : Chain) (k : Sets) (o : List ℕ) (ready : Prepared c k o) (pay : �
         upper-bound = chance-most c k o ready rounding pay (λ _. unpaid) alive d x share
 
 -- Where the start is a goal, or has no path to one.
-one-lowest : (p : ℕ) → Lowest p 1
+pub one-lowest : (p : ℕ) → Lowest p 1
 one-lowest p =
     record {
       whole = omega arith;

@@ -11,14 +11,14 @@ use borrow.Author.Tests.{eq-eqb}
 use Rattle.meaning.specs.Number.{choose, bit}
 use Rattle.meaning.specs.Chain.{M, Chain}
 use Rattle.meaning.specs.Row.{Row, cell, total, settled, rounding}
-use Rattle.meaning.specs.Step.{Table, row, Sets, outside, given, firstRow, noRow, renewed, removed, after, stage}
+use Rattle.meaning.specs.Step.{Table, row, Sets, outside, given, firstRow, noRow, renewed, removed, after, stageFrom, stage}
 use Rattle.theory.specs.Numbers.Sum.{same, sum-zero}
 use Rattle.theory.specs.Numbers.Tab.{tab-at, tab-length}
 use Rattle.theory.specs.Rows.Relation.{combined-length}
 use Rattle.theory.specs.Rows.Settle.{settled-length, settled-fits}
 use Rattle.theory.specs.Stages.Leads.{step, removes}
 use Rattle.theory.specs.Stages.Given.{given-length}
-use Rattle.theory.specs.Stages.First.{first-row}
+use Rattle.theory.specs.Stages.First.{first-row-from}
 use Rattle.theory.specs.Stages.Stage.{leaving}
 
 pub record Fits (b : Bool) (n : ℕ) (r : Row) : Type 0 where
@@ -56,28 +56,29 @@ module _ (b : Bool) (n : ℕ) where
       (λ _. settled-row (step n s t i) (combined-length s (outside n s (row t s)) (row t s) (row t i) ∙ all i h .wide)))
       (same i s)
 
-module _ (c : Chain) (k : Sets) (pay : ℕ → ℕ) (o : List ℕ) where
+-- u i is Unknown of the first row of i.
+module _ (c : Chain) (k : Sets) (pay u : ℕ → ℕ) (o : List ℕ) where
   abbrev n : ℕ
   n = c .states
 
-  first-all : (b : Bool) → All b n (stage b c k pay o 0)
+  first-all : (b : Bool) → All b n (stageFrom b c k pay u o 0)
   unfolding after
-  first-all b i h = rw (first-row b c k pay i h) (go (eqb (bit (k .live) i) 1))
+  first-all b i h = rw (first-row-from b c k pay u i h) (go (eqb (bit (k .live) i) 1))
     where
-      go : (t : Bool) → Fits b n (choose t (firstRow b c k pay 0 i) (noRow n))
-      go true = settled-row b n (given c k pay 0 i) (given-length c k pay 0 i)
+      go : (t : Bool) → Fits b n (choose t (firstRow b c k pay (u i) i) (noRow n))
+      go true = settled-row b n (given c k pay (u i) i) (given-length c k pay (u i) i)
       go false = no-row b n
 
-  pub stage-fits : (b : Bool) (p i : ℕ) → i < n → Fits b n (row (stage b c k pay o p) i)
+  pub stage-fits : (b : Bool) (p i : ℕ) → i < n → Fits b n (row (stageFrom b c k pay u o p) i)
   unfolding after
   stage-fits b zero = first-all b
   stage-fits b (suc p) = go (stage-fits b p) (leaving c k o p)
     where
-      go : All b n (stage b c k pay o p) → (g : Bool)
-          → All b n (choose g (removed b n (getD o p 0) (stage b c k pay o p)) (stage b c k pay o p))
-      go rest true = removed-all b n (getD o p 0) (stage b c k pay o p) rest
+      go : All b n (stageFrom b c k pay u o p) → (g : Bool)
+          → All b n (choose g (removed b n (getD o p 0) (stageFrom b c k pay u o p)) (stageFrom b c k pay u o p))
+      go rest true = removed-all b n (getD o p 0) (stageFrom b c k pay u o p) rest
       go rest false = rest
 
-  -- In the bounds engine all fit.
-  pub bounds-fit : (p i : ℕ) → i < n → total n (row (stage rounding c k pay o p) i) ≤ M
-  bounds-fit p i h = stage-fits rounding p i h .small refl
+-- In the bounds engine all fit.
+pub bounds-fit : (c : Chain) (k : Sets) (pay : ℕ → ℕ) (o : List ℕ) (p i : ℕ) → i < c .states → total (c .states) (row (stage rounding c k pay o p) i) ≤ M
+bounds-fit c k pay o p i h = stage-fits c k pay (λ _. 0) o rounding p i h .small refl

@@ -10,7 +10,7 @@ use borrow.Author.Tests.{eq-eqb, ne-eqb}
 use Rattle.meaning.specs.Number.{choose, bit}
 use Rattle.meaning.specs.Chain.{Chain}
 use Rattle.meaning.specs.Row.{Row}
-use Rattle.meaning.specs.Step.{Table, row, Sets, outside, removed, goes, after, stage}
+use Rattle.meaning.specs.Step.{Table, row, Sets, outside, removed, goes, after, stageFrom}
 use Rattle.theory.specs.Numbers.Sum.{same}
 use Rattle.theory.specs.Stages.Given.{LiveRow}
 use Rattle.theory.specs.Stages.Leads.{Sound, sound-loose}
@@ -25,9 +25,9 @@ unfoldable pub StageKept : Chain → Sets → List ℕ → ℕ → ℕ → Type 
 StageKept c k o zero i = LiveRow c k i
 StageKept c k o (suc p) i = StageKept c k o p i × (leaving c k o p ≡ true → i ≡ getD o p 0 → ⊥)
 
-module _ (b : Bool) (c : Chain) (k : Sets) (pay : ℕ → ℕ) (o : List ℕ) (sorted : (p : ℕ) → p < c .states → getD o p 0 < c .states) where
+module _ (b : Bool) (c : Chain) (k : Sets) (pay u : ℕ → ℕ) (o : List ℕ) (sorted : (p : ℕ) → p < c .states → getD o p 0 < c .states) where
   abbrev at : ℕ → Table
-  at p = stage b c k pay o p
+  at p = stageFrom b c k pay u o p
 
   -- One position of the order: the state there is removed, or nothing changes.
   turn : (p : ℕ) (P : (ℕ → Type 0) → Table → Type 0)

@@ -12,7 +12,7 @@ use borrow.Author.Tests.{eq-eqb, ne-eqb, eqb-true}
 use Rattle.meaning.specs.Number.{only, bit}
 use Rattle.meaning.specs.Chain.{Chain, edgeCount, from, to, weight, carried, flow, along}
 use Rattle.meaning.specs.Row.{Row, cell, width, goalColumn, trapColumn, lowest, exact}
-use Rattle.meaning.specs.Step.{Table, row, Sets, outside, given, noRow, renewed, removed}
+use Rattle.meaning.specs.Step.{Table, row, Sets, outside, given, first, noRow, renewed, removed}
 use Rattle.theory.specs.Numbers.Sum.{same, below, sum-find}
 use Rattle.theory.specs.Numbers.Tab.{tab-at, tab-past, tab-length}
 use Rattle.theory.specs.Chains.Flow.{flow-term}
@@ -22,7 +22,7 @@ use Rattle.theory.specs.Rows.Settle.{one-engine, settled-same, settled-l
 use Rattle.theory.specs.Rows.Pattern.{lowest-weighs, pattern-lowest}
 use Rattle.theory.specs.Stages.Leads.{step, removes}
 use Rattle.theory.specs.Stages.Given.{given-state, given-goal, given-trap, given-length}
-use Rattle.theory.specs.Stages.First.{begin, first-row}
+use Rattle.theory.specs.Stages.First.{first-row}
 
 -- The row of a state that is not kept has no weight.
 pub no-weight : (n j : ℕ) → cell (noRow n) j ≡ 0
@@ -88,7 +88,7 @@ module _ (c : Chain) (k : Sets) (pay : ℕ → ℕ) where
   n = c .states
 
   firsts : (P : Row → Type 0) (i : ℕ) → i < n → (bit (k .live) i ≡ 1 → P (lowest (given c k pay 0 i))) → ((bit (k .live) i ≡ 1 → ⊥) → P (noRow n))
-      → P (row (begin exact c k pay) i)
+      → P (row (first exact c k pay (λ _. 0)) i)
   firsts P i h p q =
       ⊎-elim
       (λ (l : bit (k .live) i ≡ 1).
@@ -96,7 +96,7 @@ module _ (c : Chain) (k : Sets) (pay : ℕ → ℕ) where
       (λ (l : bit (k .live) i ≡ 1 → ⊥). rw (first-row exact c k pay i h, ne-eqb (bit (k .live) i) 1 l) (q l))
       (same (bit (k .live) i) 1)
 
-  pub first-wide : Wide n (begin exact c k pay)
+  pub first-wide : Wide n (first exact c k pay (λ _. 0))
   first-wide i h =
       firsts (λ r. length r ≡ n + 4) i h
       (λ _.
@@ -174,7 +174,7 @@ module _ (c : Chain) (k : Sets) (pay : ℕ → ℕ) where
           (below j n)
 
     -- A first row has a weight just where an edge brings one.
-    pub first-weighs : (i : ℕ) → i < n → (j : ℕ) → j < n + 2 → (0 < cell (row (begin exact c k pay) i) j) ↔ Found i j
+    pub first-weighs : (i : ℕ) → i < n → (j : ℕ) → j < n + 2 → (0 < cell (row (first exact c k pay (λ _. 0)) i) j) ↔ Found i j
     first-weighs i h j b =
         firsts (λ r. (0 < cell r j) ↔ Found i j) i h
         (λ l. Iff·trans (lowest-weighs (given c k pay 0 i) j) (given-weighs i l j b))

@@ -11,26 +11,26 @@ rooms : (s : tie.Start) → let a = s .args in Room (tables (a .denominators .no
 rooms s = room _ (s .pre .1)
 
 state-numbers-requires : tie.Need-state-numbers-requires
-state-numbers-requires c κs = let s = c .before .before .before .before .before .before in (s .pre .0, omega (arith, rooms s, s .pre .0 .few-states))
+state-numbers-requires c κs = let s = c .before .before .before .before .before .before .before in (s .pre .0, omega (arith, rooms s, s .pre .0 .few-states))
 
 edge-numbers-requires : tie.Need-edge-numbers-requires
-edge-numbers-requires c κs = let s = c .before .before .before .before .before .before .before .before .before .before in (s .pre .0, omega (arith, rooms s, s .pre .0 .few-edges))
+edge-numbers-requires c κs = let s = c .before .before .before .before .before .before .before .before .before .before .before in (s .pre .0, omega (arith, rooms s))
 
 state-numbers-requires-2 : tie.Need-state-numbers-requires-2
-state-numbers-requires-2 c κs = let s = c .before .before .before .before .before .before .before .before .before .before .before .before .before .before in (s .pre .0, omega (arith, rooms s, s .pre .0 .few-states))
+state-numbers-requires-2 c κs = let s = c .before .before .before .before .before .before .before .before .before .before .before .before .before .before .before in (s .pre .0, omega (arith, rooms s, s .pre .0 .few-states))
 
 state-numbers-requires-3 : tie.Need-state-numbers-requires-3
-state-numbers-requires-3 c κs = let s = c .before .before .before .before .before .before .before .before .before .before .before .before .before .before .before .before .before .before in (s .pre .0, omega (arith, rooms s, s .pre .0 .few-states))
+state-numbers-requires-3 c κs = let s = c .before .before .before .before .before .before .before .before .before .before .before .before .before .before .before .before .before .before .before in (s .pre .0, omega (arith, rooms s, s .pre .0 .few-states))
 
 returns : tie.Need-returns
 returns c =
-    let s = c .before .before .before .before .before .before .before .before .before .before .before .before .before .before .before .before .before .before .before .before .before in
+    let s = c .before .before .before .before .before .before .before .before .before .before .before .before .before .before .before .before .before .before .before .before .before .before in
     let f = input (s .args .kept .now) 0 in
     let d = c .before .before .before .before .before .before .before .before .before .before .before .before .before .before .state-numbers .ensures ∙ denominators-are f (s .args .denominators .now) in
     let e = c .before .before .before .before .before .before .before .before .before .before .edge-numbers .ensures in
     let o = c .before .before .before .before .before .before .state-numbers2 .ensures ∙ orders-are f (s .args .order .now) in
     let r = c .before .before .state-numbers3 .ensures in
-    λ i. record { denominators = d i; edges = e i; order = o i; rewards = r i }
+    (λ i. record { denominators = d i; edges = e .0 i; order = o i; rewards = r i }, e .1)
 
 pub tables-spec : {M : Type 1} → statement M
 tables-spec =

@@ -9,10 +9,10 @@ use Rattle.chainfile.proofs.judge.further.Statement.{statement}
 use Rattle.chainfile.proofs.judge.further.Tie as tie
 
 abbrev Inv-loop : tie.InvT-loop
-Inv-loop kept demanded b₀ b = (0 < b) × ((a : ℕ) → 0 < a → a < b → (more : ℕ) → BlockRight (input kept more) a)
+Inv-loop kept end b₀ b = (0 < b) × ((a : ℕ) → 0 < a → a < b → (more : ℕ) → BlockRight (input kept more) a)
 
 abbrev μ-loop : tie.MeasureT-loop
-μ-loop kept demanded b₀ b = demanded - b
+μ-loop kept end b₀ b = end - b
 
 loop-holds : tie.Need-loop-holds Inv-loop μ-loop
 loop-holds c = (omega arith, λ a h l. absurd (omega arith))
@@ -25,7 +25,7 @@ returns c = λ more.
       after = at .loop .inv .0;
       below = search needs;
       before = λ a h l. at .loop .inv .1 a h l more;
-      refused = found-wrong (input (at .before .before .before .args .kept .now) more) (at .loop .b) (t .test .ensures more) (c .before .number .given .1);
+      refused = found-wrong (input (at .before .before .args .kept .now) more) (at .loop .b) (t .test .ensures more) (c .before .number .given .1);
     }
 
 loop-again : tie.Need-loop-again Inv-loop μ-loop
@@ -35,12 +35,12 @@ loop-again c =
       omega arith,
       λ a h l more.
           last-or-below {j = a} {n = at .loop .b} (omega arith)
-          (λ e. rw e (found-right (input (at .before .before .before .args .kept .now) more) (at .loop .b) (t .test .ensures more) (c .enum-told .given .1)))
+          (λ e. rw e (found-right (input (at .before .before .args .kept .now) more) (at .loop .b) (t .test .ensures more) (c .enum-told .given .1)))
           (λ l. at .loop .inv .1 a h l more),
     )
 
 returns-2 : tie.Need-returns-2 Inv-loop μ-loop
-returns-2 c = λ more b h l. c .before .loop .inv .1 b h (omega (arith, c .before .before .demanded .ensures .0)) more
+returns-2 c = λ more b h l. c .before .loop .inv .1 b h (search needs) more
 
 pub further-spec : {M : Type 1} → statement M
 further-spec =
@@ -48,7 +48,6 @@ further-spec =
     (tie.spec
     Inv-loop
     μ-loop
-    (λ c κs. search needs)
     loop-holds
     (λ c κs. search needs)
     (λ c. search needs)
