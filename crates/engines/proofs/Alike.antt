@@ -63,11 +63,13 @@ module _ {s d w : ℕ} {pivot p l u : List ℕ} (h : Replaceable s d pivot p) (a
       ⊎-elim
       (λ (e : bit t j ≡ 1). (
         omega (arith, i .0, count-suc c j, only-some (c j) 1 (some-there j e n), place-suc t j),
-        omega (arith, i .1, targets-suc c j, only-some (c j) (2 ^ j) (some-there j e n), mod-suc t j, ap (λ z. z * 2 ^ j) e)))
+        omega (arith, i .1, targets-suc c j, only-some (c j) (2 ^ j) (some-there j e n), mod-suc t j, ap (λ z. z * 2 ^ j) e),
+      ))
       (λ (f : bit t j ≡ 1 → ⊥).
       let q : bit t j ≡ 0 = omega arith in (
         omega (arith, i .0, count-suc c j, only-none (c j) 1 (none-there j f), place-suc t j),
-        omega (arith, i .1, targets-suc c j, only-none (c j) (2 ^ j) (none-there j f), mod-suc t j, ap (λ z. z * 2 ^ j) q)))
+        omega (arith, i .1, targets-suc c j, only-none (c j) (2 ^ j) (none-there j f), mod-suc t j, ap (λ z. z * 2 ^ j) q),
+      ))
       (same (bit t j) 1)
 
   behind : (j : ℕ) → s < j → (suc (countTo c j) ≡ placeOf t j) × (targetsTo c j + 2 ^ s ≡ t % 2 ^ j)
@@ -80,18 +82,21 @@ module _ {s d w : ℕ} {pivot p l u : List ℕ} (h : Replaceable s d pivot p) (a
       let o : bit t j ≡ 1 = ap (bit t) (sym e) ∙ a .target in
       let g : c j ≡ 0 = ap c (sym e) ∙ own-there in (
         omega (arith, i .0, count-suc c j, only-none (c j) 1 g, place-suc t j),
-        omega (arith, i .1, targets-suc c j, only-none (c j) (2 ^ j) g, mod-suc t j, ap (λ z. z * 2 ^ j) o, ap (λ z. 2 ^ z) e)))
+        omega (arith, i .1, targets-suc c j, only-none (c j) (2 ^ j) g, mod-suc t j, ap (λ z. z * 2 ^ j) o, ap (λ z. 2 ^ z) e),
+      ))
       (λ (m : s < j).
       let i = behind j m in
       let n : j ≡ s → ⊥ = λ e. omega arith in
       ⊎-elim
       (λ (e : bit t j ≡ 1). (
         omega (arith, i .0, count-suc c j, only-some (c j) 1 (some-there j e n), place-suc t j),
-        omega (arith, i .1, targets-suc c j, only-some (c j) (2 ^ j) (some-there j e n), mod-suc t j, ap (λ z. z * 2 ^ j) e)))
+        omega (arith, i .1, targets-suc c j, only-some (c j) (2 ^ j) (some-there j e n), mod-suc t j, ap (λ z. z * 2 ^ j) e),
+      ))
       (λ (f : bit t j ≡ 1 → ⊥).
       let q : bit t j ≡ 0 = omega arith in (
         omega (arith, i .0, count-suc c j, only-none (c j) 1 (none-there j f), place-suc t j),
-        omega (arith, i .1, targets-suc c j, only-none (c j) (2 ^ j) (none-there j f), mod-suc t j, ap (λ z. z * 2 ^ j) q)))
+        omega (arith, i .1, targets-suc c j, only-none (c j) (2 ^ j) (none-there j f), mod-suc t j, ap (λ z. z * 2 ^ j) q),
+      ))
       (same (bit t j) 1))
 
   pub own-target : t < 2 ^ mostStates → 2 ^ s ≤ t
