@@ -1,7 +1,7 @@
 /*
  * The chance that a chain reaches a goal, from the bytes of a chain file; the steps by which it was
- * sought; the chance within so many steps; whether a table is the chance at every state; and the chain
- * file of a chain, from its tables.
+ * sought; an order that is chosen for it; the chance within so many steps; whether a table is the chance
+ * at every state; and the chain file of a chain, from its tables.
  *
  * Link with libegorstream.a.
  */
@@ -91,7 +91,7 @@ extern "C" {
 /* The chain is well formed, but its exact chance was not found. */
 
 /*
- * Numbers on the way grew above 2,147,483,647: ask for bounds, or try another order. The step list
+ * Numbers on the way grew above 2,147,483,647: ask for bounds, or try another order, as egorstream_order chooses it. The step list
  * shows where they grew. Of the modes only EGORSTREAM_MODE_EXACT returns it, and nothing is wrong
  * with the chain.
  */
@@ -219,10 +219,12 @@ struct egorstream_ordered {
  *
  * The file is tested first, then the list's length, where another is
  * EGORSTREAM_MODE_OR_LENGTH_WRONG, then the chain; EGORSTREAM_ORDER_WRONG and EGORSTREAM_NO_FIT never
- * come. A refusal leaves the whole list as it was. The stack of egorstream_chance is enough.
+ * come. A refusal leaves the whole list as it was. The place is a block, a state or the index of an edge,
+ * each from 0, or else 0. The stack of egorstream_chance is enough.
  */
 struct egorstream_ordered egorstream_order(const uint8_t *file, size_t file_length, uint64_t *list,
                                            size_t list_length);
+
 /* What egorstream_within answers: 0, 0 and the parts; or a refusal's number and place, and 0. */
 struct egorstream_reached {
     uint32_t number;
