@@ -46,7 +46,7 @@ extern "C" {
 
 /* What egorstream_chance returns, and the number that the other functions answer. */
 
-/* The answer, the list or the file is written. */
+/* Not refused: the answer, the list or the file is written, or what is returned says it. */
 #define EGORSTREAM_ANSWERED UINT32_C(0)
 
 /* The request is wrong: the caller must be mended. */
