@@ -35,7 +35,7 @@ COMPARED = (*ENTRY, *FLINT, "lapack")
 # How far a double may lie from the chance.
 NEAR = Fraction(1, 10**9)
 # The targets, and the chains that they are for. FLINT's faster way counts.
-FLINT_OVER_BOUNDS = 5
+FLINT_OVER_BOUNDS = 15
 CHAINS_A_SECOND = 50_000
 RETRY, ADDRESS = "retry", "address"
 
