@@ -100,6 +100,7 @@ fn known_answers(tally: &mut Tally) {
             compare_chain(tally, case, &worked.chain, version);
             compare::report_lines(tally, case, &file, worked.lines);
             compare_lists(tally, case, &file, worked.chain.states());
+            compare_orders(tally, case, &file, worked.chain.states());
             compare_steps_within(tally, case, &file);
             compare_check::tables(tally, case, &worked.chain, &file);
         }
@@ -144,6 +145,15 @@ fn compare_lists(tally: &mut Tally, case: Case, file: &[u8], n: usize) {
     }
 }
 
+/// Compares the order that is chosen for a file of n states in lists of every length that matters, and
+/// the file with that order.
+fn compare_orders(tally: &mut Tally, case: Case, file: &[u8], n: usize) {
+    for room in [0, n - 1, n, n + 1] {
+        compare_choice::entry(tally, case, file, room);
+    }
+    compare_choice::program(tally, case, file);
+}
+
 /// Compares the chance of a file within every number of steps that matters, and a line of each kind of
 /// word.
 fn compare_steps_within(tally: &mut Tally, case: Case, file: &[u8]) {
@@ -161,6 +171,7 @@ fn far_too_long(tally: &mut Tally) {
     compare::report(tally, case, &file);
     compare_steps::program(tally, case, &file);
     compare_steps::entry(tally, case, &file, MOST_STATES);
+    compare_orders(tally, case, &file, worked::chains()[0].chain.states());
     compare_within::entry(tally, case, &file, 3);
     compare_within::program(tally, case, &["3".to_string()], &file);
     compare_check::entry(tally, case, &file, &[]);
@@ -228,6 +239,7 @@ fn one_chain_in_many_orders(tally: &mut Tally, seed: u64) {
         random.shuffle(&mut chain.order);
         let version = random.pick(chain.versions());
         let (exact, bounds) = compare_chain(tally, case, &chain, version);
+        compare_steps::entry(tally, case, &file::write(&chain, version), MOST_STATES);
         if let Some((chance, _)) = exact {
             chances.push(chance);
             turns_that_fit.insert(Reach::of(&chain).turns(&chain));
@@ -288,6 +300,7 @@ fn one_grown(tally: &mut Tally, seed: u64) {
     tally.chain(&file);
     compare_lists(tally, case, &file, chain.states());
     compare_steps::program(tally, case, &file);
+    compare_orders(tally, case, &file, chain.states());
 }
 
 /// The words of a number of steps: at times none, or one that says no number.
