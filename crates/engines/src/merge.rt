@@ -71,8 +71,11 @@ pub(crate) fn weights(
     d: u64,
     w: u64,
 ) -> u64
-    requires { ⌜ (weightsAt + ones all ≤ length (now part)) × (d ≤ M) × (w ≤ M) × Columns all (now x) × Columns all (now y) × ((q : ℕ) → weightsAt ≤ q → getD (now part) q 0 ≡ 0) ⌝ }
-    ensures { λ r. ⌜ (r ≡ targetsTo (blend s d w (now (x .entry)) (now (y .entry))) mostStates) × Filled (blend s d w (now (x .entry)) (now (y .entry))) (now (part .entry)) mostStates (now (part .exit)) ⌝ }
+    requires { ⌜ (weightsAt + ones all ≤ length (now part)) × (d ≤ M) × (w ≤ M) × Columns all (now x) × Columns all (now y)
+        × ((q : ℕ) → weightsAt ≤ q → getD (now part) q 0 ≡ 0) ⌝ }
+    ensures { λ r.
+        let c = blend s d w (now (x .entry)) (now (y .entry)) in
+        ⌜ (r ≡ targetsTo c mostStates) × Filled c (now (part .entry)) mostStates (now (part .exit)) ⌝ }
 {
     let mut rest = all;
     let mut targets = 0;

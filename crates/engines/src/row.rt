@@ -148,7 +148,8 @@ fn shift(t: u64) -> u64
 // lacks. A weight that has become 0 is left out.
 fn round(part: &mut [u64], e: usize, t: u64)
     requires { let n = statesOf (now part) in
-        ⌜ (n ≤ mostStates) × Packed n (now part) × (e ≡ endOfPart (now part)) × Summable n (now part) × (t ≡ total n (unpacked n (now part))) × (reward n (unpacked n (now part)) ≡ 0) ⌝ }
+        let r = unpacked n (now part) in
+        ⌜ (n ≤ mostStates) × Packed n (now part) × (e ≡ endOfPart (now part)) × Summable n (now part) × (t ≡ total n r) × (reward n r ≡ 0) ⌝ }
     ensures { λ _.
         let p = now (part .entry) in
         let n = statesOf p in

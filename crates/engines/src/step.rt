@@ -94,7 +94,9 @@ fn renew_row(
     rounding: bool,
 ) -> Settled
     requires { let w = now work in
-        ⌜ (workSize n ≤ length w) × (n ≤ mostStates) × (i < n) × Removable rounding n s d (now pivot) (now y) × Packed n (partAt n w i) × Fit rounding n (rowAt n w i) × Room (width n) (partAt n w i) (now pivot) ⌝ }
+        let z = partAt n w i in
+        ⌜ (workSize n ≤ length w) × (n ≤ mostStates) × (i < n) × Removable rounding n s d (now pivot) (now y) × Packed n z
+        × Fit rounding n (rowAt n w i) × Room (width n) z (now pivot) ⌝ }
     ensures { λ r.
         let w = now (work .entry) in
         let p = unpacked n (now (pivot .entry)) in
