@@ -7,11 +7,14 @@ use crate::file;
 use crate::fraction::Fraction;
 use crate::plan::Plan;
 use crate::product::{self, Call, Reply, Writing, Written};
+use crate::programs;
 use crate::random::Random;
 use crate::refusal::Refusal;
 use crate::report;
 use crate::tables::Tables;
 use crate::tally::{Asked, Case, Tally};
+use std::fmt::Debug;
+use std::io;
 
 /// Bytes before and behind an answer that must stay as they are.
 pub const AROUND: usize = 24;
@@ -136,12 +139,22 @@ pub fn enclosure(tally: &mut Tally, case: Case, file: &[u8], exact: Fraction, bo
     });
 }
 
+/// Holds what a call returned to what it should; `asked` says which call it was.
+pub fn same<T: Debug + PartialEq>(
+    tally: &mut Tally,
+    case: Case,
+    file: &[u8],
+    (told, came): (&T, &io::Result<T>),
+    asked: &str,
+) {
+    tally.check(case, file, came.as_ref().is_ok_and(|came| came == told), || {
+        format!("{asked}: expected {told:?}, came {came:?}")
+    });
+}
+
 /// Runs a program on a file and compares all that it prints, which it hands back.
 pub fn printed(tally: &mut Tally, case: Case, name: &str, file: &[u8], expected: &str) -> String {
-    let came = match product::printed(name, file) {
-        Ok(bytes) => String::from_utf8_lossy(&bytes).into_owned(),
-        Err(error) => format!("nothing: {error}"),
-    };
+    let came = programs::text(programs::printed(name, file));
     tally.check(case, file, came == expected, || {
         format!("{name}: expected {expected:?}, came {came:?}")
     });
@@ -151,7 +164,7 @@ pub fn printed(tally: &mut Tally, case: Case, name: &str, file: &[u8], expected:
 /// Runs `nightchance` and compares its whole report, which it hands back.
 pub fn report(tally: &mut Tally, case: Case, file: &[u8]) -> String {
     let expected = report::of_file(file);
-    let came = printed(tally, case, product::NIGHTCHANCE, file, &expected);
+    let came = printed(tally, case, programs::NIGHTCHANCE, file, &expected);
 
     for line in expected.lines() {
         let words: Vec<&str> = line.split(' ').collect();
@@ -174,10 +187,7 @@ pub fn report(tally: &mut Tally, case: Case, file: &[u8]) -> String {
 pub fn plan(tally: &mut Tally, case: Case, words: &[String]) {
     let plan = Plan::of_words(words);
     let expected = plan.line();
-    let came = match product::plan(words) {
-        Ok(bytes) => String::from_utf8_lossy(&bytes).into_owned(),
-        Err(error) => format!("nothing: {error}"),
-    };
+    let came = programs::text(programs::plan(words));
     tally.check(case, &[], came == expected, || {
         format!("plan {words:?}: expected {expected:?}, came {came:?}")
     });

@@ -3,9 +3,11 @@
 
 use crate::chain::{Chain, M};
 use crate::check::{self, Said, Table};
+use crate::compare;
 use crate::file;
 use crate::live::Reach;
 use crate::product::{self, Checked};
+use crate::programs;
 use crate::random::Random;
 use crate::tally::{Asked, Case, Met, Tally};
 
@@ -26,9 +28,7 @@ pub fn entry(tally: &mut Tally, case: Case, file: &[u8], shares: &[u8]) {
         }
     }
     let came = product::check(file, shares);
-    tally.check(case, file, came.as_ref().is_ok_and(|came| *came == told), || {
-        format!("check of {shares:?}: expected {told:?}, came {came:?}")
-    });
+    compare::same(tally, case, file, (&told, &came), &format!("check of {shares:?}"));
     tally.number(Asked::Check, told.number);
     if let Ok(said) = expected {
         meet(tally, file, shares, said);
@@ -51,10 +51,7 @@ fn meet(tally: &mut Tally, file: &[u8], shares: &[u8], said: Said) {
 /// Runs `checkshares` with this table, or with none, and compares its line.
 pub fn program(tally: &mut Tally, case: Case, file: &[u8], shares: Option<&[u8]>) {
     let expected = check::line(file, shares.unwrap_or(&[]));
-    let came = match product::checked(file, shares) {
-        Ok(bytes) => String::from_utf8_lossy(&bytes).into_owned(),
-        Err(error) => format!("nothing: {error}"),
-    };
+    let came = programs::text(programs::checked(file, shares));
     tally.check(case, file, came == expected, || {
         format!("checkshares of {shares:?}: expected {expected:?}, came {came:?}")
     });

@@ -5,6 +5,7 @@ use crate::compare::{held, AROUND};
 use crate::compare_steps;
 use crate::file;
 use crate::product::{self, Listing, Ordered};
+use crate::programs;
 use crate::random::Random;
 use crate::refusal::Refusal;
 use crate::report;
@@ -77,7 +78,7 @@ pub fn program(tally: &mut Tally, case: Case, file: &[u8]) {
         Ok(reordered) => (reordered, Vec::new()),
         Err(refusal) => (Vec::new(), format!("{}\n", report::refused(refusal)).into_bytes()),
     };
-    let came = product::reordered(file);
+    let came = programs::reordered(file);
     let alike = came.as_ref().is_ok_and(|came| *came == expected);
     tally.check(case, file, alike, || {
         format!(

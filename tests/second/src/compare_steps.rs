@@ -3,6 +3,7 @@
 use crate::compare::{self, held, AROUND};
 use crate::line::Line;
 use crate::product::{self, Listing, Stepped};
+use crate::programs;
 use crate::random::Random;
 use crate::refusal::Refusal;
 use crate::step_list::{self, StepList};
@@ -115,7 +116,7 @@ pub fn program(tally: &mut Tally, case: Case, file: &[u8]) {
 
 /// Runs `nightsteps` and compares all that it prints with a text that is known from elsewhere.
 pub fn text(tally: &mut Tally, case: Case, file: &[u8], expected: &str) {
-    compare::printed(tally, case, product::NIGHTSTEPS, file, expected);
+    compare::printed(tally, case, programs::NIGHTSTEPS, file, expected);
     let last = expected.lines().last().expect("a text has a line");
     let words: Vec<&str> = last.split(' ').collect();
     let number = match words[..] {

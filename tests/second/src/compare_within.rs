@@ -1,10 +1,12 @@
 //! Compares the product's chance within so many steps with this implementation's, through C and
 //! through `nightwithin`.
 
+use crate::compare;
 use crate::figures;
 use crate::file;
 use crate::live::Reach;
 use crate::product::{self, Reached};
+use crate::programs;
 use crate::random::Random;
 use crate::tally::{Asked, Case, Met, Tally};
 use crate::within::{self, MOST_STEPS, PARTS};
@@ -25,9 +27,7 @@ pub fn entry(tally: &mut Tally, case: Case, file: &[u8], steps: u64) {
         }
     }
     let came = product::within(file, steps);
-    tally.check(case, file, came.as_ref().is_ok_and(|came| *came == told), || {
-        format!("within {steps}: expected {told:?}, came {came:?}")
-    });
+    compare::same(tally, case, file, (&told, &came), &format!("within {steps}"));
     tally.number(Asked::Within, told.number);
     if let (Ok(_), Ok(Reached { number: 0, parts, .. })) = (expected, came) {
         held_to(tally, case, file, steps, u64::from(parts));
@@ -59,10 +59,7 @@ fn held_to(tally: &mut Tally, case: Case, file: &[u8], steps: u64, parts: u64) {
 /// Runs `nightwithin` with these words and compares its line.
 pub fn program(tally: &mut Tally, case: Case, words: &[String], file: &[u8]) {
     let expected = within::line(words, file);
-    let came = match product::printed_with(product::NIGHTWITHIN, words, file) {
-        Ok(bytes) => String::from_utf8_lossy(&bytes).into_owned(),
-        Err(error) => format!("nothing: {error}"),
-    };
+    let came = programs::text(programs::printed_with(programs::NIGHTWITHIN, words, file));
     tally.check(case, file, came == expected, || {
         format!("nightwithin {words:?}: expected {expected:?}, came {came:?}")
     });

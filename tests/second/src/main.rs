@@ -16,6 +16,7 @@ mod choice;
 mod compare;
 mod compare_check;
 mod compare_choice;
+mod compare_file;
 mod compare_steps;
 mod compare_within;
 mod damage;
@@ -31,12 +32,14 @@ mod figures;
 mod file;
 mod fraction;
 mod generate;
+mod known;
 mod line;
 mod live;
 mod modular;
 mod natural;
 mod plan;
 mod product;
+mod programs;
 mod random;
 mod refusal;
 mod report;
@@ -63,14 +66,14 @@ fn main() -> ExitCode {
         }
     };
     let programs = [
-        product::NIGHTCHANCE,
-        product::NIGHTSTEPS,
-        product::REORDER,
-        product::NIGHTWITHIN,
-        product::CHECKSHARES,
-        product::PLANCOPIES,
+        programs::NIGHTCHANCE,
+        programs::NIGHTSTEPS,
+        programs::REORDER,
+        programs::NIGHTWITHIN,
+        programs::CHECKSHARES,
+        programs::PLANCOPIES,
     ];
-    for program in programs.map(product::program).into_iter().chain([product::driver()]) {
+    for program in programs.map(programs::program).into_iter().chain([product::driver()]) {
         if !program.is_file() {
             eprintln!("The program {} is missing.", program.display());
             return ExitCode::FAILURE;

@@ -1,25 +1,23 @@
 //! The whole work of a run, cut into units that any thread can take.
 
 use crate::block;
-use crate::chain::{Chain, MOST_STATES};
+use crate::chain::MOST_STATES;
 use crate::compare;
 use crate::compare_check;
 use crate::compare_choice;
+use crate::compare_file;
 use crate::compare_steps;
 use crate::compare_within;
-use crate::damage::{self, Request, DAMAGES, RECORDS_WRONG};
+use crate::damage::{self, DAMAGES, RECORDS_WRONG};
 use crate::damage_lent::{self, LENT_DAMAGES};
-use crate::entry::{Pair, ANSWER, BOUNDS, DEFAULT, EXACT};
-use crate::examples::EXAMPLES;
 use crate::file;
 use crate::generate::{self, FAMILIES};
+use crate::known;
 use crate::live::Reach;
-use crate::plan::{self, Plan};
+use crate::plan;
 use crate::random::Random;
 use crate::tables::Tables;
 use crate::tally::{Asked, Case, Tally};
-use crate::worked;
-use crate::worked_steps;
 use std::collections::HashSet;
 use std::sync::atomic::{AtomicU64, Ordering};
 use std::thread;
@@ -49,7 +47,7 @@ pub const SAMPLE: u64 = 199;
 /// Does one unit in so many, on as many threads as the machine has cores.
 pub fn run(once_in: u64) -> Tally {
     let mut tally = Tally::default();
-    known_answers(&mut tally);
+    known::answers(&mut tally);
     let next = AtomicU64::new(0);
     let threads = thread::available_parallelism().map_or(1, usize::from);
     thread::scope(|scope| {
@@ -90,118 +88,6 @@ fn worker(next: &AtomicU64, once_in: u64) -> Tally {
     }
 }
 
-/// The chains worked by hand and the examples: all the product's answers, and the lines that
-/// document 01, our own working and the examples' script give.
-fn known_answers(tally: &mut Tally) {
-    for (place, worked) in worked::all().into_iter().enumerate() {
-        let case = Case { family: worked.name, seed: place as u64 };
-        for &version in worked.chain.versions() {
-            let file = file::write(&worked.chain, version);
-            compare_chain(tally, case, &worked.chain, version);
-            compare::report_lines(tally, case, &file, worked.lines);
-            compare_lists(tally, case, &file, worked.chain.states());
-            compare_orders(tally, case, &file, worked.chain.states());
-            compare_steps_within(tally, case, &file);
-            compare_check::tables(tally, case, &worked.chain, &file);
-        }
-    }
-    for (place, (family, chain, text)) in worked_steps::all().into_iter().enumerate() {
-        let case = Case { family, seed: place as u64 };
-        for &version in chain.versions() {
-            let file = file::write(&chain, version);
-            compare_steps::text(tally, case, &file, text);
-            compare_lists(tally, case, &file, chain.states());
-        }
-    }
-    for (family, file, lines, text) in EXAMPLES {
-        let case = Case { family, seed: 0 };
-        compare::report_lines(tally, case, file, lines);
-        compare_steps::text(tally, case, file, text);
-        compare_steps_within(tally, case, file);
-        compare_check::tables(
-            tally,
-            case,
-            &file::read(file).expect("an example is a chain file"),
-            file,
-        );
-    }
-    for (line, printed) in plan::KNOWN {
-        let case = Case { family: "known plans", seed: 0 };
-        let words: Vec<String> = line.split(' ').map(str::to_string).collect();
-        tally.check(case, &[], Plan::of_words(&words).line() == format!("{printed}\n"), || {
-            format!("this implementation does not say {printed} of the plan {line}")
-        });
-        compare::plan(tally, case, &words);
-    }
-    let zeros = Case { family: "512 zero bytes", seed: 0 };
-    compare::report_lines(tally, zeros, &[0; 512], &["refused 23 at 0"]);
-    far_too_long(tally);
-}
-
-/// Compares the step lists of a file of n states in lists of every length that matters.
-fn compare_lists(tally: &mut Tally, case: Case, file: &[u8], n: usize) {
-    for room in [0, n - 1, n, n + 1, MOST_STATES, MOST_STATES + 3] {
-        compare_steps::entry(tally, case, file, room);
-    }
-}
-
-/// Compares the order that is chosen for a file of n states in lists of every length that matters, and
-/// the file with that order.
-fn compare_orders(tally: &mut Tally, case: Case, file: &[u8], n: usize) {
-    for room in [0, n - 1, n, n + 1] {
-        compare_choice::entry(tally, case, file, room);
-    }
-    compare_choice::program(tally, case, file);
-}
-
-/// Compares the chance of a file within every number of steps that matters, and a line of each kind of
-/// word.
-fn compare_steps_within(tally: &mut Tally, case: Case, file: &[u8]) {
-    for steps in [0, 1, 2, 3, 24, 1_000, 1_001] {
-        compare_within::entry(tally, case, file, steps);
-    }
-    compare_within::program(tally, case, &["3".to_string()], file);
-}
-
-/// A chain file with 65,536 blocks behind it: in two bytes its block total would be right.
-fn far_too_long(tally: &mut Tally) {
-    let case = Case { family: "65,536 blocks too many", seed: 0 };
-    let mut file = file::write(&worked::chains()[0].chain, 2);
-    file.resize(file.len() + 65_536 * block::LENGTH, 0);
-    compare::report(tally, case, &file);
-    compare_steps::program(tally, case, &file);
-    compare_steps::entry(tally, case, &file, MOST_STATES);
-    compare_orders(tally, case, &file, worked::chains()[0].chain.states());
-    compare_within::entry(tally, case, &file, 3);
-    compare_within::program(tally, case, &["3".to_string()], &file);
-    compare_check::entry(tally, case, &file, &[]);
-    compare_check::program(tally, case, &file, None);
-    let request = Request { file, mode: EXACT, answer_length: ANSWER };
-    compare::entry(tally, case, &request, Asked::EntryOnDamage);
-}
-
-/// Compares every mode on a well-formed chain. Hands back the exact chance and the bounds.
-fn compare_chain(
-    tally: &mut Tally,
-    case: Case,
-    chain: &Chain,
-    version: u8,
-) -> (Option<Pair>, Option<Pair>) {
-    let mut random = Random::new(case.seed);
-    let file = file::write(chain, version);
-    let mut request = Request { file, mode: EXACT, answer_length: ANSWER };
-    let exact = compare::entry(tally, case, &request, Asked::EntryOnChain);
-    request.mode = DEFAULT;
-    request.answer_length = random.between(ANSWER, 3 * ANSWER);
-    compare::entry(tally, case, &request, Asked::EntryOnChain);
-    request.mode = BOUNDS;
-    let bounds = compare::entry(tally, case, &request, Asked::EntryOnChain);
-    if let (Some(exact), Some(bounds)) = (exact, bounds) {
-        compare::enclosure(tally, case, &request.file, exact.0, bounds);
-    }
-    (exact, bounds)
-}
-
 fn one_chain(tally: &mut Tally, seed: u64, place: u64, with_report: bool) {
     let family = FAMILIES[(place % FAMILIES.len() as u64) as usize];
     let case = Case { family: family.0, seed };
@@ -210,7 +96,7 @@ fn one_chain(tally: &mut Tally, seed: u64, place: u64, with_report: bool) {
     let version = damage::any_version(&mut random, &chain);
     let file = file::write(&chain, version);
     tally.chain(&file);
-    compare_chain(tally, case, &chain, version);
+    compare_file::chain(tally, case, &chain, version);
     let tables = Tables::of(&chain);
     compare::writer(tally, case, &tables, buffer_length(&mut random, tables.file_length()));
     compare_steps::entry(tally, case, &file, list_length(&mut random, chain.states()));
@@ -238,7 +124,7 @@ fn one_chain_in_many_orders(tally: &mut Tally, seed: u64) {
     for _ in 0..ORDERS {
         random.shuffle(&mut chain.order);
         let version = random.pick(chain.versions());
-        let (exact, bounds) = compare_chain(tally, case, &chain, version);
+        let (exact, bounds) = compare_file::chain(tally, case, &chain, version);
         compare_steps::entry(tally, case, &file::write(&chain, version), MOST_STATES);
         if let Some((chance, _)) = exact {
             chances.push(chance);
@@ -298,9 +184,9 @@ fn one_grown(tally: &mut Tally, seed: u64) {
     let chain = generate::draw_grown(&mut random);
     let file = file::write(&chain, damage::any_version(&mut random, &chain));
     tally.chain(&file);
-    compare_lists(tally, case, &file, chain.states());
+    compare_file::lists(tally, case, &file, chain.states());
     compare_steps::program(tally, case, &file);
-    compare_orders(tally, case, &file, chain.states());
+    compare_file::orders(tally, case, &file, chain.states());
 }
 
 /// The words of a number of steps: at times none, or one that says no number.

@@ -1,0 +1,82 @@
+//! What is known beforehand: chains worked by hand, the examples, plans, and files that are refused at sight.
+
+use crate::block;
+use crate::chain::MOST_STATES;
+use crate::compare;
+use crate::compare_check;
+use crate::compare_file;
+use crate::compare_steps;
+use crate::compare_within;
+use crate::damage::Request;
+use crate::entry::{ANSWER, EXACT};
+use crate::examples::EXAMPLES;
+use crate::file;
+use crate::plan::{self, Plan};
+use crate::tally::{Asked, Case, Tally};
+use crate::worked;
+use crate::worked_steps;
+
+/// The chains worked by hand and the examples: all the product's answers, and the lines that
+/// document 01, our own working and the examples' script give.
+pub fn answers(tally: &mut Tally) {
+    for (place, worked) in worked::all().into_iter().enumerate() {
+        let case = Case { family: worked.name, seed: place as u64 };
+        for &version in worked.chain.versions() {
+            let file = file::write(&worked.chain, version);
+            compare_file::chain(tally, case, &worked.chain, version);
+            compare::report_lines(tally, case, &file, worked.lines);
+            compare_file::lists(tally, case, &file, worked.chain.states());
+            compare_file::orders(tally, case, &file, worked.chain.states());
+            compare_file::within(tally, case, &file);
+            compare_check::tables(tally, case, &worked.chain, &file);
+        }
+    }
+    for (place, (family, chain, text)) in worked_steps::all().into_iter().enumerate() {
+        let case = Case { family, seed: place as u64 };
+        for &version in chain.versions() {
+            let file = file::write(&chain, version);
+            compare_steps::text(tally, case, &file, text);
+            compare_file::lists(tally, case, &file, chain.states());
+        }
+    }
+    for (family, file, lines, text) in EXAMPLES {
+        let case = Case { family, seed: 0 };
+        compare::report_lines(tally, case, file, lines);
+        compare_steps::text(tally, case, file, text);
+        compare_file::within(tally, case, file);
+        compare_check::tables(
+            tally,
+            case,
+            &file::read(file).expect("an example is a chain file"),
+            file,
+        );
+    }
+    for (line, printed) in plan::KNOWN {
+        let case = Case { family: "known plans", seed: 0 };
+        let words: Vec<String> = line.split(' ').map(str::to_string).collect();
+        tally.check(case, &[], Plan::of_words(&words).line() == format!("{printed}\n"), || {
+            format!("this implementation does not say {printed} of the plan {line}")
+        });
+        compare::plan(tally, case, &words);
+    }
+    let zeros = Case { family: "512 zero bytes", seed: 0 };
+    compare::report_lines(tally, zeros, &[0; 512], &["refused 23 at 0"]);
+    far_too_long(tally);
+}
+
+/// A chain file with 65,536 blocks behind it: in two bytes its block total would be right.
+fn far_too_long(tally: &mut Tally) {
+    let case = Case { family: "65,536 blocks too many", seed: 0 };
+    let mut file = file::write(&worked::chains()[0].chain, 2);
+    file.resize(file.len() + 65_536 * block::LENGTH, 0);
+    compare::report(tally, case, &file);
+    compare_steps::program(tally, case, &file);
+    compare_steps::entry(tally, case, &file, MOST_STATES);
+    compare_file::orders(tally, case, &file, worked::chains()[0].chain.states());
+    compare_within::entry(tally, case, &file, 3);
+    compare_within::program(tally, case, &["3".to_string()], &file);
+    compare_check::entry(tally, case, &file, &[]);
+    compare_check::program(tally, case, &file, None);
+    let request = Request { file, mode: EXACT, answer_length: ANSWER };
+    compare::entry(tally, case, &request, Asked::EntryOnDamage);
+}

@@ -1,0 +1,123 @@
+//! The product's programs. All that the product is made of is x86-64 code, so all is run as processes,
+//! in the way that a script knows for this machine.
+
+use std::env;
+use std::fs;
+use std::io::{self, Write};
+use std::path::{Path, PathBuf};
+use std::process::{self, Child, Command, Stdio};
+use std::sync::atomic::{AtomicU64, Ordering};
+use std::sync::LazyLock;
+
+/// A path below the repository's root.
+pub fn below_root(path: &str) -> PathBuf {
+    Path::new(env!("CARGO_MANIFEST_DIR")).join("../..").join(path)
+}
+
+/// The programs that read a chain file.
+pub const NIGHTCHANCE: &str = "nightchance";
+pub const NIGHTSTEPS: &str = "nightsteps";
+pub const REORDER: &str = "reorder";
+/// The program that is given a number of steps too.
+pub const NIGHTWITHIN: &str = "nightwithin";
+/// The program that is given a table in its working folder too.
+pub const CHECKSHARES: &str = "checkshares";
+/// The program that is given a plan.
+pub const PLANCOPIES: &str = "plancopies";
+
+/// Where a program is.
+pub fn program(name: &str) -> PathBuf {
+    below_root("target/bin").join(name)
+}
+
+/// The words before a program that run x86-64 code here. The script is asked once: it costs a third
+/// of a report.
+static WAY: LazyLock<Vec<String>> = LazyLock::new(|| {
+    let mut script = Command::new(below_root("tests/x86-64"));
+    let output = script.arg("how").stderr(Stdio::inherit()).output();
+    let output = output.expect("the script that knows how x86-64 programs are run starts");
+    assert!(output.status.success(), "tests/x86-64 how ended with {}", output.status);
+    let words = String::from_utf8(output.stdout).expect("the words are UTF-8");
+    words.lines().map(str::to_string).collect()
+});
+
+/// Starts a program with words.
+pub fn start(program: &Path, words: &[String]) -> Child {
+    start_in(Path::new("."), program, words, Stdio::inherit())
+}
+
+/// The same in a working folder, and with a place for what it complains of.
+fn start_in(folder: &Path, program: &Path, words: &[String], complaints: Stdio) -> Child {
+    let mut command = match WAY.split_first() {
+        None => Command::new(program),
+        Some((runner, words)) => {
+            let mut command = Command::new(runner);
+            command.args(words).arg(program);
+            command
+        }
+    };
+    command.args(words).current_dir(folder);
+    command.stdin(Stdio::piped()).stdout(Stdio::piped()).stderr(complaints);
+    command.spawn().unwrap_or_else(|error| panic!("{command:?} does not start: {error}"))
+}
+
+/// What `reorder` writes to standard output and to standard error for this file.
+pub fn reordered(file: &[u8]) -> io::Result<(Vec<u8>, Vec<u8>)> {
+    let mut child = start_in(Path::new("."), &program(REORDER), &[], Stdio::piped());
+    let _ = child.stdin.take().expect("it is piped").write_all(file);
+    let output = child.wait_with_output()?;
+    Ok((output.stdout, output.stderr))
+}
+
+/// What `checkshares` prints for this file, in a working folder of its own with this table or none.
+pub fn checked(file: &[u8], shares: Option<&[u8]>) -> io::Result<Vec<u8>> {
+    static FOLDERS: AtomicU64 = AtomicU64::new(0);
+    let place = FOLDERS.fetch_add(1, Ordering::Relaxed);
+    let folder = env::temp_dir().join(format!("second-{}-{place}", process::id()));
+    fs::create_dir(&folder)?;
+    if let Some(shares) = shares {
+        fs::write(folder.join("shares"), shares)?;
+    }
+    let printed = printed_by(start_in(&folder, &program(CHECKSHARES), &[], Stdio::inherit()), file);
+    fs::remove_dir_all(&folder)?;
+    printed
+}
+
+/// What a program prints for this file on its standard input.
+pub fn printed(name: &str, file: &[u8]) -> io::Result<Vec<u8>> {
+    printed_with(name, &[], file)
+}
+
+/// The same of a program that is given words.
+pub fn printed_with(name: &str, words: &[String], file: &[u8]) -> io::Result<Vec<u8>> {
+    printed_by(start(&program(name), words), file)
+}
+
+/// What a program that was started prints for this file on its standard input.
+fn printed_by(mut child: Child, file: &[u8]) -> io::Result<Vec<u8>> {
+    // A program that stops reading early shows in its report; that the pipe broke is no more news.
+    let _ = child.stdin.take().expect("it is piped").write_all(file);
+    all_of(child)
+}
+
+/// What `plancopies` prints for these words.
+pub fn plan(words: &[String]) -> io::Result<Vec<u8>> {
+    all_of(start(&program(PLANCOPIES), words))
+}
+
+/// All that a program prints until it ends.
+fn all_of(child: Child) -> io::Result<Vec<u8>> {
+    let output = child.wait_with_output()?;
+    if !output.status.success() {
+        return Err(io::Error::other(format!("it ended with {}", output.status)));
+    }
+    Ok(output.stdout)
+}
+
+/// What a program printed as text, or why it printed nothing.
+pub fn text(printed: io::Result<Vec<u8>>) -> String {
+    match printed {
+        Ok(bytes) => String::from_utf8_lossy(&bytes).into_owned(),
+        Err(error) => format!("nothing: {error}"),
+    }
+}
