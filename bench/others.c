@@ -2,7 +2,8 @@
  * Times what a user would pick in place of the C entry, on the same chain files: FLINT's exact
  * solvers (built with -DWITH_FLINT) and LAPACK's solver in doubles (built with -DWITH_LAPACK).
  *
- *     others FILE ..   two lines a solver and file, for bench/table.py
+ *     others FILE ..                  two lines a solver and file, for bench/table.py
+ *     others calls N dixon|size FILE  only makes N calls of FLINT, from the file's bytes on, for a profiler
  */
 #include "equations.h"
 
@@ -113,6 +114,18 @@ static void time_flint(const struct bench_file *file, const char *what, bench_ca
     flint_free(chance);
     fmpq_clear(work.chance);
 }
+
+static void only_call(const struct bench_file *file, const char *way, unsigned long calls)
+{
+    static struct flint_work work;
+    work.file = file;
+    work.solve = strcmp(way, "dixon") == 0 ? flint_dixon : flint_by_size;
+    fmpq_init(work.chance);
+    for (unsigned long call = 0; call < calls; call++) {
+        flint_from_file(&work);
+    }
+    fmpq_clear(work.chance);
+}
 #endif
 
 #ifdef WITH_LAPACK
@@ -167,9 +180,16 @@ int main(int argc, char **argv)
 {
     static struct bench_file file;
     if (argc < 2) {
-        fprintf(stderr, "usage: others FILE ..\n");
+        fprintf(stderr, "usage: others FILE .. | others calls N dixon|size FILE\n");
         return EXIT_FAILURE;
     }
+#ifdef WITH_FLINT
+    if (argc == 5 && strcmp(argv[1], "calls") == 0) {
+        bench_read(&file, argv[4]);
+        only_call(&file, argv[3], strtoul(argv[2], NULL, 10));
+        return EXIT_SUCCESS;
+    }
+#endif
     for (int i = 1; i < argc; i++) {
         bench_read(&file, argv[i]);
 #ifdef WITH_FLINT

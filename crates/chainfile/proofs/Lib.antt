@@ -6,6 +6,7 @@ pub mod Tested
 pub mod Filling
 pub mod Flags
 pub mod Saving
+pub mod Opening
 pub mod Steps
 pub mod Storing
 pub mod Unique

@@ -9,7 +9,7 @@ use native.Mathlib.Numerals.{add-one}
 use lib.ListN.{length, getD, set, replicate, length-set, length-replicate}
 use lib.Seq.{getD-set-same, getD-set-other}
 use Rattle.meaning.specs.Number.{sumTo, only, tabFrom, filled}
-use Rattle.meaning.specs.Chain.{mostEdges, edgeSize, edge, edgeNumber, from, to, weight, edgeReward}
+use Rattle.meaning.specs.Chain.{edgeSize, edge, edgeNumber, from, to, weight, edgeReward}
 use Rattle.meaning.specs.Block.{Input, stateBlocks, demanded, headEdges}
 use Rattle.meaning.specs.File.{mostBlocks, denominatorsIn, rewardsIn, ordersIn, edgeIn, Tables, filledIn}
 use Rattle.meaning.specs.Salvage.{edgeKept, keptEdges, keptBefore, leftTables, verdict}
@@ -119,7 +119,7 @@ module _ (f : Input) (lost before : List ℕ) where
   kept-same : (e : ℕ) → edgeKept f v e ≡ false → keptBefore f v (e + 1) ≡ keptBefore f v e
   kept-same e q = sum-next (λ d. only (edgeKept f v d) 1) e (e + 1) (add-one e) ∙ rw q (omega arith)
 
-  module _ (room : edgeSize * mostEdges ≤ length before) (few : headEdges f ≤ mostEdges) where
+  module _ (room : edgeSize * headEdges f ≤ length before) where
     pub more-kept : {e k next : ℕ} {table after : List ℕ} → KeptTo f v before e k table → e < headEdges f → EdgeSet f lost e k table after next
         → KeptTo f v before (e + 1) next after
     more-kept {e} {k} {next} {table} {after} w h (EdgeSet.skipped q same stays) =

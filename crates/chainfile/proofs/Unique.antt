@@ -4,7 +4,7 @@ use mathlib.Core.Path.{_≡_, ap, ap₂}
 use mathlib.Core.List.{List}
 use native.Mathlib.Omega.{arith}
 use Rattle.meaning.specs.Block.{Input}
-use Rattle.meaning.specs.File.{Tables, Reading as Answer, ReadOutcome}
+use Rattle.meaning.specs.File.{Tables, Reading as Answer, noReading, ReadOutcome}
 use Rattle.meaning.specs.Salvage.{Salvage, SalvageOutcome}
 use Rattle.theory.specs.Files.FileOne.{file-numbers, read-one}
 use Rattle.theory.specs.Files.Opened.{front-file}
@@ -14,8 +14,9 @@ use Rattle.chain.proofs.Unique.{framed}
 use Rattle.chainfile.specs.declared.Reading.{Reading}
 use Rattle.chainfile.specs.declared.Reading.the-variants.{Chain, Refused}
 use Rattle.chainfile.specs.declared.Left.{Left}
-use Rattle.chainfile.specs.Tells.{told, toldLeft}
+use Rattle.chainfile.specs.Tells.{OpenOutcome, told, toldLeft}
 use Rattle.theory.specs.Files.Right.{bounded}
+use Rattle.chainfile.proofs.Opening.{open-one}
 
 -- A chain has states, and a refusal a number.
 proper : Reading → Type 0
@@ -29,16 +30,25 @@ module _ {a b : Answer} (e : a ≡ b) where
   states : a .states ≡ b .states
   states = ap (λ (a : Answer). a .states) e
 
-is-proper : (f : Input) (t after : Tables) (r : Reading) → ReadOutcome f t (told r) after → proper r
+proper-refused : (r : Reading) {n p : ℕ} → 0 < n → told r ≡ noReading n p → proper r
 unfolding proper
-is-proper f t after (Chain c edges) (ReadOutcome.short s e d) = absurd (omega (arith, number e))
-is-proper f t after (Chain c edges) (ReadOutcome.refused s n p w e d) = absurd (omega (arith, number e, file-numbers w))
-is-proper f t after (Chain c edges) (ReadOutcome.accepted s w e d) =
-    omega (arith, states e, bounded f (w .blocks 0 (omega arith)))
-is-proper f t after (Refused n p) (ReadOutcome.short s e d) = omega (arith, number e)
-is-proper f t after (Refused n p) (ReadOutcome.refused s n′ p′ w e d) = omega (arith, number e, file-numbers w)
-is-proper f t after (Refused n p) (ReadOutcome.accepted s w e d) =
-    absurd (omega (arith, states e, bounded f (w .blocks 0 (omega arith))))
+proper-refused (Chain c edges) h e = absurd (omega (arith, number e))
+proper-refused (Refused n p) h e = omega (arith, number e)
+
+proper-read : (r : Reading) {a : Answer} → 0 < a .states → told r ≡ a → proper r
+unfolding proper
+proper-read (Chain c edges) h e = omega (arith, states e)
+proper-read (Refused n p) h e = absurd (omega (arith, states e))
+
+is-proper : (f : Input) (t after : Tables) (r : Reading) → ReadOutcome f t (told r) after → proper r
+is-proper f t after r (ReadOutcome.short s e d) = proper-refused r (omega arith) e
+is-proper f t after r (ReadOutcome.refused s n p w e d) = proper-refused r (omega (arith, file-numbers w)) e
+is-proper f t after r (ReadOutcome.accepted s w e d) = proper-read r (bounded f (w .blocks 0 (omega arith)) .some-states) e
+
+open-proper : (f : Input) (t after : Tables) (r : Reading) → OpenOutcome f t (told r) after → proper r
+open-proper f t after r (OpenOutcome.refused n p w e d) = proper-refused r (omega (arith, file-numbers w)) e
+open-proper f t after r (OpenOutcome.narrow w s e d) = proper-refused r (omega arith) e
+open-proper f t after r (OpenOutcome.accepted w s e d) = proper-read r (bounded f (w .blocks 0 (omega arith)) .some-states) e
 
 -- An answer's numbers determine its case.
 told-one : (r r′ : Reading) → proper r → proper r′ → told r ≡ told r′ → r ≡ r′
@@ -57,22 +67,19 @@ unique f t after after′ r r′ o o′ =
     let e = read-one o o′ in
     (told-one r r′ (is-proper f t after r o) (is-proper f t after′ r′ o′) (e .0), e .1)
 
+pub open-unique : (f : Input) (t after after′ : Tables) (r r′ : Reading) → OpenOutcome f t (told r) after → OpenOutcome f t (told r′) after′
+    → (r ≡ r′) × (after ≡ after′)
+open-unique f t after after′ r r′ o o′ =
+    let e = open-one o o′ in
+    (told-one r r′ (open-proper f t after r o) (open-proper f t after′ r′ o′) (e .0), e .1)
+
 -- So does what the salvaging reader promises.
-module _ {a b : Salvage} (e : a ≡ b) where
-  numbers : a .reading .number ≡ b .reading .number
-  numbers = ap (λ (a : Salvage). a .reading .number) e
-
-  chains : a .reading .states ≡ b .reading .states
-  chains = ap (λ (a : Salvage). a .reading .states) e
-
 left-proper : (f : Input) (t after : Tables) (r : Reading) (lost : List ℕ) → SalvageOutcome f t (record { reading = told r; lost = lost }) after → proper r
-unfolding proper
-left-proper f t after (Chain c edges) lost (SalvageOutcome.short s e d) = absurd (omega (arith, numbers e))
-left-proper f t after (Chain c edges) lost (SalvageOutcome.refused s n p w e d) = absurd (omega (arith, numbers e, file-numbers (front-file w)))
-left-proper f t after (Chain c edges) lost (SalvageOutcome.opened s l h o e d) = omega (arith, chains e, bounded f (o .front 0 (omega arith)))
-left-proper f t after (Refused n p) lost (SalvageOutcome.short s e d) = omega (arith, numbers e)
-left-proper f t after (Refused n p) lost (SalvageOutcome.refused s n′ p′ w e d) = omega (arith, numbers e, file-numbers (front-file w))
-left-proper f t after (Refused n p) lost (SalvageOutcome.opened s l h o e d) = absurd (omega (arith, chains e, bounded f (o .front 0 (omega arith))))
+left-proper f t after r lost (SalvageOutcome.short s e d) = proper-refused r (omega arith) (ap (λ (a : Salvage). a .reading) e)
+left-proper f t after r lost (SalvageOutcome.refused s n p w e d) =
+    proper-refused r (omega (arith, file-numbers (front-file w))) (ap (λ (a : Salvage). a .reading) e)
+left-proper f t after r lost (SalvageOutcome.opened s l h o e d) =
+    proper-read r (bounded f (o .front 0 (omega arith)) .some-states) (ap (λ (a : Salvage). a .reading) e)
 
 pub left-unique : (f : Input) (t after after′ : Tables) (r r′ : Left) → SalvageOutcome f t (toldLeft r) after → SalvageOutcome f t (toldLeft r′) after′
     → (r ≡ r′) × (after ≡ after′)

@@ -5,12 +5,12 @@ ghost use lib.ListN.{length};
 ghost use Rattle.meaning.specs.Number.{tabFrom, filled};
 ghost use Rattle.meaning.specs.Chain.{mostEdges, edgeSize};
 ghost use Rattle.meaning.specs.Block.{numberAt, recordSize, fullBlock, headStates, headEdges, stateBlocks, recordAt, stateAt};
-ghost use Rattle.meaning.specs.File.{ShortOf, Short, mostBlocks, edgeIn, goalsIn};
+ghost use Rattle.meaning.specs.File.{ShortOf, mostBlocks, edgeIn, goalsIn};
 ghost use Rattle.meaning.specs.Salvage.{keptEdges, keptBefore, leftTables, verdict};
 ghost use Rattle.meaning.specs.Number.{decides};
 ghost use Rattle.chain.specs.Edge.{placed};
 ghost use Rattle.chainfile.specs.Input.{input, end};
-ghost use Rattle.chainfile.specs.Tells.{Within, EdgeSet, tables};
+ghost use Rattle.chainfile.specs.Tells.{Within, ShortFor, Narrow, EdgeSet, tables};
 use crate::bytes;
 use crate::head;
 use crate::layout;
@@ -18,23 +18,45 @@ use chain::Chain;
 use chain::edge;
 use chain::table;
 
+// 2: a table is shorter than a chain of so many states and so many edges needs.
+pub(crate) fn short_for(
+    states: usize,
+    count: usize,
+    denominators: usize,
+    edges: usize,
+    order: usize,
+    rewards: usize,
+) -> bool
+    requires { ⌜ count < 65536 ⌝ }
+    ensures { λ r. ⌜ decides (ShortFor states count denominators edges order rewards) r ⌝ }
+{
+    if denominators < states {
+        return true;
+    }
+    if edges < edge::SIZE * count {
+        return true;
+    }
+    if order < states {
+        return true;
+    }
+    if rewards < states {
+        return true;
+    }
+    false
+}
+
 // 2: a table is shorter than the largest chain needs.
 pub(crate) fn short(denominators: usize, edges: usize, order: usize, rewards: usize) -> bool
     ensures { λ r. ⌜ decides (ShortOf denominators edges order rewards) r ⌝ }
 {
-    if denominators < Chain::STATES {
-        return true;
-    }
-    if edges < edge::MOST {
-        return true;
-    }
-    if order < Chain::STATES {
-        return true;
-    }
-    if rewards < Chain::STATES {
-        return true;
-    }
-    false
+    short_for(
+        Chain::STATES,
+        Chain::EDGES,
+        denominators,
+        edges,
+        order,
+        rewards,
+    )
 }
 
 // Where record i of a kind begins whose first block is b.
@@ -104,7 +126,7 @@ fn keep(kept: &[u8], lost: &[u64], first: usize, e: usize, table: &mut [u64], k:
 // The kept edges, a record each. Answers how many.
 fn edge_numbers(kept: &[u8], lost: &[u64], table: &mut [u64]) -> usize
     requires { ⌜ Within (input (now kept) 0) ⌝ }
-    requires { ⌜ edgeSize * mostEdges ≤ length (now table) ⌝ }
+    requires { ⌜ edgeSize * headEdges (input (now kept) 0) ≤ length (now table) ⌝ }
     ensures { λ r.
         let f = input (now (kept .entry)) 0 in
         let v = verdict (now (lost .entry)) in
@@ -131,7 +153,7 @@ pub(crate) fn tables(
     rewards: &mut [u64],
 ) -> usize
     requires { ⌜ Within (input (now kept) 0) ⌝ }
-    requires { ⌜ (Short (tables (now denominators) (now edges) (now order) (now rewards)) → ⊥) ⌝ }
+    requires { ⌜ (Narrow (input (now kept) 0) (tables (now denominators) (now edges) (now order) (now rewards)) → ⊥) ⌝ }
     ensures { λ r.
         let f = input (now (kept .entry)) 0 in
         let v = verdict (now (lost .entry)) in

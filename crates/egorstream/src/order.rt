@@ -42,7 +42,7 @@ pub extern "C" fn egorstream_order(file: &[u8], list: &mut [u64]) -> Ordered
     let mut edges = [0u64; edge::MOST];
     let mut order = [0u64; Chain::STATES];
     let mut rewards = [0u64; Chain::STATES];
-    match chainfile::read(
+    match chainfile::open_file(
         file,
         0,
         &mut denominators,

@@ -9,15 +9,15 @@ use lib.Seq.{take-at}
 use Rattle.meaning.specs.Number.{tabFrom, filled}
 use Rattle.meaning.specs.Chain.{mostStates, mostEdges, edgeSize, edgeNumber}
 use Rattle.meaning.specs.Refusal.{workSize}
-use Rattle.meaning.specs.Block.{Input, headEdges, denominatorIn, rewardIn, orderIn}
-use Rattle.meaning.specs.File.{FileRefused, edgeIn, Tables, Short, Reading as Numbers, reading, ReadOutcome}
+use Rattle.meaning.specs.Block.{Input, inputLength, blockSize, fullBlock, demanded, headEdges, denominatorIn, rewardIn, orderIn}
+use Rattle.meaning.specs.File.{FileRefused, Accepted, edgeIn, Tables, Reading as Numbers, reading}
 use Rattle.theory.specs.Files.FileOne.{file-numbers}
 use Rattle.theory.specs.Numbers.Tab.{tab-length}
 use Rattle.chain.specs.declared.Chain.{Chain as Frame}
-use Rattle.chainfile.specs.Tells.{told, tables}
+use Rattle.chainfile.specs.Tells.{Narrow, OpenOutcome, told, tables}
 use Rattle.chainfile.specs.declared.Reading.{Reading}
 use Rattle.chainfile.specs.declared.Reading.the-variants.{Chain, Refused}
-use Rattle.theory.specs.Files.Right.{bounded}
+use Rattle.theory.specs.Files.Right.{stable, bounded}
 use Rattle.figures.specs.Found.{Holds}
 
 module _ {a b : Numbers} (e : a ≡ b) where
@@ -49,29 +49,43 @@ pub record Opened (f : Input) (c : Frame) (count : ℕ) (t : Tables) : Type 0 wh
   pub rewards : c .states ≤ length (t .rewards)
   pub holds : Holds f c (take (c .states) (t .denominators)) (take (edgeSize * count) (t .edges)) (take (c .states) (t .order)) (take (c .states) (t .rewards))
 
--- Tables that are made at the largest chain's size are not short.
-abbrev made : Tables
-made = tables (replicate mostStates 0) (replicate (edgeSize * mostEdges) 0) (replicate mostStates 0) (replicate mostStates 0)
+-- The tables that are made, with an edge table of their own.
+abbrev made : List ℕ → Tables
+made edges = tables (replicate mostStates 0) edges (replicate mostStates 0) (replicate mostStates 0)
 
-pub room : Short made → ⊥
-room s =
-    let states = length-replicate {A = ℕ} mostStates 0 in
-    let edges = length-replicate {A = ℕ} (edgeSize * mostEdges) 0 in
+-- An edge table that holds what the file may have.
+abbrev pub Fits : Input → List ℕ → Type 0
+Fits f edges = Accepted f → edgeSize * headEdges f ≤ length edges
+
+pub largest : (f : Input) → Fits f (replicate (edgeSize * mostEdges) 0)
+largest f w = omega (arith, length-replicate {A = ℕ} (edgeSize * mostEdges) 0, bounded f (w .blocks 0 (omega arith)))
+
+-- A file of four blocks has a head, a block of states or more, and so two of edges at most.
+pub small : (f : Input) → inputLength f ≤ 4 * blockSize → Fits f (replicate (edgeSize * (2 * fullBlock)) 0)
+small f h w =
+    let total : inputLength f ≡ blockSize * demanded f = stable _ _ (w .total) in
+    omega (arith, total, length-replicate {A = ℕ} (edgeSize * (2 * fullBlock)) 0, bounded f (w .blocks 0 (omega arith)))
+
+pub room : (f : Input) (edges : List ℕ) → Fits f edges → Accepted f → Narrow f (made edges) → ⊥
+room f edges fits w s =
+    let size = length-replicate {A = ℕ} mostStates 0 in
+    let b = bounded f (w .blocks 0 (omega arith)) in
+    let e = fits w in
     ⊎-elim (λ h. omega arith) (⊎-elim (λ h. omega arith) (⊎-elim (λ h. omega arith) (λ h. omega arith))) s
 
-module _ {f : Input} {t after : Tables} (room : Short t → ⊥) where
-  pub file-refused : {r : Reading} {n p : ℕ} → ReadOutcome f t (told r) after → r ≡ Refused n p → FileRefused f n p
-  file-refused (ReadOutcome.short s e d) q = absurd (room s)
-  file-refused {p = p} (ReadOutcome.refused s n′ p′ w e d) q =
+module _ {f : Input} {edges : List ℕ} {after : Tables} (fits : Fits f edges) where
+  pub file-refused : {r : Reading} {n p : ℕ} → OpenOutcome f (made edges) (told r) after → r ≡ Refused n p → FileRefused f n p
+  file-refused (OpenOutcome.narrow w s e d) q = absurd (room f edges fits w s)
+  file-refused {p = p} (OpenOutcome.refused n′ p′ w e d) q =
       let z = sym (ap told q) ∙ e in
       subst (λ n. FileRefused f n p) (sym (number z)) (subst (λ p. FileRefused f n′ p) (sym (place z)) w)
-  file-refused (ReadOutcome.accepted s w e d) q =
+  file-refused (OpenOutcome.accepted w s e d) q =
       absurd (omega (arith, states (sym (ap told q) ∙ e), bounded f (w .blocks 0 (omega arith))))
 
-  pub file-opened : {r : Reading} {c : Frame} {count : ℕ} → ReadOutcome f t (told r) after → r ≡ Chain c count → Opened f c count after
-  file-opened (ReadOutcome.short s e d) q = absurd (room s)
-  file-opened (ReadOutcome.refused s n p w e d) q = absurd (omega (arith, number (sym (ap told q) ∙ e), file-numbers w))
-  file-opened {c = c} {count} (ReadOutcome.accepted s w e d) q =
+  pub file-opened : {r : Reading} {c : Frame} {count : ℕ} → OpenOutcome f (made edges) (told r) after → r ≡ Chain c count → Opened f c count after
+  file-opened (OpenOutcome.narrow w s e d) q = absurd (room f edges fits w s)
+  file-opened (OpenOutcome.refused n p w e d) q = absurd (omega (arith, number (sym (ap told q) ∙ e), file-numbers w))
+  file-opened {c = c} {count} (OpenOutcome.accepted w s e d) q =
       let z : told (Chain c count) ≡ reading f = sym (ap told q) ∙ e in
       let sn = states z in
       let en : count ≡ headEdges f = ap (λ (a : Numbers). a .edges) z in

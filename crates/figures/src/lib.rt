@@ -1,4 +1,10 @@
 // The figures of the chain in a file, its step list, its chance within so many steps, and what is said of a table that is sent for it.
+ghost use Prim.Native.Nat.{_+_, _*_, _≤_, _<_};
+ghost use lib.ListN.{length};
+ghost use Rattle.meaning.specs.Number.{decides};
+ghost use Rattle.meaning.specs.Chain.{edgeSize};
+ghost use Rattle.meaning.specs.Block.{blockSize, headEdges};
+ghost use Rattle.meaning.specs.File.{Accepted};
 ghost use Rattle.meaning.specs.Judge.{FileJudged};
 ghost use Rattle.chainfile.specs.Input.{input};
 ghost use Rattle.equations.specs.Judge.{told};
@@ -8,6 +14,7 @@ ghost use Rattle.figures.specs.Within.{FileWithins};
 use chain::Chain;
 use chain::edge;
 use chainfile::Reading;
+use chainfile::layout;
 use engines::answer::Trace;
 use equations::Parts;
 use equations::Verdict;
@@ -28,19 +35,37 @@ pub enum Question {
     Report,
 }
 
-// Opens the chain file of which `kept` holds the first bytes and `more` counts the others, with tables of its own, and answers the question.
-pub fn ask(kept: &[u8], more: u64, question: Question) -> Figures
+// The bytes of the longest file of four blocks, and the edge table that it may need: beside a head and states it has two blocks of edges at most.
+const SHORT: usize = 4 * layout::BLOCK;
+
+const FEW: usize = edge::SIZE * (2 * layout::FULL);
+
+fn long(length: usize, more: u64) -> bool
+    ensures { λ r. ⌜ decides (4 * blockSize < length + more) r ⌝ }
+{
+    if SHORT < length {
+        return true;
+    }
+    if ((SHORT - length) as u64) < more {
+        return true;
+    }
+    false
+}
+
+// Opens the chain file of which `kept` holds the first bytes and `more` counts the others, with an edge table that holds what it may have, and answers
+// the question.
+fn asked(kept: &[u8], more: u64, question: Question, edges: &mut [u64]) -> Figures
+    requires { ⌜ (Accepted (input (now kept) more) → edgeSize * headEdges (input (now kept) more) ≤ length (now edges)) ⌝ }
     ensures { λ r. ⌜ FiguresOutcome (input (now (kept .entry)) more) question r ⌝ }
 {
     let mut denominators = [0u64; Chain::STATES];
-    let mut edges = [0u64; edge::MOST];
     let mut order = [0u64; Chain::STATES];
     let mut rewards = [0u64; Chain::STATES];
-    match chainfile::read(
+    match chainfile::open_file(
         kept,
         more,
         &mut denominators,
-        &mut edges,
+        edges,
         &mut order,
         &mut rewards,
     ) {
@@ -63,6 +88,18 @@ pub fn ask(kept: &[u8], more: u64, question: Question) -> Figures
     }
 }
 
+// Opens it with tables of its own. To make the largest edge table zero costs as much as the rest of a short file's call, so that it gets a small one.
+pub fn ask(kept: &[u8], more: u64, question: Question) -> Figures
+    ensures { λ r. ⌜ FiguresOutcome (input (now (kept .entry)) more) question r ⌝ }
+{
+    if long(kept.len(), more) {
+        let mut edges = [0u64; edge::MOST];
+        return asked(kept, more, question, &mut edges);
+    }
+    let mut edges = [0u64; FEW];
+    asked(kept, more, question, &mut edges)
+}
+
 // Opens the file in the same way, and answers its chance and its step list by value, for a caller who has room for so many records.
 pub fn steps(kept: &[u8], more: u64, list: usize) -> Trace
     ensures { λ r. ⌜ FileTraced (input (now (kept .entry)) more) list r ⌝ }
@@ -71,7 +108,7 @@ pub fn steps(kept: &[u8], more: u64, list: usize) -> Trace
     let mut edges = [0u64; edge::MOST];
     let mut order = [0u64; Chain::STATES];
     let mut rewards = [0u64; Chain::STATES];
-    match chainfile::read(
+    match chainfile::open_file(
         kept,
         more,
         &mut denominators,
@@ -105,7 +142,7 @@ pub fn within(kept: &[u8], more: u64, steps: u64) -> Parts
     let mut edges = [0u64; edge::MOST];
     let mut order = [0u64; Chain::STATES];
     let mut rewards = [0u64; Chain::STATES];
-    match chainfile::read(
+    match chainfile::open_file(
         kept,
         more,
         &mut denominators,
@@ -133,7 +170,7 @@ pub fn check(kept: &[u8], more: u64, shares: &[u8]) -> Verdict
     let mut edges = [0u64; edge::MOST];
     let mut order = [0u64; Chain::STATES];
     let mut rewards = [0u64; Chain::STATES];
-    match chainfile::read(
+    match chainfile::open_file(
         kept,
         more,
         &mut denominators,

@@ -52,7 +52,7 @@ pub fn reorder(kept: &[u8], more: u64, buffer: &mut [u8]) -> Writing
     let mut edges = [0u64; edge::MOST];
     let mut order = [0u64; Chain::STATES];
     let mut rewards = [0u64; Chain::STATES];
-    match chainfile::read(
+    match chainfile::open_file(
         kept,
         more,
         &mut denominators,

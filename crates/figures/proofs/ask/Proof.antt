@@ -1,94 +1,34 @@
-use mathlib.Core.Path.{sym}
+use Prim.Native.Nat.{_*_, _<_}
 use native.Mathlib.Omega.{arith}
-use lib.Seq.{length-take-le}
 use borrow.Author.Needs.{needs}
-use Rattle.meaning.specs.Block.{Input}
-use Rattle.meaning.specs.File.{FileRefused, Tables}
+use Rattle.meaning.specs.Block.{Input, inputLength, blockSize}
+use Rattle.theory.specs.Numbers.Decide.{fails}
 use Rattle.chainfile.specs.Input.{input}
-use Rattle.chainfile.specs.Tells.{tables}
-use Rattle.figures.specs.Found.{FiguresOutcome}
-use Rattle.figures.proofs.Opened.{Opened, room, file-refused, file-opened}
+use Rattle.figures.proofs.Opened.{largest, small}
 use Rattle.figures.proofs.ask.Statement.{statement}
 use Rattle.figures.proofs.ask.Tie as tie
-
-abbrev start : tie.After-read → tie.Start
-start r = r .before .before .before .before .before .before
 
 abbrev f : tie.Start → Input
 f s = input (s .args .kept .now) (s .args .more)
 
-abbrev after : tie.After-read → Tables
-after r = let t = r .read .last .1 .1 in tables (t .0) (t .1 .0) (t .1 .1 .0) (t .1 .1 .1 .0)
+asked-requires : tie.Need-asked-requires
+asked-requires c κs = largest _
 
--- Where the file was read, before each of the two cases.
-abbrev accepted-at : tie.After-known-told2 → tie.After-read
-accepted-at c = c .before .before .before .before .before .before .before
-
-abbrev refused-at : tie.After-known-told → tie.After-read
-refused-at c = c .before .before .before .before .before .before .before
-
-opening : (c : tie.After-known-told2) → Opened (f (start (accepted-at c))) (c .before .chain .given .0 .0) (c .before .chain .given .0 .1 .0) (after (accepted-at c))
-opening c = file-opened room (accepted-at c .read .ensures) (c .before .chain .given .1)
-
-refused : (c : tie.After-known-told) → FileRefused (f (start (refused-at c))) (c .before .number .given .0 .0) (c .before .number .given .0 .1 .0)
-refused c = file-refused room (refused-at c .read .ensures) (c .before .number .given .1)
-
-mul-e : tie.Need-mul-e
-mul-e c = omega (arith, opening c .few-edges)
-
-array-share-prefix-denominators : tie.Need-array-share-prefix-denominators
-array-share-prefix-denominators c = opening c .denominators
-
-slice-aggregate-found : tie.Need-slice-aggregate-found
-slice-aggregate-found c = sym (length-take-le _ _ (opening (c .before) .denominators))
-
-array-share-prefix-edges : tie.Need-array-share-prefix-edges
-array-share-prefix-edges c = opening (c .before) .edges
-
-slice-aggregate-found-2 : tie.Need-slice-aggregate-found-2
-slice-aggregate-found-2 c = sym (length-take-le _ _ (opening (c .before .before) .edges))
-
-array-share-prefix-order : tie.Need-array-share-prefix-order
-array-share-prefix-order c = opening (c .before .before) .order
-
-slice-aggregate-found-3 : tie.Need-slice-aggregate-found-3
-slice-aggregate-found-3 c = sym (length-take-le _ _ (opening (c .before .before .before) .order))
-
-array-share-prefix-rewards : tie.Need-array-share-prefix-rewards
-array-share-prefix-rewards c = opening (c .before .before .before) .rewards
-
-slice-aggregate-found-4 : tie.Need-slice-aggregate-found-4
-slice-aggregate-found-4 c = sym (length-take-le _ _ (opening (c .before .before .before .before) .rewards))
-
-returns : tie.Need-returns
-returns c = FiguresOutcome.refused _ _ (refused (c .before)) (c .refusal .ensures)
-
-returns-2 : tie.Need-returns-2
-returns-2 c =
-    let o = opening (c .before .before .before .before .before) .holds in
-    FiguresOutcome.accepted (o .accepted) (c .found .ensures _ o)
+asked-requires-2 : tie.Need-asked-requires-2
+asked-requires-2 c κs =
+    let e = c .before in
+    let g = f (e .before .before .before) in
+    let short : 4 * blockSize < inputLength g → ⊥ = fails (4 * blockSize < inputLength g) (e .before .long .ensures) (e .if1 .left) in
+    small g (omega arith)
 
 pub ask-spec : {M : Type 1} → statement M
 ask-spec =
     tie.close
     (tie.spec
-    (λ c. search needs)
-    (λ c. search needs)
-    (λ c. search needs)
-    (λ c. search needs)
     (λ c κs. search needs)
     (λ c. search needs)
-    (λ c κs. search needs)
+    asked-requires
     (λ c. search needs)
-    mul-e
-    array-share-prefix-denominators
-    slice-aggregate-found
-    array-share-prefix-edges
-    slice-aggregate-found-2
-    array-share-prefix-order
-    slice-aggregate-found-3
-    array-share-prefix-rewards
-    slice-aggregate-found-4
-    (λ c κs. search needs)
-    returns
-    returns-2)
+    (λ c. search needs)
+    asked-requires-2
+    (λ c. search needs))

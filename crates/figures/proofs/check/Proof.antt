@@ -7,25 +7,25 @@ use Rattle.meaning.specs.File.{Tables}
 use Rattle.meaning.specs.Judge.{FileJudged}
 use Rattle.chainfile.specs.Input.{input}
 use Rattle.chainfile.specs.Tells.{tables}
-use Rattle.figures.proofs.Opened.{Opened, room, file-refused, file-opened}
+use Rattle.figures.proofs.Opened.{Opened, largest, file-refused, file-opened}
 use Rattle.figures.proofs.check.Statement.{statement}
 use Rattle.figures.proofs.check.Tie as tie
 
-abbrev start : tie.After-read → tie.Start
+abbrev start : tie.After-open-file → tie.Start
 start r = r .before .before .before .before .before .before .before
 
 abbrev f : tie.Start → Input
 f s = input (s .args .kept .now) (s .args .more)
 
-abbrev after : tie.After-read → Tables
-after r = let t = r .read .last .1 .1 in tables (t .0) (t .1 .0) (t .1 .1 .0) (t .1 .1 .1 .0)
+abbrev after : tie.After-open-file → Tables
+after r = let t = r .open-file .last .1 .1 in tables (t .0) (t .1 .0) (t .1 .1 .0) (t .1 .1 .1 .0)
 
 -- Where the file was read, before each of the two cases.
-abbrev accepted-at : tie.After-known-told2 → tie.After-read
+abbrev accepted-at : tie.After-known-told2 → tie.After-open-file
 accepted-at c = c .before .before .before .before .before .before .before
 
 opening : (c : tie.After-known-told2) → Opened (f (start (accepted-at c))) (c .before .chain .given .0 .0) (c .before .chain .given .0 .1 .0) (after (accepted-at c))
-opening c = file-opened room (accepted-at c .read .ensures) (c .before .chain .given .1)
+opening c = file-opened (largest _) (accepted-at c .open-file .ensures) (c .before .chain .given .1)
 
 mul-e : tie.Need-mul-e
 mul-e c = omega (arith, opening c .few-edges)
@@ -48,7 +48,7 @@ judged-requires c κs = opening (c .before .before) .few-states
 returns : tie.Need-returns
 returns c =
     let at = c .before .before .before .before .before .before .before in
-    FileJudged.file-refused _ _ (file-refused room (at .read .ensures) (c .before .number .given .1)) refl
+    FileJudged.file-refused _ _ (file-refused (largest _) (at .open-file .ensures) (c .before .number .given .1)) refl
 
 returns-2 : tie.Need-returns-2
 returns-2 c = c .judged .ensures _ _ _ (opening (c .before .before .before) .holds)

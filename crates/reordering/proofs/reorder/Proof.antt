@@ -7,29 +7,29 @@ use Rattle.meaning.specs.File.{Tables}
 use Rattle.meaning.specs.Reorder.{ReorderOutcome}
 use Rattle.chainfile.specs.Input.{input}
 use Rattle.chainfile.specs.Tells.{tables}
-use Rattle.figures.proofs.Opened.{Opened, room, file-refused, file-opened}
+use Rattle.figures.proofs.Opened.{Opened, largest, file-refused, file-opened}
 use borrow.Author.Needs.{needs}
 use Rattle.reordering.proofs.reorder.Statement.{statement}
 use Rattle.reordering.proofs.reorder.Tie as tie
 
-abbrev start : tie.After-read → tie.Start
+abbrev start : tie.After-open-file → tie.Start
 start r = r .before .before .before .before .before .before .before .before
 
 abbrev f : tie.Start → Input
 f s = input (s .args .kept .now) (s .args .more)
 
-abbrev after : tie.After-read → Tables
-after r = let t = r .read .last .1 .1 in tables (t .0) (t .1 .0) (t .1 .1 .0) (t .1 .1 .1 .0)
+abbrev after : tie.After-open-file → Tables
+after r = let t = r .open-file .last .1 .1 in tables (t .0) (t .1 .0) (t .1 .1 .0) (t .1 .1 .1 .0)
 
 -- Where the file was read, before each of the two cases.
-abbrev accepted-at : tie.After-known-told2 → tie.After-read
+abbrev accepted-at : tie.After-known-told2 → tie.After-open-file
 accepted-at c = c .before .before .before .before .before .before .before
 
-abbrev refused-at : tie.After-known-told → tie.After-read
+abbrev refused-at : tie.After-known-told → tie.After-open-file
 refused-at c = c .before .before .before .before .before .before .before
 
 opening : (c : tie.After-known-told2) → Opened (f (start (accepted-at c))) (c .before .chain .given .0 .0) (c .before .chain .given .0 .1 .0) (after (accepted-at c))
-opening c = file-opened room (accepted-at c .read .ensures) (c .before .chain .given .1)
+opening c = file-opened (largest _) (accepted-at c .open-file .ensures) (c .before .chain .given .1)
 
 returns : tie.Need-returns
 returns c = ReorderOutcome.short (c .if1 .taken) refl refl
@@ -64,7 +64,7 @@ slice-aggregate-rewrite-4 c = sym (length-take-le _ _ (opening (c .before .befor
 returns-2 : tie.Need-returns-2
 returns-2 c =
     let r = refused-at c in
-    ReorderOutcome.file-refused (r .before .before .before .before .before .if1 .left) _ _ (file-refused room (r .read .ensures) (c .before .number .given .1)) refl refl
+    ReorderOutcome.file-refused (r .before .before .before .before .before .if1 .left) _ _ (file-refused (largest _) (r .open-file .ensures) (c .before .number .given .1)) refl refl
 
 returns-3 : tie.Need-returns-3
 returns-3 c =

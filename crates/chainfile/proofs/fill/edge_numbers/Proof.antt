@@ -36,7 +36,7 @@ loop-again c =
     let a = s .args in
     let f = input (a .kept .now) 0 in
     let inside : at .loop .e < headEdges f = omega (arith, at .before .before .edges .ensures .0) in
-    more-kept f (a .lost .now) (a .table .now) (s .pre .1) (s .pre .0 .few-edges) (at .loop .inv) inside (c .before .before .keep .ensures)
+    more-kept f (a .lost .now) (a .table .now) (s .pre .1) (at .loop .inv) inside (c .before .before .keep .ensures)
 
 same-length : tie.Need-same-length Inv-loop μ-loop
 same-length c = c .before .loop .inv .set .size
@@ -46,7 +46,7 @@ returns c =
     let at = c .before in
     let s = at .before .before .before .before .before .before in
     let a = s .args in
-    all-kept (input (a .kept .now) 0) (a .lost .now) (a .table .now) (s .pre .1) (s .pre .0 .few-edges) (at .loop .inv)
+    all-kept (input (a .kept .now) 0) (a .lost .now) (a .table .now) (s .pre .1) (at .loop .inv)
     (omega (arith, at .before .before .edges .ensures .0, at .loop .inv .upto))
 
 pub edge-numbers-spec : {M : Type 1} → statement M

@@ -1,26 +1,29 @@
 use mathlib.Core.Path.{_∙_}
 use native.Mathlib.Omega.{arith}
 use borrow.Author.Needs.{needs}
+use Rattle.meaning.specs.Block.{headStates, headEdges}
 use Rattle.chainfile.specs.Input.{input}
 use Rattle.chainfile.specs.Tells.{tables}
 use Rattle.chainfile.proofs.Filling.{Room, room, denominators-are, orders-are}
 use Rattle.chainfile.proofs.fill.tables.Statement.{statement}
 use Rattle.chainfile.proofs.fill.tables.Tie as tie
 
-rooms : (s : tie.Start) → let a = s .args in Room (tables (a .denominators .now) (a .edges .now) (a .order .now) (a .rewards .now))
-rooms s = room _ (s .pre .1)
+rooms : (s : tie.Start) → let a = s .args in
+    let f = input (a .kept .now) 0 in
+    Room (headStates f) (headEdges f) (tables (a .denominators .now) (a .edges .now) (a .order .now) (a .rewards .now))
+rooms s = room _ _ _ (s .pre .1)
 
 state-numbers-requires : tie.Need-state-numbers-requires
-state-numbers-requires c κs = let s = c .before .before .before .before .before .before .before in (s .pre .0, omega (arith, rooms s, s .pre .0 .few-states))
+state-numbers-requires c κs = let s = c .before .before .before .before .before .before .before in (s .pre .0, omega (arith, rooms s))
 
 edge-numbers-requires : tie.Need-edge-numbers-requires
 edge-numbers-requires c κs = let s = c .before .before .before .before .before .before .before .before .before .before .before in (s .pre .0, omega (arith, rooms s))
 
 state-numbers-requires-2 : tie.Need-state-numbers-requires-2
-state-numbers-requires-2 c κs = let s = c .before .before .before .before .before .before .before .before .before .before .before .before .before .before .before in (s .pre .0, omega (arith, rooms s, s .pre .0 .few-states))
+state-numbers-requires-2 c κs = let s = c .before .before .before .before .before .before .before .before .before .before .before .before .before .before .before in (s .pre .0, omega (arith, rooms s))
 
 state-numbers-requires-3 : tie.Need-state-numbers-requires-3
-state-numbers-requires-3 c κs = let s = c .before .before .before .before .before .before .before .before .before .before .before .before .before .before .before .before .before .before .before in (s .pre .0, omega (arith, rooms s, s .pre .0 .few-states))
+state-numbers-requires-3 c κs = let s = c .before .before .before .before .before .before .before .before .before .before .before .before .before .before .before .before .before .before .before in (s .pre .0, omega (arith, rooms s))
 
 returns : tie.Need-returns
 returns c =
