@@ -1,11 +1,13 @@
 -- A number that is read byte by byte, the least byte first.
 use Prim.Native.Nat.{ℕ, _+_, _*_, _^_, _≤_, _<_}
 use mathlib.Core.Path.{_≡_, refl, sym, ap, _∙_}
+use mathlib.Core.List.{List}
+use lib.ListN.{length, getD, List·getD-eq-default}
 use native.Mathlib.Nat.{mul-le-mul-right, pow-succ', pow-le-pow-right}
 use native.Mathlib.Numerals.{add-one}
 use native.Mathlib.Omega.{arith}
 use Rattle.meaning.specs.Number.{sumTo}
-use Rattle.theory.specs.Numbers.Sum.{sum-next}
+use Rattle.theory.specs.Numbers.Sum.{sum-next, sum-zero}
 
 -- After i of the bytes: the number so far, and what the next byte counts.
 pub record Gathered (digit : ℕ → ℕ) (width i number unit : ℕ) : Type 0 where
@@ -40,3 +42,11 @@ module _ {digit : ℕ → ℕ} {width : ℕ} where
     all h =
         let e : i ≡ width = omega (arith, g .upto) in
         (g .is ∙ ap (λ z. sumTo (λ k. digit k * 256 ^ k) z) e, omega (arith, g .below, g .counts, ap (λ z. 256 ^ z) e))
+
+-- Past the end of the bytes there is nothing.
+pub past : (bytes : List ℕ) (at width : ℕ) → length bytes ≤ at → 0 ≡ sumTo (λ k. getD bytes (at + k) 0 * 256 ^ k) width
+past bytes at width h =
+    sym (sum-zero _ width (λ k l. ap (λ z. z * 256 ^ k) (List·getD-eq-default bytes 0 (omega arith)) ∙ omega arith))
+
+pub power : (width : ℕ) → 0 < 256 ^ width
+power width = pow-le-pow-right {n = 256} (omega arith) {i = 0} {j = width} (omega arith)

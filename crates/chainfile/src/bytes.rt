@@ -1,11 +1,11 @@
 // Bytes and numbers of a file. A byte that is not kept counts as 0.
 ghost use mathlib.Core.Path.{_≡_};
-ghost use Prim.Native.Nat.{_+_, _^_, _≤_, _<_};
+ghost use Prim.Native.Nat.{_*_, _^_, _≤_, _<_};
 ghost use lib.ListN.{getD};
 ghost use Rattle.meaning.specs.Block.{numberAt, fourByteNumber};
 ghost use Rattle.meaning.specs.File.{NonZero};
-ghost use Rattle.meaning.specs.Number.{decides};
-ghost use Rattle.chainfile.specs.Input.{input, end};
+ghost use Rattle.meaning.specs.Number.{decides, sumTo};
+ghost use Rattle.chainfile.specs.Input.{input};
 use crate::layout;
 
 fn wide(x: u8) -> u64
@@ -23,20 +23,31 @@ pub fn byte(kept: &[u8], at: usize) -> u64
     0
 }
 
-// The number in `width` bytes from byte `at` on, little-endian.
-pub(crate) fn number(kept: &[u8], at: usize, width: usize) -> u64
-    requires { ⌜ (at < end) × (width ≤ 4) ⌝ }
-    ensures { λ r. ⌜ (r ≡ numberAt (input (now (kept .entry)) 0) at width) × (r < 256 ^ width) ⌝ }
+// The number in the first `width` bytes, little-endian.
+fn first_number(bytes: &[u8], width: usize) -> u64
+    requires { ⌜ width ≤ 4 ⌝ }
+    ensures { λ r. ⌜ (r ≡ sumTo (λ k. getD (now (bytes .entry)) k 0 * 256 ^ k) width) × (r < 256 ^ width) ⌝ }
 {
     let mut number = 0;
     let mut unit = 1;
     let mut i = 0;
     while i < width {
-        number += byte(kept, at + i) * unit;
+        number += byte(bytes, i) * unit;
         unit *= 256;
         i += 1;
     }
     number
+}
+
+// The number in `width` bytes from byte `at` on. What is kept is cut there once, so that its bytes are not tested against the whole each.
+pub(crate) fn number(kept: &[u8], at: usize, width: usize) -> u64
+    requires { ⌜ width ≤ 4 ⌝ }
+    ensures { λ r. ⌜ (r ≡ numberAt (input (now (kept .entry)) 0) at width) × (r < 256 ^ width) ⌝ }
+{
+    if kept.len() < at {
+        return 0;
+    }
+    first_number(&kept[at..], width)
 }
 
 // Number i of a row of numbers of 4 bytes.
@@ -46,8 +57,7 @@ pub fn four_byte_number(bytes: &[u8], i: usize) -> u64
     if bytes.len() / layout::QUAD < i {
         return 0;
     }
-    let at = layout::QUAD * i;
-    number(&bytes[at..], 0, layout::QUAD)
+    number(bytes, layout::QUAD * i, layout::QUAD)
 }
 
 // A byte from `low` on and before `high` is not 0.

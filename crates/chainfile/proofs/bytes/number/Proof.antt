@@ -1,54 +1,39 @@
-use Prim.Native.Nat.{_+_, _*_, _-_, _≤_}
+use Prim.Native.Nat.{ℕ, _+_, _*_, _-_, _^_}
+use mathlib.Core.Path.{_≡_, sym, ap, _∙_}
+use mathlib.Core.List.{List}
 use native.Mathlib.Omega.{arith}
-use lib.ListN.{getD}
+use lib.ListN.{length, getD, take, drop, length-drop}
+use lib.Seq.{getD-drop, take-length}
 use borrow.Author.Needs.{needs}
-use Rattle.chainfile.proofs.Digits.{Gathered, none, small, product, more, all}
+use Rattle.meaning.specs.Number.{sumTo}
+use Rattle.theory.specs.Numbers.Sum.{sum-ext}
+use Rattle.chainfile.proofs.Digits.{past, power}
 use Rattle.chainfile.proofs.bytes.number.Statement.{statement}
 use Rattle.chainfile.proofs.bytes.number.Tie as tie
 
-abbrev Inv-loop : tie.InvT-loop
-Inv-loop kept at width number₀ unit₀ i₀ number unit i = Gathered (λ k. getD kept (at + k) 0) width i number unit
+-- The bytes from a place on.
+from : (bytes : List ℕ) (at width : ℕ)
+    → sumTo (λ k. getD (take (length bytes - at) (drop at bytes)) k 0 * 256 ^ k) width ≡ sumTo (λ k. getD bytes (at + k) 0 * 256 ^ k) width
+from bytes at width =
+    let rest = drop at bytes in
+    let whole : take (length bytes - at) rest ≡ rest = ap (λ n. take n rest) (sym (length-drop at bytes)) ∙ take-length rest in
+    sum-ext _ _ width (λ k l. ap (λ z. z * 256 ^ k) (ap (λ s. getD s k 0) whole ∙ getD-drop at bytes k 0))
 
-abbrev μ-loop : tie.MeasureT-loop
-μ-loop kept at width number₀ unit₀ i₀ number unit i = width - i
+returns : tie.Need-returns
+returns c = let a = c .before .before .args in (past (a .kept .now) (a .at) (a .width) (omega arith), power (a .width))
 
-loop-holds : tie.Need-loop-holds Inv-loop μ-loop
-loop-holds c = none
-
--- A byte and its unit keep the number within four bytes.
-room : (c : tie.After-byte Inv-loop μ-loop) → let at = c .before .before .loop in (at .unit ≤ 16777216) × (c .byte .result * at .unit ≤ 255 * at .unit)
-room c =
-    let g = c .before .before .loop .inv in
-    (small g (search needs) (search needs), product g (c .byte .ensures .1))
-
-mul-number : tie.Need-mul-number Inv-loop μ-loop
-mul-number c = omega (arith, room c)
-
-add-number : tie.Need-add-number Inv-loop μ-loop
-add-number c = omega (arith, room c)
-
-mul-unit : tie.Need-mul-unit Inv-loop μ-loop
-mul-unit c = omega (arith, room c)
-
-loop-again : tie.Need-loop-again Inv-loop μ-loop
-loop-again c = more (c .before .before .loop .inv) (search needs) (c .byte .ensures .0) (c .byte .ensures .1)
-
-returns : tie.Need-returns Inv-loop μ-loop
-returns c = all (c .before .loop .inv) (search needs)
+returns-2 : tie.Need-returns-2
+returns-2 c =
+    let a = c .before .before .before .before .args in
+    (c .first-number .ensures .0 ∙ from (a .kept .now) (a .at) (a .width), c .first-number .ensures .1)
 
 pub number-spec : {M : Type 1} → statement M
 number-spec =
     tie.close
     (tie.spec
-    Inv-loop
-    μ-loop
-    loop-holds
+    returns
+    (λ c. search needs)
+    (λ c. search needs)
     (λ c. search needs)
     (λ c κs. search needs)
-    mul-number
-    add-number
-    mul-unit
-    (λ c. search needs)
-    (λ c. search needs)
-    loop-again
-    returns)
+    returns-2)
