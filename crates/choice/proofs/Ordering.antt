@@ -73,14 +73,14 @@ module _ (c : Given) (d edges : List ℕ) (sets : Found) (order : List ℕ) (s :
         record {
           states = refl;
           few = surveyed-few;
-          fine = formed-fine bare l (s .formed);
+          fine = formed-fine bare l (s .formed) refl;
           right = s .right;
           start = start-in bare l (s .formed);
           goers = λ i. (
             λ b. sym (goes-in i) ∙ eq-eqb (bit going i) 1 b,
             λ e. let w = goes-law chain k (s .right) i .0 e in others i .1 (s .right .live i .1 (w .0), w .1),
           );
-          weighed = weighed-first chain k (formed-fine bare l (s .formed)) (from-in bare l (s .formed)) columns g;
+          weighed = weighed-first chain k (formed-fine bare l (s .formed) refl) (from-in bare l (s .formed)) columns g;
           size = s .size;
         }
 
@@ -93,7 +93,7 @@ module _ (c : Given) (d edges : List ℕ) (sets : Found) (order : List ℕ) (s :
       rest-fits =
           omega (
             arith,
-            turns-all chain k (formed-fine bare l (s .formed)) (s .right) (start-in bare l (s .formed)) (t .turns) (t .done),
+            turns-all chain k (formed-fine bare l (s .formed) refl) (s .right) (start-in bare l (s .formed)) (t .turns) (t .done),
             ap length passed-same,
             t .size,
           )
@@ -108,7 +108,7 @@ module _ (c : Given) (d edges : List ℕ) (sets : Found) (order : List ℕ) (s :
           })
         where
           fine : Fine chain
-          fine = formed-fine bare l (s .formed)
+          fine = formed-fine bare l (s .formed) refl
 
           start : c .start < c .states
           start = start-in bare l (s .formed)

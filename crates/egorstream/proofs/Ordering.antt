@@ -4,10 +4,10 @@ use mathlib.Core.Path.{_≡_, refl, sym, ap, ap₂, subst, _∙_}
 use mathlib.Core.List.{List, []}
 use native.Mathlib.Omega.{arith}
 use Rattle.meaning.specs.Chain.{mostStates, mostEdges}
-use Rattle.meaning.specs.Refusal.{Lent}
+use Rattle.meaning.specs.Refusal.{Lent, chainAlone}
 use Rattle.meaning.specs.Block.{Input}
 use Rattle.meaning.specs.File.{FileRefused}
-use Rattle.meaning.specs.Choice.{Choice as Numbers, noChoice, ordered, ChoiceOutcome, list-wrong, refused, chosen}
+use Rattle.meaning.specs.Choice.{Choice as Numbers, noChoice, ChoiceOutcome, list-wrong, refused, chosen, FileChoice, file-refused, asked}
 use Rattle.theory.specs.Outcomes.Places.{refused-places}
 use Rattle.theory.specs.Outcomes.Choice.{choice-one}
 use Rattle.theory.specs.Files.FileOne.{file-one, accepted-unrefused}
@@ -17,7 +17,7 @@ use Rattle.choice.specs.declared.Choice.{Choice}
 use Rattle.choice.specs.declared.Choice.the-variants.{Sum, Refused}
 use Rattle.choice.specs.Told.{told, Chooses}
 use Rattle.figures.specs.Found.{Holds}
-use Rattle.egorstream.specs.Order.{FileChoice, file-refused, asked, NearPlace, toldOrder}
+use Rattle.egorstream.specs.Order.{NearPlace, toldOrder}
 use Rattle.egorstream.specs.declared.order.Ordered.{Ordered}
 
 -- A refusal's place is small.
@@ -41,7 +41,7 @@ pub chooses : {f : Input} {c : Chain} {d g o w before after : List ℕ} (r : Ord
     → toldOrder r ≡ told q → FileChoice f before (toldOrder r) after
 chooses {f} {c} {d} {g} {before = before} {after} r q h x e =
     asked (h .accepted)
-    (subst (λ (l : Lent). ChoiceOutcome l before (toldOrder r) after) (λ i. ordered (ap (λ (l : Lent). l .chain) (h .paid) i) [])
+    (subst (λ (l : Lent). ChoiceOutcome l before (toldOrder r) after) (λ i. chainAlone (ap (λ (l : Lent). l .chain) (h .paid) i))
     (subst (λ (a : Numbers). ChoiceOutcome (lent c d g [] [] []) before a after) (sym e) (x .outcome)))
 
 file-choice-one : {f : Input} {before after after′ : List ℕ} {a a′ : Numbers} → FileChoice f before a after → FileChoice f before a′ after′

@@ -1,8 +1,9 @@
 // The chosen order for callers in C: a file's bytes in, the order out into a lent list.
 ghost use mathlib.Core.Path.{_≡_};
 ghost use Rattle.meaning.specs.Block.{wholeFile};
+ghost use Rattle.meaning.specs.Choice.{FileChoice};
 ghost use Rattle.choice.specs.Told.{told};
-ghost use Rattle.egorstream.specs.Order.{FileChoice, NearPlace, toldOrder};
+ghost use Rattle.egorstream.specs.Order.{NearPlace, toldOrder};
 use chain::Chain;
 use chain::edge;
 use chainfile::Reading;

@@ -1,4 +1,4 @@
--- The numbers of a table by row and column: a table of zeros, one number changed, and weights gathered edge by edge.
+-- The numbers of a table by row and column: a table of zeros, one number changed, and weights gathered turn by turn.
 use mathlib.Core.Path.{_≡_, refl, sym, ap, _∙_}
 use mathlib.Core.Logic.{dite, ⊎-elim}
 use mathlib.Core.Bool.{Bool, true, false}
@@ -72,13 +72,50 @@ module _ (n : ℕ) (w v : List ℕ) (room : workSize n ≤ length w) (e : v ≡ 
       ∙ List·getD-append (replicate size 0) (drop size w) 0 (i * width n + j) (rw z l)
       ∙ getD-replicate size (i * width n + j) 0 0 l
 
-only-none : (b : Bool) → only b 0 ≡ 0
+pub only-none : (b : Bool) → only b 0 ≡ 0
 only-none true = refl
 only-none false = refl
 
 only-some : (b : Bool) (x : ℕ) → only b x ≤ x
 only-some true x = omega arith
 only-some false x = omega arith
+
+-- Where x is added to one number, and `more` says that.
+module _ (n : ℕ) (more : ℕ → ℕ → ℕ) (w v : List ℕ) (room : workSize n ≤ length w) (i j x : ℕ) (b : i < n) (h : j < width n) (is : more i j ≡ x)
+    (aside : (s : ℕ) → (s ≡ j → ⊥) → more i s ≡ 0) (apart : (r s : ℕ) → (r ≡ i → ⊥) → more r s ≡ 0)
+    (p : Changed n w i (set (partAt n w i) j (cell (partAt n w i) j + x)) v)
+  where
+    row-added : (s : ℕ) → cell (partAt n v i) s ≡ cell (partAt n w i) s + more i s
+    row-added s =
+        ap (λ (z : Row). cell z s) (p .here)
+        ∙ ⊎-elim
+        (λ (q : s ≡ j).
+        rw q
+        (getD-set-same (partAt n w i) j (cell (partAt n w i) j + x) 0 (omega (arith, length-row n w room i b)) ∙ omega (arith, is)))
+        (λ (q : s ≡ j → ⊥). getD-set-other (partAt n w i) j s (cell (partAt n w i) j + x) 0 q ∙ omega (arith, aside s q))
+        (same s j)
+
+    pub added-one : Added n more w v
+    added-one =
+        record {
+          kept = p .kept;
+          cells = λ r s c d.
+              ⊎-elim
+              (λ (q : r ≡ i). rw q (row-added s))
+              (λ (q : r ≡ i → ⊥). ap (λ (z : Row). cell z s) (p .other r c q) ∙ omega (arith, apart r s q))
+              (same r i);
+        }
+
+pub added-nothing : (n : ℕ) (more : ℕ → ℕ → ℕ) (w : List ℕ) → ((r s : ℕ) → more r s ≡ 0) → Added n more w w
+added-nothing n more w none = record { kept = kept-same n w; cells = λ r s c d. omega (arith, none r s) }
+
+-- What is held, and more.
+pub held-added : {n : ℕ} {held more : ℕ → ℕ → ℕ} {w v u : List ℕ} → Held n held w v → Added n more v u → Held n (λ i j. held i j + more i j) w u
+held-added {more = more} z a =
+    record {
+      kept = kept-more (z .kept) (a .kept);
+      cells = λ i j b h. a .cells i j b h ∙ ap (λ (x : ℕ). x + more i j) (z .cells i j b h);
+    }
 
 -- What edge e brings.
 module _ (n : ℕ) (k : Sets) (edges : List ℕ) (e : ℕ) where
@@ -115,91 +152,78 @@ module _ (n : ℕ) (k : Sets) (edges : List ℕ) (e : ℕ) where
 
   pub added-none : (w : List ℕ) → (bit (k .live) (from edges e) ≡ 1 → ⊥) → Added n (λ i j. share n k edges i j e) w w
   added-none w d =
-      record {
-        kept = kept-same n w;
-        cells = λ i j b h.
-            ⊎-elim
-            (λ (q : from edges e ≡ i). omega (arith, share-dead i j (λ l. d (rw (← q) at l))))
-            (λ (q : from edges e ≡ i → ⊥). omega (arith, share-other i j q))
-            (same (from edges e) i);
-      }
+      added-nothing n (λ i j. share n k edges i j e) w
+      (λ i j.
+      ⊎-elim
+      (λ (q : from edges e ≡ i). share-dead i j (λ l. d (rw (← q) at l)))
+      (λ (q : from edges e ≡ i → ⊥). share-other i j q)
+      (same (from edges e) i))
 
-  module _ (w v : List ℕ) (room : workSize n ≤ length w) (i j x : ℕ) (b : i < n) (h : j < width n) (l : bit (k .live) i ≡ 1) (fi : i ≡ from edges e)
-      (cj : j ≡ columnOf n k (to edges e)) (wx : x ≡ weight edges e) (p : Changed n w i (set (partAt n w i) j (cell (partAt n w i) j + x)) v) where
-    row-added : (s : ℕ) → s < width n → cell (partAt n v i) s ≡ cell (partAt n w i) s + share n k edges i s e
-    row-added s d =
-        ap (λ (z : Row). cell z s) (p .here)
-        ∙ ⊎-elim
-        (λ (q : s ≡ j).
-        rw q
-        (getD-set-same (partAt n w i) j (cell (partAt n w i) j + x) 0 (omega (arith, length-row n w room i b))
-        ∙ omega (arith, share-here i j l (sym fi) (sym cj))))
-        (λ (q : s ≡ j → ⊥).
-        getD-set-other (partAt n w i) j s (cell (partAt n w i) j + x) 0 q
-        ∙ omega (arith, share-aside i s (λ z. q (sym (cj ∙ z)))))
-        (same s j)
+  pub added-some : (w v : List ℕ) → workSize n ≤ length w → (i j x : ℕ) → i < n → j < width n → bit (k .live) i ≡ 1 → i ≡ from edges e
+      → j ≡ columnOf n k (to edges e) → x ≡ weight edges e → Changed n w i (set (partAt n w i) j (cell (partAt n w i) j + x)) v
+      → Added n (λ i j. share n k edges i j e) w v
+  added-some w v room i j x b h l fi cj wx p =
+      added-one n (λ i j. share n k edges i j e) w v room i j x b h
+      (share-here i j l (sym fi) (sym cj) ∙ sym wx)
+      (λ s q. share-aside i s (λ z. q (sym (cj ∙ z))))
+      (λ r s q. share-other r s (λ z. q (sym (fi ∙ z))))
+      p
 
-    pub added-some : Added n (λ i j. share n k edges i j e) w v
-    added-some =
-        record {
-          kept = p .kept;
-          cells = λ r s c d.
-              ⊎-elim
-              (λ (q : r ≡ i). rw q (row-added s d))
-              (λ (q : r ≡ i → ⊥).
-              ap (λ (z : Row). cell z s) (p .other r c q)
-              ∙ omega (arith, share-other r s (λ z. q (sym (fi ∙ z)))))
-              (same r i);
-        }
+-- Of what is brought to each row and column, in so many turns, that of the first e is added.
+pub record Gathering (n : ℕ) (brings : ℕ → ℕ → ℕ → ℕ) (turns : ℕ) (w : List ℕ) (e : ℕ) (v : List ℕ) : Type 0 where
+  pub soFar : e ≤ turns
+  pub added : Added n (λ i j. sumTo (brings i j) e) w v
 
--- The first e edges are gathered.
-pub record Gathering (n : ℕ) (k : Sets) (edges w : List ℕ) (e : ℕ) (v : List ℕ) : Type 0 where
-  pub soFar : e ≤ edgeCount edges
-  pub held : Held n (λ i j. sumTo (share n k edges i j) e) w v
-
-module _ {n : ℕ} {k : Sets} {edges : List ℕ} {w : List ℕ} where
-  pub gathering-none : ((i j : ℕ) → i < n → j < width n → cell (partAt n w i) j ≡ 0) → Gathering n k edges w 0 w
+module _ {n : ℕ} {brings : ℕ → ℕ → ℕ → ℕ} {turns : ℕ} {w : List ℕ} where
+  pub gathering-none : Gathering n brings turns w 0 w
   unfolding sumTo
-  gathering-none h = record { soFar = omega arith; held = record { kept = kept-same n w; cells = h } }
+  gathering-none = record { soFar = omega arith; added = added-nothing n (λ i j. sumTo (brings i j) 0) w (λ i j. refl) }
 
-  module _ {e : ℕ} {v : List ℕ} (g : Gathering n k edges w e v) where
-    pub gathering-more : {u : List ℕ} → e < edgeCount edges → Added n (λ i j. share n k edges i j e) v u → Gathering n k edges w (e + 1) u
+  module _ {e : ℕ} {v : List ℕ} (g : Gathering n brings turns w e v) where
+    pub gathering-more : {u : List ℕ} → e < turns → Added n (λ i j. brings i j e) v u → Gathering n brings turns w (e + 1) u
     gathering-more l a =
         record {
           soFar = omega arith;
-          held = record {
-            kept = kept-more (g .held .kept) (a .kept);
-            cells = λ i j b h.
-                a .cells i j b h
-                ∙ ap (λ (x : ℕ). x + share n k edges i j e) (g .held .cells i j b h)
-                ∙ sym (sum-next (share n k edges i j) e (e + 1) (add-one e));
+          added = record {
+            kept = kept-more (g .added .kept) (a .kept);
+            cells = λ i j b h. omega (arith, a .cells i j b h, g .added .cells i j b h, sum-next (brings i j) e (e + 1) (add-one e));
           };
         }
 
-    pub gathering-all : edgeCount edges ≤ e → Held n (λ i j. sumTo (share n k edges i j) (edgeCount edges)) w v
-    gathering-all l =
-        let q : e ≡ edgeCount edges = omega (arith, g .soFar) in
-        record { kept = g .held .kept; cells = λ i j b h. g .held .cells i j b h ∙ ap (sumTo (share n k edges i j)) q }
+    pub gathering-all : turns ≤ e → Added n (λ i j. sumTo (brings i j) turns) w v
+    gathering-all l = let q : e ≡ turns = omega (arith, g .soFar) in rw q at (g .added)
 
-    -- What is gathered so far and the next weight are part of a row sum.
-    pub gathering-addable : n ≤ 64 → workSize n ≤ length w → e < edgeCount edges → from edges e < n → to edges e < n → rowSum edges (from edges e) ≤ M
-        → Addable n edges e v
-    unfolding flow carried
-    gathering-addable few room l s t m =
-        let i = from edges e in
-        record {
-          few = few;
-          room = omega (arith, g .held .kept .len);
-          source = s;
-          target = t;
-          small = λ j h.
-              let q : carried edges i (λ _. 1) e ≡ weight edges e = rw (eq-eqb i i refl) (mul-one (weight edges e)) in
-              omega (
-                arith,
-                m,
-                q,
-                g .held .cells i j s h,
-                sum-le (share n k edges i j) (carried edges i (λ _. 1)) e (λ d _. share-le n k edges d i j),
-                sum-up (carried edges i (λ _. 1)) e (edgeCount edges) l,
-              );
-        }
+-- A turn is an edge, and the table is zero at first.
+module _ (n : ℕ) (k : Sets) (edges w v : List ℕ) (zero : (i j : ℕ) → i < n → j < width n → cell (partAt n w i) j ≡ 0) where
+  pub gathering-held : Added n (λ i j. sumTo (share n k edges i j) (edgeCount edges)) w v
+      → Held n (λ i j. sumTo (share n k edges i j) (edgeCount edges)) w v
+  gathering-held a = record { kept = a .kept; cells = λ i j b h. omega (arith, a .cells i j b h, zero i j b h) }
+
+  -- What is gathered so far and the next weight are part of a row sum.
+  pub gathering-addable : (e : ℕ) → Gathering n (share n k edges) (edgeCount edges) w e v → n ≤ 64 → workSize n ≤ length w → e < edgeCount edges
+      → from edges e < n → to edges e < n → rowSum edges (from edges e) ≤ M → Addable n edges e v
+  unfolding flow carried
+  gathering-addable e g few room l s t m =
+      let i = from edges e in
+      record {
+        few = few;
+        room = omega (arith, g .added .kept .len);
+        source = s;
+        target = t;
+        small = λ j h.
+            let q : carried edges i (λ _. 1) e ≡ weight edges e = rw (eq-eqb i i refl) (mul-one (weight edges e)) in
+            omega (
+              arith,
+              m,
+              q,
+              g .added .cells i j s h,
+              zero i j s h,
+              sum-le (share n k edges i j) (carried edges i (λ _. 1)) e (λ d _. share-le n k edges d i j),
+              sum-up (carried edges i (λ _. 1)) e (edgeCount edges) l,
+            );
+      }
+
+-- What is gathered is part of a row sum, so that what is missing can be added to it.
+pub shares-le : (n : ℕ) (k : Sets) (edges : List ℕ) (i j : ℕ) → sumTo (share n k edges i j) (edgeCount edges) ≤ rowSum edges i
+unfolding flow
+shares-le n k edges i j = sum-le (share n k edges i j) (carried edges i (λ _. 1)) (edgeCount edges) (λ d _. share-le n k edges d i j)

@@ -19,7 +19,9 @@ pub mod Spare
 pub mod Noting
 pub mod Turns
 pub mod Cells
+pub mod Missing
 pub mod Packing
+pub mod Targets
 pub mod FirstRows
 pub mod Course
 pub mod Looked

@@ -6,7 +6,8 @@ use lib.ListN.{length}
 use mathlib.Core.Path.{_≡_, subst}
 use mathlib.Core.Bool.{Bool, true, false}
 use Rattle.meaning.specs.Row.{rounding}
-use Rattle.meaning.specs.Step.{Sets, Right}
+use Rattle.meaning.specs.Chain.{End}
+use Rattle.meaning.specs.Step.{Sets, RightTo}
 use Rattle.meaning.specs.Refusal.{Lent, withList, Entry, workSize, Refused, WellFormed}
 use mathlib.Core.List.{List}
 use mathlib.Core.Logic.{_⊎_, inl, inr}
@@ -33,13 +34,13 @@ use Rattle.engines.specs.declared.run.Course.the-variants.{Ends, Stops}
 use Rattle.engines.proofs.FirstRows.{first-given}
 
 -- What the survey says of the chain is said of it among all that is lent.
-module _ {x : Entry} {l : Lent} (u : Upto x l 3) {r : Survey} (o : SurveyOutcome (alone l) (told r)) where
+module _ {x : Entry} {l : Lent} (u : Upto x l 3) {r : Survey} (o : SurveyOutcome (x .short) (alone l) (told r)) where
   pub survey-refuses : {number place : ℕ} → r ≡ survey.Refused number place → Refused x l number place
-  survey-refuses e = bare-refuses x l (λ k p h a. u .clear k h p a) (refusing (alone l) o e)
+  survey-refuses e = bare-refuses x l (λ k p h a. u .clear k h p a) (refusing (x .short) (alone l) o e)
 
-  pub survey-clears : {s : Found} {goals live : ℕ} → r ≡ survey.Found s goals live → Upto x l 10 × Known (l .chain) s
+  pub survey-clears : {s : Found} {goals live : ℕ} → r ≡ survey.Found s goals live → Upto x l 10 × Known (x .short) (l .chain) s
   survey-clears e =
-      let f = found (alone l) o e in
+      let f = found (x .short) (alone l) o e in
       (record { clear = λ k h p a. bare-clears x l (λ k p h a. u .clear k h p a) (f .0) k p h a }, f .1)
 
 -- The list lacks records exactly where the length lacks that is given for it.
@@ -64,7 +65,7 @@ module _ (x : Entry) (l : Lent) (k : ℕ) where
     pub upto-refused : {j p : ℕ} → f ≡ Refusing j p → Refused x l j p
     upto-refused e = subst (soFar x l k) e s
 
-    pub upto-clear : {z : Found} → f ≡ Clear z → Upto x l k × Known (l .chain) z
+    pub upto-clear : {z : Found} → f ≡ Clear z → Upto x l k × Known (x .short) (l .chain) z
     upto-clear e = subst (soFar x l k) e s
 
 -- What an entry knows of its looking.
@@ -72,32 +73,36 @@ module _ {x : Entry} {l : Lent} {f : Looked} (s : looked x l f) where
   pub refused-by : {number place : ℕ} → f ≡ Refusing number place → Refused x l number place
   refused-by e = subst (looked x l) e s
 
-  pub clear : {k : Found} → f ≡ Clear k → WellFormed x l × Known (l .chain) k
+  pub clear : {k : Found} → f ≡ Clear k → WellFormed x l × Known (x .short) (l .chain) k
   clear e = subst (looked x l) e s
 
 -- What an elimination asks for.
 pub begun : (x : Entry) (l : Lent) → WellFormed x l → (b : Bool) (k : Sets) → x .order ≡ true → workSize (l .chain .states) ≤ length (l .work)
-    → (b ≡ rounding → x .rewards ≡ false) → Right (l .chain) k → Begun b (x .rewards) l k
-begun x l formed b k ordered room free right =
+    → (b ≡ rounding → x .rewards ≡ false) → (x .short ≡ true → b ≡ rounding) → RightTo (l .chain) (End (x .short) (l .chain)) k
+    → Begun b (x .rewards) (x .short) l k
+begun x l formed b k ordered room free rounds right =
     record {
       asked = first-given b x l k formed room free right;
+      rounds = rounds;
       orders = order-length x l formed ordered;
       inside = order-in x l formed ordered;
       start = start-in x l formed;
     }
 
 -- An elimination does not ask for the step list.
-pub begun-unlisted : {b p : Bool} {l : Lent} {k : Sets} (list : ℕ) → Begun b p (withList list l) k → Begun b p l k
-begun-unlisted list h = record { asked = h .asked; orders = h .orders; inside = h .inside; start = h .start }
+pub begun-unlisted : {b p short : Bool} {l : Lent} {k : Sets} (list : ℕ) → Begun b p short (withList list l) k → Begun b p short l k
+begun-unlisted list h = record { asked = h .asked; rounds = h .rounds; orders = h .orders; inside = h .inside; start = h .start }
 
-read-listed : {pay : ℕ → ℕ} {b : Bool} {l : Lent} {g u e d : ℕ} (list : ℕ) → Read pay b l g u e d → Read pay b (withList list l) g u e d
+read-listed : {pay : ℕ → ℕ} {short b : Bool} {l : Lent} {g u e d : ℕ} (list : ℕ) → Read pay short b l g u e d → Read pay short b (withList list l) g u e d
 read-listed list (won h q) = won h q
 read-listed list (lost h q) = lost h q
 read-listed list (live k right alive z) = live k right alive (record { passed = z .passed; read = z .read })
 
 -- What a run comes to, once the looking has cleared the input.
-pub ran : {x : Entry} (b : Bool) (l : Lent) {w log : List ℕ} (list : ℕ) → WellFormed x (withList list l) → w ≡ cleared l → {k : Sets} → Right (l .chain) k
-    → (r : Course) → runs (earns x l) b l r × Logged log (recordsRun (earns x l) b l k (finishedIn (l .chain .states) r)) → entered x b (withList list l) w log r
+pub ran : {x : Entry} (b : Bool) (l : Lent) {w log : List ℕ} (list : ℕ) → WellFormed x (withList list l) → w ≡ cleared l → {k : Sets}
+    → RightTo (l .chain) (End (x .short) (l .chain)) k → (r : Course)
+    → runs (earns x l) (x .short) b l r × Logged log (recordsRun (earns x l) (x .short) b l k (finishedIn (l .chain .states) r))
+    → entered x b (withList list l) w log r
 ran b l list formed s right (Ends g u e d) z = (formed, s, read-listed list (z .0), record { sets = _; right = right; logged = z .1 })
 ran b l list formed s right (Stops number place) z =
     inr (formed, s, stopped-relisted list number place (z .0), record { sets = _; right = right; logged = z .1 })

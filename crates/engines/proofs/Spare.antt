@@ -12,7 +12,7 @@ use borrow.Author.Tests.{eq-eqb, ne-eqb}
 use Rattle.meaning.specs.Number.{choose, bit, tabFrom}
 use Rattle.meaning.specs.Chain.{Chain, Goal}
 use Rattle.meaning.specs.Row.{Row, cell, settled, width}
-use Rattle.meaning.specs.Step.{Table, row, Sets, Right, noRow, outside, combined, renewed, removed, after, given, firstRow, first}
+use Rattle.meaning.specs.Step.{Table, row, Sets, RightTo, noRow, outside, combined, renewed, removed, after, given, firstRow, first}
 use Rattle.theory.specs.Numbers.Sum.{same}
 use Rattle.theory.specs.Numbers.Tab.{tab-at, tab-past}
 use Rattle.theory.specs.Rows.Relation.{combined-length}
@@ -74,14 +74,21 @@ after-spare b n go o t z (suc p) = turned (go (getD o p 0)) (after-spare b n go 
     turned false h = h
 
 -- A goal is never live, so no first row has a weight to it, whatever is Unknown.
-pub first-spare : (b : Bool) (c : Chain) (k : Sets) (pay u : ℕ → ℕ) → Right c k → (g : ℕ) → g < c .states → Goal c g → Spare (c .states) (first b c k pay u)
+pub first-spare : (b : Bool) (c : Chain) (k : Sets) (pay u : ℕ → ℕ) {End : ℕ → Type 0} → RightTo c End k → (g : ℕ) → g < c .states → Goal c g
+    → Spare (c .states) (first b c k pay u)
 unfolding first
 first-spare b c k pay u right g inside goal =
     record {
       state = g;
       inside = inside;
-      none = λ i. past-none (c .states) _ i g (λ h. each (λ r. cell r g ≡ 0) i h (noRow-cell (c .states) g) (settled-zero b (c .states) (given c k pay (u i) i) (given-length c k pay (u i) i) g (λ _ e. omega arith) (given-none i)));
-      wide = λ i h. each (λ r. length r ≡ width (c .states)) i h (noRow-length (c .states)) (settled-length b (c .states) (given c k pay (u i) i) (given-length c k pay (u i) i));
+      none = λ i.
+          past-none (c .states) _ i g
+          (λ h.
+          each (λ r. cell r g ≡ 0) i h (noRow-cell (c .states) g)
+          (settled-zero b (c .states) (given c k pay (u i) i) (given-length c k pay (u i) i) g (λ _ e. omega arith) (given-none i)));
+      wide = λ i h.
+          each (λ r. length r ≡ width (c .states)) i h (noRow-length (c .states))
+          (settled-length b (c .states) (given c k pay (u i) i) (given-length c k pay (u i) i));
     }
   where
     given-none : (i : ℕ) → cell (given c k pay (u i) i) g ≡ 0

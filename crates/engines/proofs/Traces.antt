@@ -73,7 +73,7 @@ module _ (l : Lent) (w log : List ℕ) (size : length log ≡ logSize) where
         → Listed l (toldChance (chanceOf r)) [] (length rs) rs → Traced l (traceOf r) w
     told rs h few room i =
         record {
-          outcome = record { outcome = outcome-chance listing refl l w log r z; list = rw (records-held h, count-held h) i };
+          outcome = record { outcome = outcome-chance listing refl refl l w log r z; list = rw (records-held h, count-held h) i };
           few = omega (arith, count-held h);
           inside = omega (arith, count-held h);
           past = past-held h;

@@ -1,16 +1,18 @@
 -- What an entry promises determines its answer, case and all, and the work table afterwards.
 use Prim.Native.Nat.{ℕ, _<_}
 use mathlib.Core.Path.{_≡_, ap}
+use mathlib.Core.Bool.{Bool}
 use mathlib.Core.List.{List}
 use native.Mathlib.Omega.{arith}
 use lib.ListN.{getD}
 use Rattle.meaning.specs.Row.{exact}
 use Rattle.meaning.specs.Refusal.{Lent, Entry, plain, listing}
 use Rattle.meaning.specs.Stop.{earns, Stopped}
-use Rattle.meaning.specs.Outcome.{Outcome, refused, stopped, answered, Answer, refusal, ChanceFigure, ChanceOutcome, Bounds as Numbers, BoundsFigure, BoundsOutcome}
+use Rattle.meaning.specs.Outcome.{Outcome, refused, stopped, answered, Answer, refusal, ChanceFigure, ChanceOutcome, Bounds as Numbers, noBounds, BoundsFigure, BoundsStop, BoundsOutcome}
+use Rattle.meaning.specs.Left.{shortRows, LeftOutcome}
 use Rattle.theory.specs.Outcomes.DemandTwo.{stopped-twelve}
 use Rattle.theory.specs.Outcomes.Steps.{steps-determined}
-use Rattle.theory.specs.Outcomes.Entries.{chance-determined, reward-determined, bounds-determined}
+use Rattle.theory.specs.Outcomes.Entries.{chance-determined, reward-determined, bounds-determined, left-determined}
 use Rattle.engines.specs.Answer.{toldChance, toldBounds, ProperChance, ProperBounds}
 use Rattle.engines.specs.declared.answer.Chance.{Chance}
 use Rattle.engines.specs.declared.answer.Chance.the-variants as chance
@@ -53,19 +55,19 @@ module _ {a b : Numbers} (e : a ≡ b) where
   upper = ap (λ (a : Numbers). a .upperDenominator) e
 
 -- The figures of the bounds have denominators above 0.
-figure-proper : (l : Lent) (a : Numbers) → BoundsFigure l a → (0 < a .lowerDenominator) × (0 < a .upperDenominator)
-figure-proper l a (BoundsFigure.won g e) = (omega (arith, lower e), omega (arith, upper e))
-figure-proper l a (BoundsFigure.lost g e) = (omega (arith, lower e), omega (arith, upper e))
-figure-proper l a (BoundsFigure.live k r v p q s t f e) =
+figure-proper : (short : Bool) (l : Lent) (a : Numbers) → BoundsFigure short l a → (0 < a .lowerDenominator) × (0 < a .upperDenominator)
+figure-proper short l a (BoundsFigure.won g e) = (omega (arith, lower e), omega (arith, upper e))
+figure-proper short l a (BoundsFigure.lost g e) = (omega (arith, lower e), omega (arith, upper e))
+figure-proper short l a (BoundsFigure.live k r v p q s t f e) =
     (omega (arith, lower e, f .0 .lowest .whole), omega (arith, upper e, f .1 .lowest .whole))
 
-bounds-proper : (l : Lent) (r : Bounds) (w : List ℕ) → BoundsOutcome l (toldBounds r) w → ProperBounds r
-bounds-proper l (bounds.Between f h) w (refused n p z e s) = absurd (omega (arith, which e, refused-some z))
-bounds-proper l (bounds.Between f h) w (stopped n p v t e s) = absurd t
-bounds-proper l (bounds.Between f h) w (answered v t g s) = figure-proper l _ g
-bounds-proper l (bounds.Refused k i) w (refused n p z e s) = omega (arith, which e, refused-some z)
-bounds-proper l (bounds.Refused k i) w (stopped n p v t e s) = absurd t
-bounds-proper l (bounds.Refused k i) w (answered v t g s) = absurd (omega (arith, figure-proper l _ g .0))
+bounds-proper : (x : Entry) (l : Lent) (r : Bounds) (w : List ℕ) → Outcome x l noBounds BoundsStop (BoundsFigure (x .short) l) (toldBounds r) w → ProperBounds r
+bounds-proper x l (bounds.Between f h) w (refused n p z e s) = absurd (omega (arith, which e, refused-some z))
+bounds-proper x l (bounds.Between f h) w (stopped n p v t e s) = absurd t
+bounds-proper x l (bounds.Between f h) w (answered v t g s) = figure-proper (x .short) l _ g
+bounds-proper x l (bounds.Refused k i) w (refused n p z e s) = omega (arith, which e, refused-some z)
+bounds-proper x l (bounds.Refused k i) w (stopped n p v t e s) = absurd t
+bounds-proper x l (bounds.Refused k i) w (answered v t g s) = absurd (omega (arith, figure-proper (x .short) l _ g .0))
 
 module _ (l : Lent) (w w′ : List ℕ) where
   pub chance-unique : (r r′ : Chance) → ChanceOutcome l (toldChance r) w → ChanceOutcome l (toldChance r′) w′ → (r ≡ r′) × (w ≡ w′)
@@ -81,7 +83,12 @@ module _ (l : Lent) (w w′ : List ℕ) where
   pub bounds-unique : (r r′ : Bounds) → BoundsOutcome l (toldBounds r) w → BoundsOutcome l (toldBounds r′) w′ → (r ≡ r′) × (w ≡ w′)
   bounds-unique r r′ o o′ =
       let e = bounds-determined l o o′ in
-      (bounds-told r r′ (bounds-proper l r w o) (bounds-proper l r′ w′ o′) (e .0), e .1)
+      (bounds-told r r′ (bounds-proper plain l r w o) (bounds-proper plain l r′ w′ o′) (e .0), e .1)
+
+  pub left-unique : (r r′ : Bounds) → LeftOutcome l (toldBounds r) w → LeftOutcome l (toldBounds r′) w′ → (r ≡ r′) × (w ≡ w′)
+  left-unique r r′ o o′ =
+      let e = left-determined l o o′ in
+      (bounds-told r r′ (bounds-proper shortRows l r w o) (bounds-proper shortRows l r′ w′ o′) (e .0), e .1)
 
   -- Of a trace it determines the answer and every number.
   pub trace-unique : (t t′ : Trace) → Traced l t w → Traced l t′ w′

@@ -7,11 +7,11 @@ use lib.Count.{ones}
 use lib.Dec.{eqb}
 use lib.ListN.{length, getD, set}
 use Rattle.meaning.specs.Number.{choose, bit}
-use Rattle.meaning.specs.Chain.{mostStates, M, Chain, denominator, edgeCount, from, Goal}
+use Rattle.meaning.specs.Chain.{mostStates, M, Chain, denominator, edgeCount, from, Goal, End}
 use Rattle.meaning.specs.Row.{Row, cell, width, total, rewardColumn, divisor, settled, rounding}
-use Rattle.meaning.specs.Step.{Sets, Right}
+use Rattle.meaning.specs.Step.{Sets, RightTo, unknown}
 use Rattle.meaning.specs.Refusal.{workSize}
-use Rattle.theory.specs.Chains.Fine.{Fine}
+use Rattle.theory.specs.Chains.Fine.{FineTo}
 use Rattle.engines.specs.Pay.{Earnable}
 use Rattle.engines.specs.Packed.{statesOf, weightsAt, unpacked, Packed}
 use Rattle.engines.specs.Table.{partAt}
@@ -55,15 +55,16 @@ pub record Finishable (b : Bool) (n live : ℕ) (pay w : List ℕ) : Type 0 wher
   pub room : workSize n ≤ length w
   pub gathered : (i : ℕ) → i < n → Unfinished b n (eqb (bit live i) 1) live (getD pay i 0) (partAt n w i)
 
--- What the first rows are made from: a chain with a goal whose denominators fit, its own sets, room, and where a turn earns, rewards that fit;
--- in the bounds engine it does not.
-pub record Makeable (b p : Bool) (c : Chain) (k : Sets) (rewards work : List ℕ) : Type 0 where
+-- What the first rows are made from: a chain with a goal whose denominators fit and whose rows may fall short or not, its own sets, room, and where
+-- a turn earns, rewards that fit; in the bounds engine it does not.
+pub record Makeable (b p short : Bool) (c : Chain) (k : Sets) (rewards work : List ℕ) : Type 0 where
   pub few : c .states ≤ mostStates
   pub room : workSize (c .states) ≤ length work
-  pub fine : Fine c
+  pub fine : FineTo c (unknown short c)
   pub sources : (e : ℕ) → e < edgeCount (c .edges) → from (c .edges) e < c .states
   pub small : (i : ℕ) → i < c .states → denominator c i ≤ M
-  pub right : Right c k
+  pub start : c .start < c .states
+  pub right : RightTo c (End short c) k
   pub goal : (g : ℕ) × ((g < c .states) × Goal c g)
   pub paid : p ≡ true → Earnable (c .states) (c .denominators) (c .edges) rewards
   pub unpaid : b ≡ rounding → p ≡ false

@@ -1,4 +1,4 @@
--- What is gathered along the edges, by columns.
+-- What is gathered along the edges, by columns, and what is missing from a row.
 use mathlib.Core.Path.{_≡_}
 use mathlib.Core.List.{List}
 use Prim.Native.Nat.{ℕ, _+_, _≤_, _<_}
@@ -6,12 +6,12 @@ use lib.Dec.{eqb}
 use lib.ListN.{length}
 use Rattle.meaning.specs.Number.{only, choose, bit}
 use Rattle.meaning.specs.Chain.{mostStates, M, edgeCount, from, to, weight, carried, rowSum}
-use Rattle.meaning.specs.Row.{cell, width, goalColumn, trapColumn}
+use Rattle.meaning.specs.Row.{cell, width, goalColumn, trapColumn, unknownColumn}
 use Rattle.meaning.specs.Step.{Sets}
 use Rattle.meaning.specs.Refusal.{workSize}
 use Rattle.engines.specs.Table.{partAt, Kept}
 
--- The column of a target in the row of a live state: its own where it is live, else Goal where it has a path to a goal, since then it is one,
+-- The column of a target in the row of a live state: its own where it is live, else Goal where it has a path to an end, since then it is one,
 -- else Trap.
 unfoldable pub columnOf : ℕ → Sets → ℕ → ℕ
 columnOf n k t =
@@ -20,6 +20,10 @@ columnOf n k t =
 -- What edge e brings to column j of row i: nothing where i is not live.
 unfoldable pub share : ℕ → Sets → List ℕ → ℕ → ℕ → ℕ → ℕ
 share n k edges i j e = only (eqb (bit (k .live) i) 1) (carried edges i (λ t. only (eqb (columnOf n k t) j) 1) e)
+
+-- What comes to column j of row i where x is missing from it: that is Unknown, and nothing where i is not live.
+unfoldable pub lack : ℕ → ℕ → ℕ → ℕ → ℕ → ℕ
+lack n live i x j = only (eqb j (unknownColumn n)) (only (eqb (bit live i) 1) x)
 
 -- v is w with the numbers r in the part of row i.
 pub record Changed (n : ℕ) (w : List ℕ) (i : ℕ) (r : List ℕ) (v : List ℕ) : Type 0 where
@@ -52,3 +56,9 @@ pub record Gatherable (n : ℕ) (edges w : List ℕ) : Type 0 where
   pub sources : (e : ℕ) → e < edgeCount edges → from edges e < n
   pub targets : (e : ℕ) → e < edgeCount edges → to edges e < n
   pub sums : (i : ℕ) → i < n → rowSum edges i ≤ M
+
+-- What u says is missing from each row can be added to the table in w.
+pub record Completable (n : ℕ) (u : ℕ → ℕ) (w : List ℕ) : Type 0 where
+  pub few : n ≤ mostStates
+  pub room : workSize n ≤ length w
+  pub sums : (i : ℕ) → i < n → cell (partAt n w i) (unknownColumn n) + u i ≤ M

@@ -1,16 +1,18 @@
 // The entries: each does its own looking, and answers or refuses.
 ghost use mathlib.Core.Path.{_≡_};
-ghost use mathlib.Core.Bool.{Bool, false};
+ghost use mathlib.Core.Bool.{Bool, true, false};
 ghost use mathlib.Core.List.{[]};
 ghost use Prim.Native.Nat.{ℕ};
 ghost use Rattle.meaning.specs.Outcome.{ChanceOutcome, BoundsOutcome};
+ghost use Rattle.meaning.specs.Row.{rounding as rounds};
 ghost use Rattle.meaning.specs.Refusal.{withList};
+ghost use Rattle.meaning.specs.Left.{LeftOutcome};
 ghost use Rattle.chain.specs.Lent.{lent};
 ghost use Rattle.look.specs.Says.{counted};
 ghost use Rattle.engines.specs.Answer.{toldChance, toldBounds};
 ghost use Rattle.engines.specs.Log.{Logged};
 ghost use Rattle.engines.specs.Looking.{ordered};
-ghost use Rattle.engines.specs.Run.{entered, chanceOf};
+ghost use Rattle.engines.specs.Run.{entered, chanceOf, boundsOf, Addable};
 ghost use Rattle.engines.specs.Trace.{Traced};
 ghost use Rattle.engines.specs.Told.{Rewarded};
 use crate::answer::Bounds;
@@ -36,16 +38,17 @@ fn unpaid(
     order: &[u64],
     work: &mut [u64],
     rounding: bool,
+    short: bool,
     list: usize,
     log: &mut [u64],
 ) -> Course
-    requires { ⌜ Logged (now log) [] ⌝ }
+    requires { ⌜ Logged (now log) [] × (short ≡ true → rounding ≡ rounds) ⌝ }
     ensures { λ r.
         let l = lent c (now (denominators .entry)) (now (edges .entry)) (now (order .entry)) [] (now (work .entry)) in
         ⌜ ((t : Bool) (k : ℕ) → counted t k (c .states) list
-        → entered (ordered false t) rounding (withList k l) (now (work .exit)) (now (log .exit)) r) ⌝ }
+        → entered (ordered false t short) rounding (withList k l) (now (work .exit)) (now (log .exit)) r) ⌝ }
 {
-    match look(c, denominators, edges, order, work, list) {
+    match look(c, denominators, edges, order, work, list, short) {
         Looked::Refused { number, place } => Course::Stops { number, place },
         Looked::Clear(sets) => {
             let e = Elimination {
@@ -53,6 +56,7 @@ fn unpaid(
                 sets,
                 rounding,
                 paid: false,
+                short,
             };
             let none = [0u64; 0];
             run(e, denominators, edges, order, &none, work, log)
@@ -95,6 +99,7 @@ pub fn chance(
         order,
         work,
         false,
+        false,
         c.states,
         &mut none,
     ))
@@ -120,6 +125,7 @@ pub fn trace(
         edges,
         order,
         work,
+        false,
         false,
         list,
         &mut numbers,
@@ -156,6 +162,7 @@ pub fn reward(
         sets,
         rounding: false,
         paid: true,
+        short: false,
     };
     let mut none = [0u64; 0];
     match run(e, denominators, edges, order, rewards, work, &mut none) {
@@ -166,6 +173,25 @@ pub fn reward(
             outside,
         } => Reward::Is(Fraction::new(reward, outside).reduce()),
         Course::Stops { number, place } => Reward::Refused { number, place },
+    }
+}
+
+// The bounds that are read off.
+fn bounds_of(course: Course) -> Bounds
+    requires { ⌜ Addable course ⌝ }
+    ensures { λ r. ⌜ r ≡ boundsOf course ⌝ }
+{
+    match course {
+        Course::Ends {
+            goal,
+            unknown,
+            reward: _,
+            outside,
+        } => Bounds::Between {
+            lower: Fraction::new(goal, outside).reduce(),
+            upper: Fraction::new(goal + unknown, outside).reduce(),
+        },
+        Course::Stops { number, place } => Bounds::Refused { number, place },
     }
 }
 
@@ -182,25 +208,41 @@ pub fn bounds(
         ⌜ BoundsOutcome l (toldBounds r) (now (work .exit)) ⌝ }
 {
     let mut none = [0u64; 0];
-    match unpaid(
+    bounds_of(unpaid(
         c,
         denominators,
         edges,
         order,
         work,
         true,
+        false,
         c.states,
         &mut none,
-    ) {
-        Course::Ends {
-            goal,
-            unknown,
-            reward: _,
-            outside,
-        } => Bounds::Between {
-            lower: Fraction::new(goal, outside).reduce(),
-            upper: Fraction::new(goal + unknown, outside).reduce(),
-        },
-        Course::Stops { number, place } => Bounds::Refused { number, place },
-    }
+    ))
+}
+
+// The same of a chain where edges are lost: rows may fall short, and their missing weight goes to Unknown.
+pub fn bounds_left(
+    c: Chain,
+    denominators: &[u64],
+    edges: &[u64],
+    order: &[u64],
+    work: &mut [u64],
+) -> Bounds
+    ensures { λ r.
+        let l = lent c (now (denominators .entry)) (now (edges .entry)) (now (order .entry)) [] (now (work .entry)) in
+        ⌜ LeftOutcome l (toldBounds r) (now (work .exit)) ⌝ }
+{
+    let mut none = [0u64; 0];
+    bounds_of(unpaid(
+        c,
+        denominators,
+        edges,
+        order,
+        work,
+        true,
+        true,
+        c.states,
+        &mut none,
+    ))
 }

@@ -1,4 +1,4 @@
-// The first rows, made from the chain: the weights are gathered by columns, then each live row is packed and settled.
+// The first rows, made from the chain: the weights are gathered by columns, what is missing is Unknown, then each live row is packed and settled.
 ghost use mathlib.Core.Path.{_≡_};
 ghost use Prim.Native.Nat.{_<_, _≤_};
 ghost use lib.Dec.{eqb};
@@ -7,7 +7,7 @@ ghost use Rattle.meaning.specs.Number.{bit};
 ghost use Rattle.meaning.specs.Chain.{mostStates};
 ghost use Rattle.meaning.specs.Row.{width};
 ghost use Rattle.meaning.specs.Refusal.{workSize};
-ghost use Rattle.meaning.specs.Step.{first};
+ghost use Rattle.meaning.specs.Step.{first, unknown};
 ghost use Rattle.engines.specs.Packed.{statesOf};
 ghost use Rattle.engines.specs.Row.{Became};
 ghost use Rattle.engines.specs.Table.{partAt, Placed, Renewed};
@@ -17,6 +17,7 @@ ghost use Rattle.engines.specs.Pay.{pays};
 ghost use Rattle.engines.specs.Turn.{Made};
 use crate::gather::TRAP_BEHIND;
 use crate::gather::UNKNOWN_BEHIND;
+use crate::gather::add_missing;
 use crate::gather::gather;
 use crate::merge::weights;
 use crate::part::GOAL;
@@ -121,10 +122,10 @@ pub(crate) fn first_rows(
     edges: &[u64],
     rewards: &[u64],
 ) -> bool
-    requires { ⌜ Makeable (e .rounding) (e .paid) (chainOf (e .chain) (now denominators) (now edges)) (setsOf (e .sets)) (now rewards) (now work) ⌝ }
+    requires { ⌜ Makeable (e .rounding) (e .paid) (e .short) (chainOf (e .chain) (now denominators) (now edges)) (setsOf (e .sets)) (now rewards) (now work) ⌝ }
     ensures { λ r.
         let c = chainOf (e .chain) (now (denominators .entry)) (now (edges .entry)) in
-        let t = first (e .rounding) c (setsOf (e .sets)) (pays (e .paid) c (now (rewards .entry))) (λ _. 0) in
+        let t = first (e .rounding) c (setsOf (e .sets)) (pays (e .paid) c (now (rewards .entry))) (unknown (e .short) c) in
         ⌜ Made (e .rounding) (c .states) t (now (work .entry)) (now (work .exit)) r ⌝ }
 {
     let c = e.chain;
@@ -132,5 +133,6 @@ pub(crate) fn first_rows(
     let n = c.states;
     let pay = earnings(e.paid, n, denominators, edges, rewards);
     gather(work, n, sets, edges);
+    add_missing(work, e, denominators, edges);
     finish_all(work, n, sets.live, &pay, e.rounding)
 }

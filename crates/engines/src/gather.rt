@@ -1,20 +1,25 @@
-// The weights of the edges, gathered by columns in one pass. While they are gathered a row's own part has a number for each column: the n states,
-// then Goal in column n and Trap, Unknown and Reward behind it.
+// The weights of the edges, gathered by columns in one pass, and what is missing from a row. While they are gathered a row's own part has a number
+// for each column: the n states, then Goal in column n and Trap, Unknown and Reward behind it.
 ghost use mathlib.Core.Path.{_≡_};
 ghost use Prim.Native.Nat.{_+_, _<_, _≤_};
-ghost use lib.ListN.{length, set};
-ghost use Rattle.meaning.specs.Number.{sumTo};
+ghost use lib.Dec.{eqb};
+ghost use lib.ListN.{length, getD, set};
+ghost use Rattle.meaning.specs.Number.{sumTo, only};
 ghost use Rattle.meaning.specs.Chain.{mostStates, M, edgeCount};
-ghost use Rattle.meaning.specs.Row.{cell, width};
+ghost use Rattle.meaning.specs.Row.{cell, width, unknownColumn};
 ghost use Rattle.meaning.specs.Refusal.{workSize};
+ghost use Rattle.meaning.specs.Step.{unknown};
 ghost use Rattle.engines.specs.Table.{partAt};
-ghost use Rattle.survey.specs.Sets.{setsOf};
-ghost use Rattle.engines.specs.Gather.{columnOf, share, Changed, Added, Held, Addable, Gatherable};
+ghost use Rattle.survey.specs.Sets.{chainOf, setsOf};
+ghost use Rattle.engines.specs.Gather.{columnOf, share, lack, Changed, Added, Held, Addable, Gatherable, Completable};
+use crate::run::Elimination;
 use crate::work::clear_work;
 use crate::work::row_start;
 use chain::Chain;
 use chain::edge;
 use chain::set::holds;
+use chain::table::at;
+use look::sums::missing;
 use survey::Sets;
 
 // How far Trap and Unknown stand behind Goal.
@@ -22,7 +27,7 @@ pub(crate) const TRAP_BEHIND: usize = 1;
 
 pub(crate) const UNKNOWN_BEHIND: usize = 2;
 
-// The column of a target in the row of a live state. A target that is not live and has a path to a goal is a goal.
+// The column of a target in the row of a live state. A target that is not live and has a path to an end is a goal.
 fn column(t: usize, n: usize, sets: Sets) -> usize
     requires { ⌜ (t < n) × (n ≤ mostStates) ⌝ }
     ensures { λ r. ⌜ (r ≡ columnOf n (setsOf sets) t) × (r < width n) ⌝ }
@@ -74,4 +79,47 @@ pub(crate) fn gather(work: &mut [u64], n: usize, sets: Sets, edges: &[u64])
         carry(work, n, sets, edges, e);
         e += 1;
     }
+}
+
+// Adds x, which is missing from row i, to its Unknown, where i is live.
+fn complete(work: &mut [u64], n: usize, live: u64, i: usize, x: u64)
+    requires { let w = now work in
+        ⌜ (n ≤ mostStates) × (workSize n ≤ length w) × (i < n) × (cell (partAt n w i) (unknownColumn n) + x ≤ M) ⌝ }
+    ensures { λ _. ⌜ Added n (λ r j. only (eqb r i) (lack n live i x j)) (now (work .entry)) (now (work .exit)) ⌝ }
+{
+    if !holds(live, i) {
+        return;
+    }
+    add(work, n, i, n + UNKNOWN_BEHIND, x);
+}
+
+// Adds to each live row what is missing from it.
+fn complete_all(work: &mut [u64], n: usize, live: u64, left: &[u64])
+    requires { ⌜ Completable n (λ i. getD (now left) i 0) (now work) ⌝ }
+    ensures { λ _.
+        let l = now (left .entry) in
+        ⌜ Added n (λ i j. lack n live i (getD l i 0) j) (now (work .entry)) (now (work .exit)) ⌝ }
+{
+    let mut i = 0;
+    while i < n {
+        complete(work, n, live, i, at(left, i));
+        i += 1;
+    }
+}
+
+// The same where rows may fall short. Else nothing is missing, and the edges are not gone through again.
+pub(crate) fn add_missing(work: &mut [u64], e: Elimination, denominators: &[u64], edges: &[u64])
+    requires { let c = chainOf (e .chain) (now denominators) (now edges) in ⌜ Completable (c .states) (unknown (e .short) c) (now work) ⌝ }
+    ensures { λ _.
+        let c = chainOf (e .chain) (now (denominators .entry)) (now (edges .entry)) in
+        let live = e .sets .live in
+        ⌜ Added (c .states) (λ i j. lack (c .states) live i (unknown (e .short) c i) j) (now (work .entry)) (now (work .exit)) ⌝ }
+{
+    if !e.short {
+        return;
+    }
+    let c = e.chain;
+    let sets = e.sets;
+    let left = missing(c.states, denominators, edges);
+    complete_all(work, c.states, sets.live, &left);
 }

@@ -25,7 +25,7 @@ pub(crate) enum Looked {
 }
 
 // The work table is too short, or the step list.
-fn short(n: usize, work: usize, list: usize) -> bool
+fn lacking(n: usize, work: usize, list: usize) -> bool
     requires { ⌜ n ≤ mostStates ⌝ }
     ensures { λ r. ⌜ decides ((work < workSize n) ⊎ (list < n)) r ⌝ }
 {
@@ -44,6 +44,7 @@ fn tables(
     rewards: usize,
     work: &[u64],
     list: usize,
+    short: bool,
 ) -> Looked
     ensures { λ r.
         let n = c .states in
@@ -52,7 +53,7 @@ fn tables(
         let o = now (order .entry) in
         let v = now (work .entry) in
         ⌜ ((b t : Bool) (w : List ℕ) (k : ℕ) → counted b (length w) n rewards → counted t k n list
-        → soFar (ordered b t) (withList k (lent c d e o w v)) 11 r) ⌝ }
+        → soFar (ordered b t short) (withList k (lent c d e o w v)) 11 r) ⌝ }
 {
     let n = c.states;
     if misshaped(n, denominators.len(), edges, order.len(), rewards) {
@@ -61,13 +62,13 @@ fn tables(
             place: 0,
         };
     }
-    if short(n, work.len(), list) {
+    if lacking(n, work.len(), list) {
         return Looked::Refused {
             number: 2,
             place: 0,
         };
     }
-    match survey::of(c, denominators, edges) {
+    match survey::along(c, denominators, edges, short) {
         Survey::Refused { number, place } => Looked::Refused { number, place },
         Survey::Found {
             sets,
@@ -85,7 +86,7 @@ fn tables(
     }
 }
 
-// The looking of an entry for the chance or the bounds, which may be lent a step list: 1 to 10.
+// The looking of an entry for the chance or the bounds, which may be lent a step list, and whose rows may fall short or not: 1 to 10.
 pub(crate) fn look(
     c: Chain,
     denominators: &[u64],
@@ -93,12 +94,13 @@ pub(crate) fn look(
     order: &[u64],
     work: &[u64],
     list: usize,
+    short: bool,
 ) -> Looked
     ensures { λ r.
         let l = lent c (now (denominators .entry)) (now (edges .entry)) (now (order .entry)) [] (now (work .entry)) in
-        ⌜ ((t : Bool) (k : ℕ) → counted t k (c .states) list → looked (ordered false t) (withList k l) r) ⌝ }
+        ⌜ ((t : Bool) (k : ℕ) → counted t k (c .states) list → looked (ordered false t short) (withList k l) r) ⌝ }
 {
-    tables(c, denominators, edges, order, c.states, work, list)
+    tables(c, denominators, edges, order, c.states, work, list, short)
 }
 
 // The looking of an entry for the expected reward: 1 to 11.
@@ -114,7 +116,16 @@ pub(crate) fn look_paid(
         let l = lent c (now (denominators .entry)) (now (edges .entry)) (now (order .entry)) (now (rewards .entry)) (now (work .entry)) in
         ⌜ looked paid l r ⌝ }
 {
-    match tables(c, denominators, edges, order, rewards.len(), work, c.states) {
+    match tables(
+        c,
+        denominators,
+        edges,
+        order,
+        rewards.len(),
+        work,
+        c.states,
+        false,
+    ) {
         Looked::Refused { number, place } => Looked::Refused { number, place },
         Looked::Clear(sets) => {
             if let Place::At(i) = rewards::too_large(c.states, rewards, edges) {

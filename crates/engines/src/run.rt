@@ -26,12 +26,13 @@ use chain::Chain;
 use chain::set::holds;
 use survey::Sets;
 
-// An elimination: its chain with its sets, whether rows are rounded, and whether a turn earns anything.
+// An elimination: its chain with its sets, whether rows are rounded, whether a turn earns anything, and whether rows may fall short.
 pub(crate) struct Elimination {
     pub chain: Chain,
     pub sets: Sets,
     pub rounding: bool,
     pub paid: bool,
+    pub short: bool,
 }
 
 // What the elimination comes to: what the start's row holds at the end, with its D; or what stops it.
@@ -99,12 +100,12 @@ fn follow(
     log: &mut [u64],
 ) -> Course
     requires { let l = lent (e .chain) (now denominators) (now edges) (now order) (now rewards) (now work) in
-        ⌜ Begun (e .rounding) (e .paid) l (setsOf (e .sets)) × Logged (now log) [] ⌝ }
+        ⌜ Begun (e .rounding) (e .paid) (e .short) l (setsOf (e .sets)) × Logged (now log) [] ⌝ }
     ensures { λ r.
         let l = lent (e .chain) (now (denominators .entry)) (now (edges .entry)) (now (order .entry)) (now (rewards .entry)) (now (work .entry)) in
         let pay = pays (e .paid) (l .chain) (l .rewards) in
-        ⌜ Kept (e .chain .states) (now (work .entry)) (now (work .exit)) × runs pay (e .rounding) l r
-        × Logged (now (log .exit)) (recordsRun pay (e .rounding) l (setsOf (e .sets)) (finishedIn (e .chain .states) r)) ⌝ }
+        ⌜ Kept (e .chain .states) (now (work .entry)) (now (work .exit)) × runs pay (e .short) (e .rounding) l r
+        × Logged (now (log .exit)) (recordsRun pay (e .short) (e .rounding) l (setsOf (e .sets)) (finishedIn (e .chain .states) r)) ⌝ }
 {
     let c = e.chain;
     let sets = e.sets;
@@ -143,12 +144,12 @@ pub(crate) fn run(
     log: &mut [u64],
 ) -> Course
     requires { let l = lent (e .chain) (now denominators) (now edges) (now order) (now rewards) (now work) in
-        ⌜ Begun (e .rounding) (e .paid) l (setsOf (e .sets)) × Logged (now log) [] ⌝ }
+        ⌜ Begun (e .rounding) (e .paid) (e .short) l (setsOf (e .sets)) × Logged (now log) [] ⌝ }
     ensures { λ r.
         let l = lent (e .chain) (now (denominators .entry)) (now (edges .entry)) (now (order .entry)) (now (rewards .entry)) (now (work .entry)) in
         let pay = pays (e .paid) (l .chain) (l .rewards) in
-        ⌜ (now (work .exit) ≡ cleared l) × runs pay (e .rounding) l r
-        × Logged (now (log .exit)) (recordsRun pay (e .rounding) l (setsOf (e .sets)) (finishedIn (e .chain .states) r)) ⌝ }
+        ⌜ (now (work .exit) ≡ cleared l) × runs pay (e .short) (e .rounding) l r
+        × Logged (now (log .exit)) (recordsRun pay (e .short) (e .rounding) l (setsOf (e .sets)) (finishedIn (e .chain .states) r)) ⌝ }
 {
     let r = follow(e, denominators, edges, order, rewards, work, log);
     let c = e.chain;

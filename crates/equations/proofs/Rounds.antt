@@ -40,7 +40,7 @@ module _ (l : Lent) (formed : WellFormed bare l) where
             let in-states : i < c .states = from-in bare l formed e h in
             let most : flow (c .edges) i (valueIn values) ≤ M * rowSum (c .edges) i =
             flow-most (c .edges) i (valueIn values) M (λ d k q. small (to (c .edges) d) (to-in bare l formed d k)) in
-            let sum : rowSum (c .edges) i ≡ denominator c i = row-sum bare l formed i in-states in
+            let sum : rowSum (c .edges) i ≡ denominator c i = row-sum bare l formed refl i in-states in
             omega (arith, most, sum, denominator-small bare l formed i in-states);
       }
 

@@ -1,5 +1,6 @@
 -- What is found of a chain, from what the entries and the survey answer.
 use Prim.Native.Nat.{ℕ}
+use mathlib.Core.Bool.{false}
 use mathlib.Core.Path.{_≡_, refl, sym, ap, subst}
 use mathlib.Core.List.{List, []}
 use Rattle.meaning.specs.Chain.{edgeCount}
@@ -23,7 +24,7 @@ pub found : {A : Type 0} {Outcome : A → List ℕ → Type 0} {a b : A} (w : Li
 found {Outcome = Outcome} w e o = record { work = w; outcome = subst (λ a. Outcome a w) (sym e) o }
 
 -- What a survey counts.
-pub surveyed : {l : Lent} {a : Survey} {edges : ℕ} → SurveyOutcome l a → edges ≡ edgeCount (l .chain .edges)
+pub surveyed : {l : Lent} {a : Survey} {edges : ℕ} → SurveyOutcome false l a → edges ≡ edgeCount (l .chain .edges)
     → Counted l (record { states = l .chain .states; edges = edges; goals = a .goals; live = a .live })
 surveyed {a = a} o h = record { states = refl; edges = h; survey = a; outcome = o; goals = refl; live = refl }
 

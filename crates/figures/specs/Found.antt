@@ -1,5 +1,6 @@
 -- What is found of a chain: its figures, each with a work table of its own, and its counts.
 use Prim.Native.Nat.{ℕ}
+use mathlib.Core.Bool.{false}
 use mathlib.Core.Path.{_≡_}
 use mathlib.Core.List.{List, []}
 use lib.ListN.{replicate}
@@ -31,7 +32,7 @@ pub record Counted (l : Lent) (r : Counts) : Type 0 where
   pub states : r .states ≡ l .chain .states
   pub edges : r .edges ≡ edgeCount (l .chain .edges)
   pub survey : Survey
-  pub outcome : SurveyOutcome l survey
+  pub outcome : SurveyOutcome false l survey
   pub goals : r .goals ≡ survey .goals
   pub live : r .live ≡ survey .live
 

@@ -34,10 +34,10 @@ abbrev pub upto : Entry → Lent → ℕ → Finding → Type 0
 upto x l k Clear = Upto x l k
 upto x l k (Refusing number place) = Refused x l number place
 
--- What is said of the chain's own faults, 3 to 9, whatever else is lent.
-abbrev pub own : Chain → List ℕ → List ℕ → Finding → Type 0
-own c denominators edges r =
-    (x : Entry) (order rewards work : List ℕ) → let l = lent c denominators edges order rewards work in Upto x l 3 → upto x l 10 r
+-- What is said of the chain's own faults, 3 to 9, whatever else is lent, by an entry whose rows may fall short or not.
+abbrev pub own : Chain → List ℕ → List ℕ → Bool → Finding → Type 0
+own c denominators edges short r =
+    (x : Entry) → x .short ≡ short → (order rewards work : List ℕ) → let l = lent c denominators edges order rewards work in Upto x l 3 → upto x l 10 r
 
 -- What is given for the length of a table that may not be lent: its length, or n for none.
 abbrev pub counted : Bool → ℕ → ℕ → ℕ → Type 0

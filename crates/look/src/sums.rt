@@ -1,13 +1,18 @@
 ghost use mathlib.Core.Path.{_≡_};
-ghost use Prim.Native.Nat.{ℕ, _≤_, _<_};
+ghost use Prim.Native.Nat.{ℕ, _-_, _≤_, _<_};
+ghost use mathlib.Core.List.{[]};
 ghost use lib.ListN.{getD};
+ghost use lib.Dec.{ltb};
 ghost use Rattle.look.specs.Least.{least};
 ghost use Rattle.look.specs.Says.{Shaped};
+ghost use Rattle.look.specs.Sums.{Wrong, Lacks, TakenOut};
+ghost use Rattle.meaning.specs.Number.{decides, only};
 ghost use Rattle.meaning.specs.Chain.{mostStates, mostEdges, edgeCount, rowSum};
 ghost use Rattle.meaning.specs.Refusal.{EndFault, WeightFault, SumFault};
 use crate::scan::Place;
 use chain::Chain;
 use chain::edge;
+use chain::table::at;
 
 // The row sum of every state, in one pass over the edges.
 fn row_sums(edges: &[u64]) -> [u64; Chain::STATES]
@@ -27,20 +32,88 @@ fn row_sums(edges: &[u64]) -> [u64; Chain::STATES]
     sums
 }
 
-// The first state whose row sum is not its denominator.
-pub(crate) fn unequal(n: usize, denominators: &[u64], edges: &[u64]) -> Place
+// Whether a row sum is wrong for its denominator: it differs or, where rows may fall short, exceeds it.
+fn wrong(sum: u64, denominator: u64, short: bool) -> bool
+    ensures { λ r. ⌜ decides (Wrong short sum denominator) r ⌝ }
+{
+    if short {
+        return denominator < sum;
+    }
+    sum != denominator
+}
+
+// The first state whose row sum is wrong.
+pub(crate) fn unequal(n: usize, denominators: &[u64], edges: &[u64], short: bool) -> Place
     requires { ⌜ Shaped n (now denominators) (now edges) ⌝ }
     requires { ⌜ ((e : ℕ) → EndFault n (now edges) e → ⊥) ⌝ }
     requires { ⌜ ((e : ℕ) → WeightFault (now edges) e → ⊥) ⌝ }
-    ensures { λ r. ⌜ least (SumFault n (now (denominators .entry)) (now (edges .entry))) r ⌝ }
+    ensures { λ r. ⌜ least (SumFault short n (now (denominators .entry)) (now (edges .entry))) r ⌝ }
 {
     let sums = row_sums(edges);
     let mut i = 0;
     while i < n {
-        if sums[i] != denominators[i] {
+        if wrong(sums[i], denominators[i], short) {
             return Place::At(i);
         }
         i += 1;
     }
     Place::Nowhere
+}
+
+// Number i of a table of n numbers, and 0 past them.
+fn own(n: usize, numbers: &[u64], i: usize) -> u64
+    ensures { λ r. ⌜ r ≡ only (ltb i n) (getD (now (numbers .entry)) i 0) ⌝ }
+{
+    if i < n {
+        return at(numbers, i);
+    }
+    0
+}
+
+// The denominators of n states.
+fn whole(n: usize, denominators: &[u64]) -> [u64; Chain::STATES]
+    ensures { λ r. ⌜ Lacks n (now (denominators .entry)) [] r ⌝ }
+{
+    let mut left = [0u64; Chain::STATES];
+    let mut i = 0;
+    while i < Chain::STATES {
+        left[i] = own(n, denominators, i);
+        i += 1;
+    }
+    left
+}
+
+// What is left of a number once a weight is taken out of it.
+fn less(left: u64, weight: u64) -> u64
+    ensures { λ r. ⌜ r ≡ left - weight ⌝ }
+{
+    if left < weight {
+        return 0;
+    }
+    left - weight
+}
+
+// The weight of an edge that leaves i is not missing there.
+fn take_out(left: &mut [u64], i: usize, weight: u64)
+    ensures { λ _. ⌜ TakenOut (now (left .entry)) i weight (now (left .exit)) ⌝ }
+{
+    if left.len() <= i {
+        return;
+    }
+    left[i] = less(left[i], weight);
+}
+
+// The weight that is missing from the row of each of n states: none where the row exceeds its denominator.
+pub fn missing(n: usize, denominators: &[u64], edges: &[u64]) -> [u64; Chain::STATES]
+    ensures { λ r. ⌜ Lacks n (now (denominators .entry)) (now (edges .entry)) r ⌝ }
+{
+    let count = edge::count(edges);
+    let mut left = whole(n, denominators);
+    let mut e = 0;
+    while e < count {
+        let i = edge::from(edges, e) as usize;
+        take_out(&mut left, i, edge::weight(edges, e));
+        e += 1;
+    }
+    left
 }

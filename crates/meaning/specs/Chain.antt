@@ -1,6 +1,8 @@
 -- The chain: its limits, its states and edges, and the paths along them.
-use Prim.Native.Nat.{ℕ, _+_, _*_, _/_, _%_, _<_}
+use Prim.Native.Nat.{ℕ, _+_, _-_, _*_, _/_, _%_, _<_}
 use mathlib.Core.Path.{_≡_}
+use mathlib.Core.Logic.{_⊎_}
+use mathlib.Core.Bool.{Bool, true, false}
 use mathlib.Core.List.{List, [], _∷_}
 use lib.ListN.{length, getD}
 use lib.Dec.{eqb}
@@ -93,6 +95,15 @@ Goal c i = bit (c .goals) i ≡ 1
 pub data PathTo (edges : List ℕ) (End : ℕ → Type 0) : ℕ → Type 0 where
   here : (i : ℕ) → End i → PathTo edges End i
   step : (e : ℕ) → e < edgeCount edges → PathTo edges End (to edges e) → PathTo edges End (from edges e)
+
+-- The weight that is missing from the row of i: none in a well-formed chain, but where edges are lost rows may fall short (request 10).
+abbrev pub missing : Chain → ℕ → ℕ
+missing c i = denominator c i - rowSum (c .edges) i
+
+-- Where a path ends: in a goal or, where rows may fall short, in a state whose row does.
+abbrev pub End : Bool → Chain → ℕ → Type 0
+End false c i = Goal c i
+End true c i = Goal c i ⊎ (0 < missing c i)
 
 -- i has a path to a goal.
 abbrev pub ToGoal : Chain → ℕ → Type 0

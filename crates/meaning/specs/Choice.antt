@@ -11,6 +11,8 @@ use Rattle.meaning.specs.Step.{Table, row, Sets, Right, goes}
 use Rattle.meaning.specs.Refusal.{Lent, plain, bare, Refused, WellFormed}
 use Rattle.meaning.specs.Stop.{earns, tableAt}
 use Rattle.meaning.specs.Steps.{rowsTo, columnsOf}
+use Rattle.meaning.specs.Block.{Input}
+use Rattle.meaning.specs.File.{FileRefused, Accepted, bareIn}
 
 -- The product by which a state is chosen: the rows leading to it times the columns that it leads to, as the step list counts them.
 abbrev pub product : ℕ → ℕ → Table → ℕ
@@ -75,3 +77,9 @@ pub data ChoiceOutcome (l : Lent) (before : List ℕ) (a : Choice) (after : List
   chosen : length before ≡ l .chain .states → WellFormed bare l → (k : Sets) → Right (l .chain) k → (m : ℕ) → Chosen (l .chain) k after m
       → a ≡ choice (productsTo (l .chain) k after m)
       → ChoiceOutcome l before a after
+
+-- The order that is chosen for the chain of a file: the file's refusal, 20 to 24, comes first and leaves the list. Else an order is chosen for its
+-- chain: 1 where the list is not n long, then 3 to 9, or the order and the sum. The file's own order is not looked at.
+pub data FileChoice (f : Input) (before : List ℕ) (a : Choice) (after : List ℕ) : Type 0 where
+  file-refused : (number place : ℕ) → FileRefused f number place → a ≡ noChoice number place → after ≡ before → FileChoice f before a after
+  asked : Accepted f → ChoiceOutcome (bareIn f) before a after → FileChoice f before a after

@@ -7,7 +7,7 @@ use lib.ListN.{length}
 use lib.Dec.{eqb, leb}
 use Rattle.meaning.specs.Number.{sumTo, choose, tabFrom, filled}
 use Rattle.meaning.specs.Chain.{mostStates, mostEdges, Chain, edgeSize, edge, edgeNumber}
-use Rattle.meaning.specs.Refusal.{Lent, ownWork}
+use Rattle.meaning.specs.Refusal.{Lent, chainAlone, ownWork}
 use Rattle.meaning.specs.Block.{
   Input,
   inputLength,
@@ -188,7 +188,7 @@ paidIn f = lentIn f (rewardsIn f)
 
 -- Where a chain alone is asked for, an entry is lent the chain of an accepted file and no table.
 abbrev pub bareIn : Input → Lent
-bareIn f = record { chain = chainIn f; order = []; rewards = []; work = []; list = 0 }
+bareIn f = chainAlone (chainIn f)
 
 -- The tables that the reader fills, lent at the largest chain's size or more.
 pub record Tables : Type 0 where

@@ -1,15 +1,16 @@
 -- The outcome of each entry: its numbers, as document 01 has them, and what its work table then holds.
 use Prim.Native.Nat.{ℕ, _+_}
 use mathlib.Core.Path.{_≡_}
+use mathlib.Core.Bool.{Bool, false}
 use mathlib.Core.List.{List, _++_}
 use lib.ListN.{replicate, drop}
 use Rattle.meaning.specs.Number.{Reduced}
-use Rattle.meaning.specs.Chain.{Chain, Goal, ToGoal, Live}
+use Rattle.meaning.specs.Chain.{Chain, Goal, End, PathTo, LiveTo}
 use Rattle.meaning.specs.Figure.{Chance, Missed, Expected}
 use Rattle.meaning.specs.Row.{Row, cell, goalColumn, unknownColumn, exact, rounding}
-use Rattle.meaning.specs.Step.{row, Sets, Right, outside}
+use Rattle.meaning.specs.Step.{row, Sets, RightTo, outside, stageFrom, unknown}
 use Rattle.meaning.specs.Refusal.{Lent, Entry, plain, paid, workSize, Refused, WellFormed}
-use Rattle.meaning.specs.Stop.{earns, tableAt, Stopped}
+use Rattle.meaning.specs.Stop.{earns, Stopped}
 
 -- The work table with its first n × (n + 4) numbers zero and the rest unchanged.
 abbrev pub cleared : Lent → List ℕ
@@ -99,8 +100,10 @@ between p q s t =
     }
 
 -- The start's row once every position of the order has had its turn.
-abbrev pub lastRow : Lent → Sets → Row
-lastRow l k = row (tableAt (earns plain l) rounding l k (l .chain .states)) (l .chain .start)
+abbrev pub lastRow : Bool → Lent → Sets → Row
+lastRow short l k =
+    let c = l .chain in
+    row (stageFrom rounding c k (earns plain l) (unknown short c) (l .order) (c .states)) (c .start)
 
 -- The bounds of the start's row z at the end: Goal / D and (Goal + Unknown) / D, each put in lowest terms.
 abbrev pub BoundsOf : Chain → Row → ℕ → ℕ → ℕ → ℕ → Type 0
@@ -109,12 +112,13 @@ BoundsOf c z p q s t =
     Reduced (cell z (goalColumn n)) (outside n (c .start) z) p q
     × Reduced (cell z (goalColumn n) + cell z (unknownColumn n)) (outside n (c .start) z) s t
 
--- The bounds: both 1/1 where the start is a goal, both 0/1 where it has no path to one; else those of the start's row at the end.
-pub data BoundsFigure (l : Lent) (a : Bounds) : Type 0 where
-  won : Goal (l .chain) (l .chain .start) → a ≡ between 1 1 1 1 → BoundsFigure l a
-  lost : (ToGoal (l .chain) (l .chain .start) → ⊥) → a ≡ between 0 1 0 1 → BoundsFigure l a
-  live : (k : Sets) → Right (l .chain) k → Live (l .chain) (l .chain .start) → (p q s t : ℕ)
-      → BoundsOf (l .chain) (lastRow l k) p q s t → a ≡ between p q s t → BoundsFigure l a
+-- The bounds: both 1/1 where the start is a goal, both 0/1 where it has no path to an end; else those of the start's row at the end. The ends are
+-- the goals, and no weight is Unknown at first, but where rows may fall short.
+pub data BoundsFigure (short : Bool) (l : Lent) (a : Bounds) : Type 0 where
+  won : Goal (l .chain) (l .chain .start) → a ≡ between 1 1 1 1 → BoundsFigure short l a
+  lost : (PathTo (l .chain .edges) (End short (l .chain)) (l .chain .start) → ⊥) → a ≡ between 0 1 0 1 → BoundsFigure short l a
+  live : (k : Sets) → RightTo (l .chain) (End short (l .chain)) k → LiveTo (l .chain) (End short (l .chain)) (l .chain .start) → (p q s t : ℕ)
+      → BoundsOf (l .chain) (lastRow short l k) p q s t → a ≡ between p q s t → BoundsFigure short l a
 
 -- Nothing stops the bounds engine, which rounds a row that does not fit.
 abbrev pub BoundsStop : ℕ → ℕ → Type 0
@@ -122,4 +126,4 @@ BoundsStop number place = ⊥
 
 -- The entry for the bounds.
 abbrev pub BoundsOutcome : Lent → Bounds → List ℕ → Type 0
-BoundsOutcome l = Outcome plain l noBounds BoundsStop (BoundsFigure l)
+BoundsOutcome l = Outcome plain l noBounds BoundsStop (BoundsFigure false l)

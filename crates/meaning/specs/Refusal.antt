@@ -39,35 +39,43 @@ withList list l = record { chain = l .chain; order = l .order; rewards = l .rewa
 abbrev pub workSize : ℕ → ℕ
 workSize n = n * width n
 
+-- What is lent by a caller who lends a chain alone.
+abbrev pub chainAlone : Chain → Lent
+chainAlone chain = record { chain = chain; order = []; rewards = []; work = []; list = 0 }
+
 -- What is lent by a function whose work table is its own and holds zeros.
 abbrev pub ownWork : Chain → List ℕ → List ℕ → Lent
 ownWork chain order rewards =
     record { chain = chain; order = order; rewards = rewards; work = replicate (workSize mostStates) 0; list = 0 }
 
--- What an entry asks decides which numbers it can give: which tables it is lent, the least number of edges, how long the table has to be
--- that it writes, for so many states and edges, and how many records its step list has to have, for so many states.
+-- What an entry asks decides which numbers it can give: which tables it is lent, whether rows may fall short, the least number of edges, how
+-- long the table has to be that it writes, for so many states and edges, and how many records its step list has to have, for so many states.
 pub record Entry : Type 0 where
   pub order : Bool
   pub rewards : Bool
+  pub short : Bool
   pub fewest : ℕ
   pub room : ℕ → ℕ → ℕ
   pub records : ℕ → ℕ
 
 -- The entries for the chance and for the bounds: numbers 1 to 10.
 abbrev pub plain : Entry
-plain = record { order = true; rewards = false; fewest = 0; room = λ n _. workSize n; records = λ _. 0 }
+plain = record { order = true; rewards = false; short = false; fewest = 0; room = λ n _. workSize n; records = λ _. 0 }
 
 -- The entry for the expected reward: numbers 1 to 11.
 abbrev pub paid : Entry
-paid = record { order = true; rewards = true; fewest = 0; room = λ n _. workSize n; records = λ _. 0 }
+paid = record { order = true; rewards = true; short = false; fewest = 0; room = λ n _. workSize n; records = λ _. 0 }
 
--- An entry that is lent a chain alone: numbers 1 and 3 to 9.
+-- An entry that is lent a chain alone, whose rows may fall short or not: numbers 1 and 3 to 9.
+abbrev pub bareOf : Bool → Entry
+bareOf short = record { order = false; rewards = false; short = short; fewest = 0; room = λ _ _. 0; records = λ _. 0 }
+
 abbrev pub bare : Entry
-bare = record { order = false; rewards = false; fewest = 0; room = λ _ _. 0; records = λ _. 0 }
+bare = bareOf false
 
 -- The companion of the entry for the chance, which is lent a step list of n records or more: numbers 1 to 10.
 abbrev pub listing : Entry
-listing = record { order = true; rewards = false; fewest = 0; room = λ n _. workSize n; records = λ n. n }
+listing = record { order = true; rewards = false; short = false; fewest = 0; room = λ n _. workSize n; records = λ n. n }
 
 -- 1: n is not 1 to 64; a table length is other than n, or than 0 where the entry is not lent that table; numbers are left over past
 -- the last whole edge; over 4,096 edges, or fewer than the entry asks for.
@@ -117,9 +125,17 @@ Same edges d e = (from edges d ≡ from edges e) × (to edges d ≡ to edges e)
 abbrev pub PairFault : List ℕ → ℕ → Type 0
 PairFault edges e = (e < edgeCount edges) × ((d : ℕ) × ((d < e) × Same edges d e))
 
--- 9: the row sum of state i differs from its denominator.
-abbrev pub SumFault : ℕ → List ℕ → List ℕ → ℕ → Type 0
-SumFault n denominators edges i = (i < n) × (rowSum edges i ≡ getD denominators i 0 → ⊥)
+-- The row sum of state i differs from its denominator; it exceeds it.
+abbrev pub UnequalFault : ℕ → List ℕ → List ℕ → ℕ → Type 0
+UnequalFault n denominators edges i = (i < n) × (rowSum edges i ≡ getD denominators i 0 → ⊥)
+
+abbrev pub OverFault : ℕ → List ℕ → List ℕ → ℕ → Type 0
+OverFault n denominators edges i = (i < n) × (getD denominators i 0 < rowSum edges i)
+
+-- 9: the row sum of state i differs from its denominator or, where rows may fall short, exceeds it.
+abbrev pub SumFault : Bool → ℕ → List ℕ → List ℕ → ℕ → Type 0
+SumFault false = UnequalFault
+SumFault true = OverFault
 
 -- The state at position p of the order was seen before.
 abbrev pub Earlier : List ℕ → ℕ → Type 0
@@ -154,9 +170,9 @@ abbrev pub lentFault : Bool → (ℕ → Type 0) → ℕ → Type 0
 lentFault true F = F
 lentFault false F = never
 
--- The faults in the order of their numbers, from 0, which is no refusal; those of 9 are given.
-abbrev pub faultsWith : (ℕ → Type 0) → Entry → Lent → List (ℕ → Type 0)
-faultsWith sums x l =
+-- The faults in the order of their numbers, from 0, which is no refusal.
+abbrev pub faults : Entry → Lent → List (ℕ → Type 0)
+faults x l =
     let c = l .chain in
     never
     ∷ whole
@@ -168,13 +184,10 @@ faultsWith sums x l =
     ∷ EndFault (c .states) (c .edges)
     ∷ WeightFault (c .edges)
     ∷ PairFault (c .edges)
-    ∷ sums
+    ∷ SumFault (x .short) (c .states) (c .denominators) (c .edges)
     ∷ lentFault (x .order) (OrderFault (c .states) (l .order))
     ∷ lentFault (x .rewards) (RewardFault (c .states) (l .rewards) (c .edges))
     ∷ []
-
-abbrev pub faults : Entry → Lent → List (ℕ → Type 0)
-faults x l = faultsWith (SumFault (l .chain .states) (l .chain .denominators) (l .chain .edges)) x l
 
 -- Number k applies at place p.
 abbrev pub Applies : Entry → Lent → ℕ → ℕ → Type 0

@@ -8,10 +8,10 @@ use Rattle.meaning.specs.Chain.{mostStates, mostEdges}
 use Rattle.meaning.specs.Step.{Sets, Right}
 use Rattle.meaning.specs.Refusal.{Lent, bare, Refused, WellFormed}
 use Rattle.meaning.specs.Block.{Input}
-use Rattle.meaning.specs.File.{FileRefused, Accepted, chainIn, rewardsIn}
+use Rattle.meaning.specs.File.{FileRefused, Accepted, chainIn, rewardsIn, bareIn}
 use Rattle.meaning.specs.Buffer.{Writing, noWriting, writing}
 use Rattle.meaning.specs.Write.{FileOf, fileSize}
-use Rattle.meaning.specs.Choice.{ordered, Chosen}
+use Rattle.meaning.specs.Choice.{Chosen}
 
 -- Room for any chain file.
 abbrev pub longestFile : ℕ
@@ -27,8 +27,8 @@ pub data ReorderOutcome (f : Input) (before : List ℕ) (a : Writing) (after : L
   short : length before < longestFile → a ≡ noWriting 2 0 → after ≡ before → ReorderOutcome f before a after
   file-refused : longestFile ≤ length before → (number place : ℕ) → FileRefused f number place → a ≡ noWriting number place → after ≡ before
       → ReorderOutcome f before a after
-  chain-refused : longestFile ≤ length before → Accepted f → (number place : ℕ) → Refused bare (ordered (chainIn f) []) number place
+  chain-refused : longestFile ≤ length before → Accepted f → (number place : ℕ) → Refused bare (bareIn f) number place
       → a ≡ noWriting number place → after ≡ before → ReorderOutcome f before a after
-  written : longestFile ≤ length before → Accepted f → WellFormed bare (ordered (chainIn f) []) → (k : Sets) → Right (chainIn f) k
+  written : longestFile ≤ length before → Accepted f → WellFormed bare (bareIn f) → (k : Sets) → Right (chainIn f) k
       → (o : List ℕ) (m : ℕ) → Chosen (chainIn f) k o m → (file : List ℕ) → FileOf (reordered f o) file → a ≡ writing (length file)
       → after ≡ filled file before → ReorderOutcome f before a after

@@ -7,10 +7,10 @@ use mathlib.Core.List.{List, [], _++_}
 use lib.ListN.{length, getD, replicate}
 use lib.Dec.{eqb, ltb}
 use Rattle.meaning.specs.Number.{sumTo, only, joinTo, filled}
-use Rattle.meaning.specs.Chain.{Chain, edgeCount, from, to, weight}
+use Rattle.meaning.specs.Chain.{Chain, edgeCount, from, to, weight, missing}
 use Rattle.meaning.specs.Refusal.{Lent, plain, ownWork, Refused, WellFormed}
 use Rattle.meaning.specs.Outcome.{Bounds, BoundsOutcome}
-use Rattle.meaning.specs.Left.{missing, LeftRefused, LeftFormed, LeftOutcome}
+use Rattle.meaning.specs.Left.{shortRows, LeftOutcome}
 use Rattle.meaning.specs.Block.{Input, fullBlock, headStates, headStart, headEdges, stateBlocks, demanded, fromIn, toIn, weightIn}
 use Rattle.meaning.specs.File.{
   LengthFault,
@@ -169,9 +169,9 @@ pub data Salvaged (f : Input) (t : List ℕ) : Type 0 where
       → Salvaged f t
   whole : Accepted f → WellFormed plain (plainIn f) → (a : Bounds) (work : List ℕ) → BoundsOutcome (plainIn f) a work
       → t ≡ lineText (bytesOf "bounds ") (boundsText a) → Salvaged f t
-  left-refused : (v : ℕ → ℕ) → Opened f v → Lost v → (number place at : ℕ) → LeftRefused (leftIn f v) number place
+  left-refused : (v : ℕ → ℕ) → Opened f v → Lost v → (number place at : ℕ) → Refused shortRows (leftIn f v) number place
       → PlaceIn f v number place at → t ≡ refusedText number at ++ bytesOf "\n" → Salvaged f t
-  left : (v : ℕ → ℕ) → Opened f v → Lost v → LeftFormed (leftIn f v) → (a : Bounds) (work : List ℕ) → LeftOutcome (leftIn f v) a work
+  left : (v : ℕ → ℕ) → Opened f v → Lost v → WellFormed shortRows (leftIn f v) → (a : Bounds) (work : List ℕ) → LeftOutcome (leftIn f v) a work
       → t ≡ lineText (bytesOf "bounds ") (boundsText a) ++ lostText v (demanded f) ++ shortText (leftChain f v) (headStates f)
       → Salvaged f t
 

@@ -8,7 +8,7 @@ use mathlib.Core.List.{List, []}
 use lib.ListN.{length, getD}
 use lib.Dec.{eqb, ltb}
 use Rattle.meaning.specs.Number.{only, choose, bit, tabFrom}
-use Rattle.meaning.specs.Chain.{M, Chain, along, Goal, PathTo, LiveTo}
+use Rattle.meaning.specs.Chain.{M, Chain, along, missing, Goal, PathTo, LiveTo}
 use Rattle.meaning.specs.Row.{
   Row,
   cell,
@@ -95,6 +95,10 @@ after b n go o t (suc p) = choose (go (getD o p 0)) (removed b n (getD o p 0) (a
 -- The table of a chain after the first p positions of the order o; u i is Unknown of the first row of i.
 abbrev pub stageFrom : Bool → Chain → Sets → (ℕ → ℕ) → (ℕ → ℕ) → List ℕ → ℕ → Table
 stageFrom b c k pay u o p = after b (c .states) (goes (c .start) (k .live)) o (first b c k pay u) p
+
+-- Unknown of the first row of i: what is missing from it, where rows may fall short.
+abbrev pub unknown : Bool → Chain → ℕ → ℕ
+unknown short c i = only short (missing c i)
 
 -- No weight is Unknown at first.
 abbrev pub stage : Bool → Chain → Sets → (ℕ → ℕ) → List ℕ → ℕ → Table

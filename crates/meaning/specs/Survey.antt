@@ -4,10 +4,9 @@ use Prim.Native.Nat.{ℕ, suc}
 use mathlib.Core.Path.{_≡_}
 use mathlib.Core.Logic.{_↔_}
 use mathlib.Core.Bool.{Bool, true, false}
-use Rattle.meaning.specs.Chain.{Goal, Live}
-use Rattle.meaning.specs.Figure.{Missed}
-use Rattle.meaning.specs.Step.{Sets, Right}
-use Rattle.meaning.specs.Refusal.{Lent, bare, Refused, WellFormed}
+use Rattle.meaning.specs.Chain.{Chain, Goal, End, PathTo, FromStart, LiveTo}
+use Rattle.meaning.specs.Step.{Sets, RightTo}
+use Rattle.meaning.specs.Refusal.{Lent, bareOf, Refused, WellFormed}
 
 -- Of the numbers below n, k have the property P.
 pub data Count (P : ℕ → Type 0) : ℕ → ℕ → Type 0 where
@@ -40,12 +39,18 @@ abbrev pub surveys : Sets → Bool → ℕ → ℕ → Survey
 surveys sets missed goals live =
     record { number = 0; place = 0; sets = sets; missed = missed; goals = goals; live = live }
 
--- A survey is lent a chain alone: it refuses by 1 and 3 to 9, or answers the chain's own sets, whether its expected reward is infinite, and
--- counts the goals and the live states, the start included where it is live.
-pub data SurveyOutcome (l : Lent) (a : Survey) : Type 0 where
-  refused : (number place : ℕ) → Refused bare l number place → a ≡ noSurvey number place → SurveyOutcome l a
-  surveyed : WellFormed bare l → (k : Sets) → Right (l .chain) k → (missed : Bool) → (missed ≡ true) ↔ Missed (l .chain) → (goals live : ℕ)
+-- A state is reached that has no path to an end: where no row falls short, the expected reward is infinite.
+abbrev pub Misses : Bool → Chain → Type 0
+Misses short c = (i : ℕ) × FromStart c i × (PathTo (c .edges) (End short c) i → ⊥)
+
+-- A survey is lent a chain alone, whose rows may fall short or not: it refuses by 1 and 3 to 9, or answers the chain's own sets, whether a state is
+-- reached that has no path to an end, and counts the goals and the live states, the start included where it is live.
+pub data SurveyOutcome (short : Bool) (l : Lent) (a : Survey) : Type 0 where
+  refused : (number place : ℕ) → Refused (bareOf short) l number place → a ≡ noSurvey number place → SurveyOutcome short l a
+  surveyed : WellFormed (bareOf short) l → (k : Sets) → RightTo (l .chain) (End short (l .chain)) k → (missed : Bool)
+      → (missed ≡ true) ↔ Misses short (l .chain)
+      → (goals live : ℕ)
       → Count (Goal (l .chain)) (l .chain .states) goals
-      → Count (Live (l .chain)) (l .chain .states) live
+      → Count (LiveTo (l .chain) (End short (l .chain))) (l .chain .states) live
       → a ≡ surveys k missed goals live
-      → SurveyOutcome l a
+      → SurveyOutcome short l a

@@ -1,7 +1,7 @@
 -- The writer of chain files (request 1): a chain's tables in, the bytes of a chain file out into a lent buffer.
 use Prim.Native.Nat.{ℕ, _+_, _*_, _<_}
 use mathlib.Core.Path.{_≡_}
-use mathlib.Core.Bool.{true}
+use mathlib.Core.Bool.{true, false}
 use mathlib.Core.List.{List}
 use lib.ListN.{length, getD}
 use Rattle.meaning.specs.Number.{filled}
@@ -30,7 +30,7 @@ fileSize states edges = blockSize * (1 + blocksOf states + blocksOf edges)
 
 -- The writer gives the numbers 1 to 11. A chain with no edges is 1. The buffer is the table that it writes; shorter than the file it is 2.
 abbrev pub filing : Entry
-filing = record { order = true; rewards = true; fewest = 1; room = fileSize; records = λ _. 0 }
+filing = record { order = true; rewards = true; short = false; fewest = 1; room = fileSize; records = λ _. 0 }
 
 -- A refusal leaves the whole buffer. Else a file stands at its front, the file's length is the answer, and bytes past the file stay.
 pub data WriteOutcome (l : Lent) (a : Writing) (after : List ℕ) : Type 0 where

@@ -4,12 +4,12 @@ use mathlib.Core.Path.{_≡_, refl, ap, subst, _∙_}
 use mathlib.Core.List.{List, []}
 use native.Mathlib.Omega.{arith}
 use lib.ListN.{length}
-use Rattle.meaning.specs.Refusal.{Lent}
+use Rattle.meaning.specs.Refusal.{Lent, chainAlone}
 use Rattle.meaning.specs.Block.{Input, headStates, orderIn}
-use Rattle.meaning.specs.File.{chainIn}
+use Rattle.meaning.specs.File.{chainIn, bareIn}
 use Rattle.meaning.specs.Buffer.{Writing, noWriting}
 use Rattle.meaning.specs.Write.{Bytes, WriteOutcome}
-use Rattle.meaning.specs.Choice.{Choice as Numbers, ordered, ChoiceOutcome, list-wrong, refused, chosen}
+use Rattle.meaning.specs.Choice.{Choice as Numbers, ChoiceOutcome, list-wrong, refused, chosen}
 use Rattle.meaning.specs.Reorder.{longestFile, ReorderOutcome, chain-refused}
 use Rattle.theory.specs.Numbers.Tab.{tab-length}
 use Rattle.theory.specs.Outcomes.Places.{refused-places}
@@ -26,8 +26,8 @@ module _ {f : Input} (bytes : Bytes (f .kept)) {c : Frame} {d e o r : List ℕ} 
   chain-is = ap (λ (l : Lent). l .chain) (h .paid)
 
   -- The choice is made of the file's chain, with a list of its length.
-  of-file : {a : Numbers} {o′ : List ℕ} → ChoiceOutcome (lent c d e [] [] []) o a o′ → ChoiceOutcome (ordered (chainIn f) []) o a o′
-  of-file {a} {o′} = subst (λ l. ChoiceOutcome l o a o′) (λ i. ordered (chain-is i) [])
+  of-file : {a : Numbers} {o′ : List ℕ} → ChoiceOutcome (lent c d e [] [] []) o a o′ → ChoiceOutcome (bareIn f) o a o′
+  of-file {a} {o′} = subst (λ l. ChoiceOutcome l o a o′) (λ i. chainAlone (chain-is i))
 
   list-long : length o ≡ headStates f
   list-long = ap (λ (l : Lent). length (l .order)) (h .paid) ∙ tab-length 0 (headStates f) (orderIn f)
@@ -38,7 +38,7 @@ module _ {f : Input} (bytes : Bytes (f .kept)) {c : Frame} {d e o r : List ℕ} 
   pub choice-refuses : {q : Choice} {o′ : List ℕ} {n p : ℕ} → Chooses (lent c d e [] [] []) o q o′ → q ≡ choice.Refused n p → ReorderOutcome f buffer (noWriting n p) buffer
   choice-refuses {o′ = o′} {n} {p} x z = let y = subst (λ q. Chooses (lent c d e [] [] []) o q o′) z x in at (of-file (y .outcome)) (y .proper)
     where
-      at : ChoiceOutcome (ordered (chainIn f) []) o (told (choice.Refused n p)) o′ → 0 < n → ReorderOutcome f buffer (noWriting n p) buffer
+      at : ChoiceOutcome (bareIn f) o (told (choice.Refused n p)) o′ → 0 < n → ReorderOutcome f buffer (noWriting n p) buffer
       at (list-wrong w g s) b = absurd (w list-long)
       at (refused l n′ p′ w g s) b =
           chain-refused room (h .accepted) n′ p′ w (ap (λ (a : Numbers). noWriting (a .number) (a .place)) g) refl
@@ -53,7 +53,7 @@ module _ {f : Input} (bytes : Bytes (f .kept)) {c : Frame} {d e o r : List ℕ} 
           subst (λ l. WriteOutcome l a after)
           (λ i. record { chain = chain-is i; order = o′; rewards = ap (λ (l : Lent). l .rewards) (h .paid) i; work = buffer; list = 0 }) w
 
-      at : ChoiceOutcome (ordered (chainIn f) []) o (told (choice.Sum s)) o′ → ReorderOutcome f buffer a after
+      at : ChoiceOutcome (bareIn f) o (told (choice.Sum s)) o′ → ReorderOutcome f buffer a after
       at (list-wrong v g u) = absurd (v list-long)
       at (refused l n′ p′ v g u) = absurd (omega (arith, number-of g, refused-places n′ p′ v))
       at (chosen l v k t m y g) = rewritten-outcome f bytes (h .accepted) v t y buffer room written

@@ -1,5 +1,6 @@
 -- The lines of a file: the single line of a refusal, or seven.
 use Prim.Native.Nat.{ℕ, _*_, _≤_}
+use mathlib.Core.Bool.{false}
 use mathlib.Core.Path.{_≡_, sym, ap, ap₂, subst, _∙_}
 use mathlib.Core.List.{List, _++_}
 use native.Mathlib.Nat.{zero-add}
@@ -89,7 +90,7 @@ pub file-room : {f : Input} {number place : ℕ} (buffer : List ℕ) → reportR
 file-room {number = number} {place} buffer h w = omega (arith, refusal-short number place (file-near w .1))
 
 -- What a survey of a well-formed chain counts.
-surveyed : {l : Lent} {a : Survey} → WellFormed bare l → SurveyOutcome l a
+surveyed : {l : Lent} {a : Survey} → WellFormed bare l → SurveyOutcome false l a
     → Count (Goal (l .chain)) (l .chain .states) (a .goals) × Count (Live (l .chain)) (l .chain .states) (a .live)
 surveyed formed (SurveyOutcome.refused n p w e) = absurd (formed .none n p (w .applies))
 surveyed formed (SurveyOutcome.surveyed w s t m d g k a b e) = rw e (a, b)

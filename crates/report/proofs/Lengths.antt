@@ -9,21 +9,11 @@ use Rattle.meaning.specs.Number.{choose}
 use Rattle.meaning.specs.Chain.{mostStates, mostEdges}
 use Rattle.meaning.specs.Outcome.{Answer, Bounds}
 use Rattle.meaning.specs.Text.{bytesOf}
-use Rattle.meaning.specs.Report.{fractionText, refusedText, answerText, boundsText, linesText, answerLine, faceText, reportRoom, faceRoom, answerRoom}
+use Rattle.meaning.specs.Report.{fractionText, refusedText, answerText, linesText, answerLine, faceText, reportRoom, faceRoom, answerRoom}
+use Rattle.theory.specs.Numbers.Decimal.{digits}
 use Rattle.theory.specs.Outcomes.Small.{Small, BothSmall}
+use Rattle.theory.specs.Files.Lengths.{Near, refused-short, fraction-short, bounds-short}
 use Rattle.chainfile.specs.Written.{Room}
-use Rattle.report.proofs.Decimal.{digits}
-
--- A refusal's number has two digits and its place four.
-pub record Near (number place : ℕ) : Type 0 where
-  pub two : number ≤ 99
-  pub four : place ≤ 9999
-
-fraction-short : (p q : ℕ) → Small p q → length (fractionText p q) ≤ 21
-fraction-short p q s = simp length-append (omega (arith, digits 9 p (omega arith), digits 9 q (omega arith)))
-
-refused-short : (number place : ℕ) → Near number place → length (refusedText number place) ≤ 18
-refused-short number place n = simp length-append (omega (arith, digits 1 number (omega arith), digits 3 place (omega arith)))
 
 either : (b : Bool) (x y : List ℕ) (n : ℕ) → length x ≤ n → length y ≤ n → length (choose b x y) ≤ n
 either true x y n h k = h
@@ -34,15 +24,6 @@ answer-short a n s =
     either (eqb (a .number) 0) _ _ 21
     (either (eqb (a .denominator) 0) _ _ 21 (omega arith) (fraction-short (a .numerator) (a .denominator) s))
     (omega (arith, refused-short (a .number) (a .place) n))
-
-bounds-short : (a : Bounds) → BothSmall a → length (boundsText a) ≤ 43
-bounds-short a s =
-    simp length-append
-    (omega (
-      arith,
-      simp length-append at (fraction-short (a .lowerNumerator) (a .lowerDenominator) (s .0)),
-      simp length-append at (fraction-short (a .upperNumerator) (a .upperDenominator) (s .1)),
-    ))
 
 -- The seven lines of a report.
 pub lines-short : (states edges goals live : ℕ) (chance reward : Answer) (bounds : Bounds)

@@ -1,4 +1,3 @@
-pub mod Decimal
 pub mod Lengths
 pub mod Texts
 pub mod Near

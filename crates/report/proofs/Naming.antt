@@ -6,10 +6,10 @@ use native.Mathlib.Omega.{arith}
 use lib.ListN.{length, length-append}
 use Rattle.meaning.specs.Text.{decimal, mostDigits}
 use Rattle.meaning.specs.Report.{namedText}
+use Rattle.theory.specs.Numbers.Decimal.{digits}
 use Rattle.chainfile.specs.Written.{Written, Stored}
 use Rattle.chainfile.proofs.Storing.{stored-unique}
 use Rattle.report.specs.Pieces.{Named, written, full}
-use Rattle.report.proofs.Decimal.{digits}
 
 -- A number of 64 bits has at most 20 digits.
 pub named-room : (before : List ℕ) (place : ℕ) (name : List ℕ) (x : ℕ) → x < 2 ^ 64 → place + (length name + mostDigits) ≤ length before

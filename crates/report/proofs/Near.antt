@@ -9,15 +9,13 @@ use Rattle.meaning.specs.File.{FileRefused}
 use Rattle.theory.specs.Outcomes.DemandTwo.{stopped-twelve}
 use Rattle.theory.specs.Outcomes.Places.{refused-places}
 use Rattle.theory.specs.Files.FileOne.{file-numbers}
-use Rattle.theory.specs.Files.StepsOne.{stopped-place, file-place}
+use Rattle.theory.specs.Files.StepsOne.{stopped-place}
+use Rattle.theory.specs.Files.Lengths.{Near, chain-near, block-near}
 use Rattle.report.specs.Lines.{Ends, chain, file}
-use Rattle.report.proofs.Lengths.{Near}
 
 -- The numbers 1 to 11.
 pub refused-near : {x : Entry} {l : Lent} (number place : ℕ) → Refused x l number place → Ends number × Near number place
-refused-near number place r =
-    let (some, most, near) = refused-places number place r in
-    (chain some most, record { two = omega arith; four = omega arith })
+refused-near number place r = let (some, most, _) = refused-places number place r in (chain some most, chain-near r)
 
 -- The number 12.
 pub stopped-near : {x : Entry} {pay : ℕ → ℕ} {b : Bool} {l : Lent} {number place : ℕ} → WellFormed x l → Stopped pay b l number place → Near number place
@@ -26,5 +24,4 @@ stopped-near formed s =
 
 -- The numbers 20 to 24.
 pub file-near : {f : Input} {number place : ℕ} → FileRefused f number place → Ends number × Near number place
-file-near r =
-    let n = file-numbers r in (file (n .0) (n .1), record { two = omega arith; four = omega (arith, file-place r) })
+file-near r = let n = file-numbers r in (file (n .0) (n .1), block-near r)

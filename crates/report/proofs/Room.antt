@@ -17,9 +17,10 @@ use Rattle.meaning.specs.Outcome.{
 }
 use Rattle.meaning.specs.Report.{linesText, reportRoom}
 use Rattle.theory.specs.Outcomes.Small.{chance-small, reward-small, bounds-small}
+use Rattle.theory.specs.Files.Lengths.{Near}
 use Rattle.figures.specs.Told.{Tells, toldAnswer}
 use Rattle.figures.specs.declared.answer.Answer.{Answer as Told}
-use Rattle.report.proofs.Lengths.{Near, lines-short, Wide}
+use Rattle.report.proofs.Lengths.{lines-short, Wide}
 use Rattle.report.proofs.Near.{refused-near, stopped-near}
 
 -- What is told of an answer has room in its types.

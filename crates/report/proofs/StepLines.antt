@@ -10,12 +10,12 @@ use Rattle.meaning.specs.Number.{tabFrom}
 use Rattle.meaning.specs.Chain.{mostStates}
 use Rattle.meaning.specs.Steps.{StepRecord}
 use Rattle.meaning.specs.Report.{recordText, recordsText}
+use Rattle.theory.specs.Numbers.Decimal.{digits}
 use Rattle.theory.specs.Numbers.Tab.{tab-last}
 use Rattle.chainfile.specs.Written.{Written}
 use Rattle.chainfile.proofs.Steps.{join}
 use Rattle.engines.specs.Trace.{countIn, recordIn, recordsIn}
 use Rattle.report.specs.Lines.{recordRoom}
-use Rattle.report.proofs.Decimal.{digits}
 
 pub record-short : (state rows columns divisor : ℕ) → state < 2 ^ 64 → rows < 2 ^ 64 → columns < 2 ^ 64 → divisor < 2 ^ 64
     → length (recordText state rows columns divisor) ≤ recordRoom

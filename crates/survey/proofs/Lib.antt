@@ -1,3 +1,4 @@
 pub mod Growth
 pub mod Members
+pub mod Marking
 pub mod Surveyed

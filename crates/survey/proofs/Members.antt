@@ -3,15 +3,16 @@ use Prim.Native.Nat.{ℕ, _^_}
 use mathlib.Core.Path.{_≡_, refl, sym, subst, _∙_}
 use mathlib.Core.Logic.{Iff·trans, ⊎-elim}
 use mathlib.Core.Bool.{Bool, true, false, not}
+use mathlib.Core.List.{List}
 use native.Mathlib.Omega.{arith}
 use native.Mathlib.Nat.{zero-div}
 use lib.Bits.{bitAnd, bitXor}
 use lib.Dec.{eqb}
 use borrow.Author.Tests.{eqb-true, eqb-false}
 use Rattle.meaning.specs.Number.{bit}
-use Rattle.meaning.specs.Chain.{Chain, PathTo, ToGoal, FromStart, Live}
-use Rattle.meaning.specs.Figure.{Missed}
-use Rattle.meaning.specs.Step.{Right}
+use Rattle.meaning.specs.Chain.{Chain, End, PathTo, FromStart, LiveTo}
+use Rattle.meaning.specs.Step.{RightTo}
+use Rattle.meaning.specs.Survey.{Misses}
 use Rattle.theory.specs.Numbers.Bits.{in-both, in-first, in-one, set-apart}
 use Rattle.theory.specs.Numbers.Sum.{same}
 use Rattle.meaning.specs.Number.{decides}
@@ -19,19 +20,20 @@ use Rattle.survey.specs.Grow.{Open, way, Grown, sown, joined}
 use Rattle.survey.specs.Sets.{Exactly, Alive, Astray}
 use Rattle.survey.proofs.Growth.{alike}
 
+-- The states with a path to an end grow from the ends, backwards and with no barrier.
+module _ (edges : List ℕ) (End : ℕ → Type 0) (ends : ℕ) (are : Exactly End ends) where
+  to-end : {i : ℕ} → Grown (way true 0 edges) ends i → PathTo edges End i
+  to-end {i} (sown g) = PathTo.here i (are i .0 g)
+  to-end (joined e h g n) = PathTo.step e h (to-end g)
+
+  from-end : {i : ℕ} → PathTo edges End i → Grown (way true 0 edges) ends i
+  from-end (PathTo.here i g) = sown (are i .1 g)
+  from-end (PathTo.step e h p) = joined e h (from-end p) (λ b. absurd (omega (arith, rw zero-div at b)))
+
+  pub end-grown : (set : ℕ) → Exactly (Grown (way true 0 edges) ends) set → Exactly (PathTo edges End) set
+  end-grown set f i = Iff·trans (f i) (to-end, from-end)
+
 module _ (c : Chain) where
-  -- The states with a path to a goal grow from the goals, backwards and with no barrier.
-  to-goal : {i : ℕ} → Grown (way true 0 (c .edges)) (c .goals) i → ToGoal c i
-  to-goal {i} (sown g) = PathTo.here i g
-  to-goal (joined e h g n) = PathTo.step e h (to-goal g)
-
-  from-goal : {i : ℕ} → ToGoal c i → Grown (way true 0 (c .edges)) (c .goals) i
-  from-goal (PathTo.here i g) = sown g
-  from-goal (PathTo.step e h p) = joined e h (from-goal p) (λ b. absurd (omega (arith, rw zero-div at b)))
-
-  pub goal-grown : (set : ℕ) → Exactly (Grown (way true 0 (c .edges)) (c .goals)) set → Exactly (ToGoal c) set
-  goal-grown set f i = Iff·trans (f i) (to-goal, from-goal)
-
   -- The states that are reached grow from the start, up to the goals.
   from-start : {i : ℕ} → Grown (way false (c .goals) (c .edges)) (2 ^ c .start) i → FromStart c i
   from-start {i} (sown b) = subst (FromStart c) (sym (in-one (c .start) i .0 b)) FromStart.begin
@@ -93,17 +95,17 @@ module _ (good reached : ℕ) where
           (same (bit reached i) 1)
 
 -- What is known of the good, the reached and the live states together.
-module _ (c : Chain) (good reached : ℕ) (G : Exactly (ToGoal c) good) (R : Exactly (FromStart c) reached) where
-  pub sets-right : (live : ℕ) → Exactly (Alive good reached (c .goals)) live → Right c (record { good = good; live = live })
+module _ (c : Chain) (short : Bool) (good reached : ℕ) (G : Exactly (PathTo (c .edges) (End short c)) good) (R : Exactly (FromStart c) reached) where
+  pub sets-right : (live : ℕ) → Exactly (Alive good reached (c .goals)) live → RightTo c (End short c) (record { good = good; live = live })
   sets-right live A = record { good = G; live = λ i. Iff·trans (A i) (lives, alive) }
     where
-      lives : {i : ℕ} → Alive good reached (c .goals) i → Live c i
+      lives : {i : ℕ} → Alive good reached (c .goals) i → LiveTo c (End short c) i
       lives {i} a = record { unwon = a .unwon; reached = R i .0 (a .comes); leads = G i .0 (a .leads) }
 
-      alive : {i : ℕ} → Live c i → Alive good reached (c .goals) i
+      alive : {i : ℕ} → LiveTo c (End short c) i → Alive good reached (c .goals) i
       alive {i} l = record { leads = G i .1 (l .leads); comes = R i .1 (l .reached); unwon = l .unwon }
 
-  pub sets-missed : (b : Bool) → decides (Astray good reached) b → decides (Missed c) b
+  pub sets-missed : (b : Bool) → decides (Astray good reached) b → decides (Misses short c) b
   sets-missed b =
       alike b
       (λ w. (w .0, R (w .0) .0 (w .1), λ g. w .2 (G (w .0) .1 g)))

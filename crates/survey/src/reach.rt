@@ -1,15 +1,18 @@
 // Sets of states, each written as one number, that grow along the edges.
 ghost use mathlib.Core.Path.{_≡_};
 ghost use mathlib.Core.List.{List};
-ghost use Prim.Native.Nat.{ℕ, _^_, _<_};
-ghost use Rattle.meaning.specs.Chain.{mostStates, edgeCount, ToGoal, FromStart};
+ghost use mathlib.Core.Bool.{true};
+ghost use Prim.Native.Nat.{ℕ, _^_, _≤_, _<_};
+ghost use lib.ListN.{length};
+ghost use Rattle.meaning.specs.Chain.{mostStates, edgeCount, End, FromStart};
 ghost use Rattle.meaning.specs.Refusal.{EndFault};
 ghost use Rattle.meaning.specs.Number.{decides};
 ghost use Rattle.survey.specs.Grow.{tail, Open, way, Grown, Joined, AfterPass, inTurn};
-ghost use Rattle.survey.specs.Sets.{chainOf, Exactly, Alive, Astray, Known};
+ghost use Rattle.survey.specs.Sets.{chainOf, Exactly, Marked, MarkedTo, Alive, Astray, Known};
 use crate::Sets;
 use chain::Chain;
 use chain::edge;
+use look::sums::missing;
 
 // The set of one state.
 fn alone(i: usize) -> u64
@@ -92,12 +95,48 @@ fn grow(back: bool, barrier: u64, seed: u64, edges: &[u64]) -> u64
     set
 }
 
-// The states with a path to a goal: they grow from the goals, backwards.
-fn good(c: Chain, edges: &[u64]) -> u64
-    requires { ⌜ ((e : ℕ) → EndFault mostStates (now edges) e → ⊥) ⌝ }
-    ensures { λ r. ⌜ ((d : List ℕ) → Exactly (ToGoal (chainOf c d (now (edges .entry)))) r) ⌝ }
+// The set with state i, where a weight is missing from its row.
+fn marked(set: u64, i: usize, missing: u64) -> u64
+    requires { ⌜ i < mostStates ⌝ }
+    ensures { λ r. ⌜ Marked set i missing r ⌝ }
 {
-    grow(true, 0, c.goals, edges)
+    if missing == 0 {
+        return set;
+    }
+    set | alone(i)
+}
+
+// The states from whose rows a weight is missing, and those of another set.
+fn with_short(set: u64, missing: &[u64; Chain::STATES]) -> u64
+    ensures { λ r. ⌜ Exactly (MarkedTo set (now (missing .entry)) mostStates) r ⌝ }
+{
+    let mut marks = set;
+    let mut i = 0;
+    while i < Chain::STATES {
+        marks = marked(marks, i, missing[i]);
+        i += 1;
+    }
+    marks
+}
+
+// Where paths end: in the goals and, where rows may fall short, in the states whose rows do.
+fn ends(c: Chain, denominators: &[u64], edges: &[u64], short: bool) -> u64
+    requires { ⌜ (c .states ≤ mostStates) × (length (now denominators) ≡ c .states) ⌝ }
+    ensures { λ r. ⌜ Exactly (End short (chainOf c (now (denominators .entry)) (now (edges .entry)))) r ⌝ }
+{
+    if !short {
+        return c.goals;
+    }
+    let missing = missing(c.states, denominators, edges);
+    with_short(c.goals, &missing)
+}
+
+// The states with a path to an end: they grow from the ends, backwards.
+fn good(ends: u64, edges: &[u64]) -> u64
+    requires { ⌜ ((e : ℕ) → EndFault mostStates (now edges) e → ⊥) ⌝ }
+    ensures { λ r. ⌜ Exactly (Grown (way true 0 (now (edges .entry))) ends) r ⌝ }
+{
+    grow(true, 0, ends, edges)
 }
 
 // The states that can be reached from the start without passing a goal.
@@ -125,12 +164,12 @@ fn astray(good: u64, reached: u64) -> bool
     good & reached != reached
 }
 
-pub(crate) fn sets(c: Chain, edges: &[u64]) -> Sets
-    requires { ⌜ c .start < mostStates ⌝ }
+pub(crate) fn sets(c: Chain, denominators: &[u64], edges: &[u64], short: bool) -> Sets
+    requires { ⌜ (c .start < mostStates) × (c .states ≤ mostStates) × (length (now denominators) ≡ c .states) ⌝ }
     requires { ⌜ ((e : ℕ) → EndFault mostStates (now edges) e → ⊥) ⌝ }
-    ensures { λ r. ⌜ ((d : List ℕ) → Known (chainOf c d (now (edges .entry))) r) ⌝ }
+    ensures { λ r. ⌜ Known short (chainOf c (now (denominators .entry)) (now (edges .entry))) r ⌝ }
 {
-    let good = good(c, edges);
+    let good = good(ends(c, denominators, edges, short), edges);
     let reached = reached(c, edges);
     Sets {
         good,

@@ -15,11 +15,14 @@ pub mod Alike
 pub mod Written
 pub mod Completed
 pub mod Opened
+pub mod CompletedFormed
 pub mod Decided
 pub mod ReportOne
 pub mod StepsOne
+pub mod Lengths
 pub mod SalvageOne
 pub mod SalvageExists
+pub mod SalvageRoom
 pub mod CallOne
 pub mod CallRead
 pub mod CallBounds

@@ -7,6 +7,7 @@ pub mod Filter
 pub mod Gcd
 pub mod Bits
 pub mod Digits
+pub mod Decimal
 pub mod Shift
 pub mod Twos
 pub mod Every

@@ -1,5 +1,6 @@
 -- From a well-formed input to the answer: every entry has one outcome, and what it is held to; the chains worked by hand.
 pub mod Formed
+pub mod OwnWork
 pub mod LeftFormed
 pub mod Bare
 pub mod Look

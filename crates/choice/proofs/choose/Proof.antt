@@ -1,5 +1,6 @@
 use Prim.Native.Nat.{ℕ}
 use mathlib.Core.Path.{_≡_, refl, ap}
+use mathlib.Core.Bool.{false}
 use mathlib.Core.List.{[]}
 use native.Mathlib.Omega.{arith}
 use Rattle.meaning.specs.Step.{Right}
@@ -18,8 +19,8 @@ use Rattle.choice.proofs.choose.Statement.{statement}
 use Rattle.choice.proofs.choose.Tie as tie
 
 -- What the survey tells.
-known : {l : Lent} {r : Survey} {s : Sets} {goals live : ℕ} → SurveyOutcome l (told r) → r ≡ survey.Found s goals live → WellFormed bare l × Right (l .chain) (setsOf s)
-known {l} o e = let f = found l o e in (f .0, f .1 .right)
+known : {l : Lent} {r : Survey} {s : Sets} {goals live : ℕ} → SurveyOutcome false l (told r) → r ≡ survey.Found s goals live → WellFormed bare l × Right (l .chain) (setsOf s)
+known {l} o e = let f = found false l o e in (f .0, f .1 .right)
 
 returns : tie.Need-returns
 returns c = record { outcome = list-wrong (c .if1 .taken) refl refl; proper = omega arith }
@@ -32,7 +33,7 @@ order-all-requires c κs =
 
 returns-2 : tie.Need-returns-2
 returns-2 c =
-    let r = refusing _ (c .before .before .before .of .ensures) (c .before .number .given .1) in
+    let r = refusing false _ (c .before .before .before .of .ensures) (c .before .number .given .1) in
     record { outcome = refused (c .before .before .before .before .if1 .left) _ _ r refl refl; proper = refused-places _ _ r .0 }
 
 returns-3 : tie.Need-returns-3

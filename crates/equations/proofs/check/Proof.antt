@@ -1,4 +1,5 @@
 use mathlib.Core.Path.{refl}
+use mathlib.Core.Bool.{false}
 use mathlib.Core.List.{[]}
 use borrow.Author.Needs.{needs}
 use Rattle.meaning.specs.Refusal.{Lent}
@@ -17,13 +18,13 @@ returns c = table-length (search needs) refl
 table-requires : tie.Need-table-requires
 table-requires c κs =
     let at = c .before .before .before in
-    let f = found (l at) (at .of .ensures) (c .before .sets .given .1) in
+    let f = found false (l at) (at .of .ensures) (c .before .sets .given .1) in
     record { sent = record { size = search needs; formed = f .0 }; leads = f .1 .right .good }
 
 returns-2 : tie.Need-returns-2
 returns-2 c =
     let at = c .before .before .before in
-    refused (search needs) _ _ (refusing (l at) (at .of .ensures) (c .before .number .given .1)) refl
+    refused (search needs) _ _ (refusing false (l at) (at .of .ensures) (c .before .number .given .1)) refl
 
 pub check-spec : {M : Type 1} → statement M
 check-spec =

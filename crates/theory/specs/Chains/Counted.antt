@@ -72,7 +72,7 @@ test-one true b′ t t′ = sym (t′ .1 (t .0 refl))
 test-one false true t t′ = t .1 (t′ .0 refl)
 test-one false false t t′ = refl
 
-pub survey-one : {l : Lent} {a a′ : Survey} → SurveyOutcome l a → SurveyOutcome l a′ → a ≡ a′
+pub survey-one : {short : Bool} {l : Lent} {a a′ : Survey} → SurveyOutcome short l a → SurveyOutcome short l a′ → a ≡ a′
 survey-one (refused n p r e) (refused n′ p′ r′ e′) = let o = refused-one r r′ in e ∙ ap₂ noSurvey (o .0) (o .1) ∙ sym e′
 survey-one (refused n p r e) (surveyed w s t m d g k a b e′) = absurd (w .none n p (r .applies))
 survey-one (surveyed w s t m d g k a b e′) (refused n p r e) = absurd (w .none n p (r .applies))

@@ -21,6 +21,9 @@ pub fine-whole : {c : Chain} → Fine c → FineTo c (λ _. 0)
 fine-whole f = record { targets = f .targets; weights = f .weights; sums = λ i h. omega (arith, f .sums i h) }
 
 -- What is reached is a state.
+pub reached-to : {c : Chain} {u : ℕ → ℕ} {i : ℕ} → FineTo c u → c .start < c .states → FromStart c i → i < c .states
+reached-to fine h FromStart.begin = h
+reached-to fine h (FromStart.step e l f n) = fine .targets e l
+
 pub reached-state : {c : Chain} {i : ℕ} → Fine c → c .start < c .states → FromStart c i → i < c .states
-reached-state fine h FromStart.begin = h
-reached-state fine h (FromStart.step e l f n) = fine .targets e l
+reached-state fine = reached-to (fine-whole fine)

@@ -4,15 +4,14 @@ use mathlib.Core.Path.{_≡_, refl, _∙_}
 use mathlib.Core.Logic.{inl, inr, ⊎-elim}
 use mathlib.Core.List.{List}
 use native.Mathlib.Omega.{arith}
-use native.Mathlib.Nat.{mul-le-mul, add-le-add, le-refl}
-use lib.ListN.{length, length-replicate}
-use Rattle.meaning.specs.Chain.{mostStates}
-use Rattle.meaning.specs.Refusal.{plain, workSize, Applies, WellFormed}
+use lib.ListN.{length}
+use Rattle.meaning.specs.Refusal.{plain, Applies, WellFormed}
 use Rattle.meaning.specs.Block.{Input, wholeFile, headStates, orderIn}
 use Rattle.meaning.specs.File.{Accepted, plainIn}
 use Rattle.meaning.specs.Call.{defaultMode, boundsMode, AsksBounds, answerLength, Said, CallOutcome, mode-wrong, answer-short, file-refused, chain-refused, answered}
 use Rattle.theory.specs.Numbers.Tab.{tab-length}
 use Rattle.theory.specs.Outcomes.Formed.{room-enough}
+use Rattle.theory.specs.Outcomes.OwnWork.{own-room}
 use Rattle.theory.specs.Outcomes.DemandThree.{bounds-answer}
 use Rattle.theory.specs.Files.Right.{Bounded, bounded}
 use Rattle.theory.specs.Files.FileOne.{accepted-unrefused}
@@ -50,13 +49,10 @@ module _ {file : List ℕ} (taken : Accepted (wholeFile file)) (clear : (k p : �
   formed : WellFormed plain (plainIn f)
   formed = record { none = go (bounded f (taken .blocks 0 (omega arith))) }
     where
-      room : headStates f ≤ mostStates → workSize (headStates f) ≤ length (plainIn f .work)
-      room h = rw (length-replicate {A = ℕ} (workSize mostStates) 0) (mul-le-mul h (add-le-add h (le-refl 4)))
-
       go : Bounded f → (k p : ℕ) → Applies plain (plainIn f) k p → ⊥
       go b zero p h = h
       go b (suc zero) p h = shaped b plain (omega arith) (tab-length 0 (headStates f) (orderIn f)) refl (h .1)
-      go b (suc (suc zero)) p h = room-enough (room (b .few-states)) (omega arith) (h .1)
+      go b (suc (suc zero)) p h = room-enough (own-room (headStates f) (b .few-states)) (omega arith) (h .1)
       go b (suc (suc (suc k))) p h = clear (suc (suc (suc k))) p (omega arith) h
 
   -- With room for the answer it is answered: 12 never comes.

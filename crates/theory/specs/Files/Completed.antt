@@ -6,17 +6,16 @@ use mathlib.Core.Bool.{Bool, true, false}
 use mathlib.Core.List.{List}
 use native.Mathlib.Omega.{arith}
 use lib.ListN.{getD}
-use Rattle.meaning.specs.Chain.{Chain, denominator, edgeCount, from, to, flow}
-use Rattle.meaning.specs.Refusal.{bare, WellFormed}
-use Rattle.meaning.specs.Outcome.{Bounds}
+use Rattle.meaning.specs.Chain.{Chain, denominator, edgeCount, from, to, flow, missing}
+use Rattle.meaning.specs.Refusal.{chainAlone, bare, WellFormed}
+use Rattle.meaning.specs.Outcome.{Bounds, BoundsFigure}
 use Rattle.meaning.specs.Demand.{ChanceBetween}
-use Rattle.meaning.specs.Left.{missing, LeftFormed, LeftFigure}
+use Rattle.meaning.specs.Left.{shortRows}
 use Rattle.meaning.specs.Block.{Input, headStates, headEdges, fromIn, toIn, weightIn, edgeRewardIn}
 use Rattle.meaning.specs.Salvage.{edgeKept, leftChain, leftIn, Completes}
 use Rattle.theory.specs.Chains.Fine.{Fine}
 use Rattle.theory.specs.Chains.Parted.{Joins, restOf, Agrees, splits, rest-inside, picked-joins, rest-weighs}
 use Rattle.theory.specs.Stages.Left.{withEdges, Rejoined}
-use Rattle.theory.specs.Outcomes.Bare.{chainAlone}
 use Rattle.theory.specs.Outcomes.Formed.{formed-fine, from-in, to-in, weight-positive, row-sum}
 use Rattle.theory.specs.Outcomes.LeftHolds.{left-holds}
 
@@ -30,7 +29,7 @@ module _ (f : Input) (v : ℕ → ℕ) (c : Chain) (completes : Completes f v c)
   agrees : Agrees (c .edges) (headEdges f) (edgeKept f v) (fromIn f) (toIn f) (weightIn f)
   agrees = record { counted = completes .edges; agree = completes .kept }
 
-  same-chain : c ≡ withEdges left (c .edges)
+  pub same-chain : c ≡ withEdges left (c .edges)
   same-chain i =
       record {
         states = completes .states i;
@@ -41,7 +40,7 @@ module _ (f : Input) (v : ℕ → ℕ) (c : Chain) (completes : Completes f v c)
       }
 
   -- What flows along the completed chain flows along the kept edges and the lost ones.
-  parted : (i : ℕ) (g : ℕ → ℕ) → flow (c .edges) i g ≡ flow (left .edges) i g + flow lostEdges i g
+  pub parted : (i : ℕ) (g : ℕ → ℕ) → flow (c .edges) i g ≡ flow (left .edges) i g + flow lostEdges i g
   parted = splits (edgeRewardIn f) agrees
 
   -- A lost edge makes its row fall short.
@@ -55,7 +54,7 @@ module _ (f : Input) (v : ℕ → ℕ) (c : Chain) (completes : Completes f v c)
         rest-weighs (edgeRewardIn f) agrees e h q,
         weight-positive bare (chainAlone c) formed e l,
         parted i (λ _. 1),
-        row-sum bare (chainAlone c) formed i (from-in bare (chainAlone c) formed e l),
+        row-sum bare (chainAlone c) formed refl i (from-in bare (chainAlone c) formed e l),
         d,
       )
 
@@ -78,7 +77,7 @@ module _ (f : Input) (v : ℕ → ℕ) (c : Chain) (completes : Completes f v c)
 
   -- Request 10's theorem: the exact chance of a well-formed chain that the lost records complete lies between the two fractions, which are in
   -- lowest terms.
-  pub salvage-holds : LeftFormed (leftIn f v) → (a : Bounds) → LeftFigure (leftIn f v) a → ChanceBetween c a
+  pub salvage-holds : WellFormed shortRows (leftIn f v) → (a : Bounds) → BoundsFigure true (leftIn f v) a → ChanceBetween c a
   salvage-holds kept a figure =
-      let fine : Fine (withEdges left (c .edges)) = subst Fine same-chain (formed-fine bare (chainAlone c) formed) in
+      let fine : Fine (withEdges left (c .edges)) = subst Fine same-chain (formed-fine bare (chainAlone c) formed refl) in
       subst (λ z. ChanceBetween z a) (sym same-chain) (left-holds (leftIn f v) kept (c .edges) lostEdges rejoined fine a figure)

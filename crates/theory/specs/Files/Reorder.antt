@@ -10,10 +10,10 @@ use Rattle.meaning.specs.Chain.{mostReward, edgeSize, edgeNumber}
 use Rattle.meaning.specs.Step.{Sets, Right}
 use Rattle.meaning.specs.Refusal.{Lent, bare, RewardFault, of-state, of-edge, Applies, Refused, WellFormed}
 use Rattle.meaning.specs.Block.{Input, numberAt, headStates, headEdges, stateAt, rewardIn, edgeAt, edgeRewardByte}
-use Rattle.meaning.specs.File.{Accepted, chainIn, rewardsIn, edgeIn}
+use Rattle.meaning.specs.File.{Accepted, chainIn, rewardsIn, bareIn, edgeIn}
 use Rattle.meaning.specs.Buffer.{Writing, noWriting, writing}
 use Rattle.meaning.specs.Write.{Bytes, FileOf, filing, WriteOutcome}
-use Rattle.meaning.specs.Choice.{ordered, Chosen}
+use Rattle.meaning.specs.Choice.{Chosen}
 use Rattle.meaning.specs.Reorder.{longestFile, reordered, ReorderOutcome, short, file-refused, chain-refused, written}
 use Rattle.theory.specs.Numbers.Tab.{tab-at, tab-length}
 use Rattle.theory.specs.Chains.Sets.{right-one}
@@ -34,7 +34,7 @@ two-bytes f bytes j = omega (arith, bytes (j + 0), bytes (j + 1))
 abbrev pub rewritten : Input → List ℕ → List ℕ → Lent
 rewritten f o buffer = record { chain = chainIn f; order = o; rewards = rewardsIn f; work = buffer; list = 0 }
 
-module _ (f : Input) (bytes : Bytes (f .kept)) (taken : Accepted f) (formed : WellFormed bare (ordered (chainIn f) [])) where
+module _ (f : Input) (bytes : Bytes (f .kept)) (taken : Accepted f) (formed : WellFormed bare (bareIn f)) where
   laid : Bounded f
   laid = bounded f (taken .blocks 0 (omega arith))
 
@@ -70,7 +70,7 @@ module _ (f : Input) (bytes : Bytes (f .kept)) (taken : Accepted f) (formed : We
         go (suc (suc (suc (suc (suc (suc (suc (suc zero)))))))) p h = formed .none 8 p h
         go (suc (suc (suc (suc (suc (suc (suc (suc (suc zero))))))))) p h = formed .none 9 p h
         go (suc (suc (suc (suc (suc (suc (suc (suc (suc (suc zero)))))))))) p h =
-            choice-order (chainIn f) k x (formed-fine bare _ formed) right (start-in bare _ formed) p h
+            choice-order (chainIn f) k x (formed-fine bare _ formed refl) right (start-in bare _ formed) p h
         go (suc (suc (suc (suc (suc (suc (suc (suc (suc (suc (suc zero))))))))))) p h = no-reward-fault p h
         go (suc (suc (suc (suc (suc (suc (suc (suc (suc (suc (suc (suc k)))))))))))) p h = h
 
@@ -83,10 +83,10 @@ module _ (f : Input) (bytes : Bytes (f .kept)) (taken : Accepted f) (formed : We
         same z = record { bytes = z .bytes; version = z .version; accepted = z .accepted; chain = z .chain; order = z .order; rewards = z .rewards }
 
 -- A chain alone of an accepted file is refused by 3 to 9 only.
-bare-numbers : {f : Input} {n p : ℕ} → Accepted f → Refused bare (ordered (chainIn f) []) n p → (3 ≤ n) × (n ≤ 9)
+bare-numbers : {f : Input} {n p : ℕ} → Accepted f → Refused bare (bareIn f) n p → (3 ≤ n) × (n ≤ 9)
 bare-numbers {f} {n} {p} taken r = at n p (r .applies)
   where
-    at : (n p : ℕ) → Applies bare (ordered (chainIn f) []) n p → (3 ≤ n) × (n ≤ 9)
+    at : (n p : ℕ) → Applies bare (bareIn f) n p → (3 ≤ n) × (n ≤ 9)
     at zero p h = absurd h
     at (suc zero) p h = absurd (shaped (bounded f (taken .blocks 0 (omega arith))) bare (omega arith) refl refl (h .1))
     at (suc (suc zero)) p h = absurd (room-enough (omega arith) (omega arith) (h .1))

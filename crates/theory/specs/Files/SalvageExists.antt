@@ -6,8 +6,8 @@ use mathlib.Core.List.{List}
 use native.Mathlib.Omega.{arith}
 use native.Mathlib.Decide.{ℕ-discrete}
 use Rattle.meaning.specs.Chain.{edgeCount}
-use Rattle.meaning.specs.Refusal.{Lent}
-use Rattle.meaning.specs.Left.{LeftApplies, LeftRefused}
+use Rattle.meaning.specs.Refusal.{Lent, Applies, Refused}
+use Rattle.meaning.specs.Left.{shortRows}
 use Rattle.meaning.specs.Block.{Input, demanded, headEdges}
 use Rattle.meaning.specs.File.{plainIn, edgeIn}
 use Rattle.meaning.specs.Salvage.{Opened, Lost, edgeKept, keptEdges, keptBefore, leftIn, PlaceIn, Salvaged}
@@ -15,13 +15,14 @@ use Rattle.theory.specs.Numbers.Sum.{below}
 use Rattle.theory.specs.Numbers.Search.{turned, anywhere}
 use Rattle.theory.specs.Chains.Picked.{picked-edges}
 use Rattle.theory.specs.Outcomes.Computed.{bounds-outcome}
-use Rattle.theory.specs.Outcomes.LeftOne.{left-look, left-outcome}
+use Rattle.theory.specs.Outcomes.LeftOne.{left-outcome}
+use Rattle.theory.specs.Outcomes.Look.{LookResult, look}
 use Rattle.theory.specs.Files.Opened.{opened-accepted, lost-inside, index-exists}
 use Rattle.theory.specs.Files.Decided.{front-decided}
 use Rattle.theory.specs.Files.SalvageOne.{whole-salvaged}
 
 -- 6, 7 and 8 are at an edge.
-edge-inside : (l : Lent) (k place : ℕ) → k < 3 → LeftApplies l (6 + k) place → place < edgeCount (l .chain .edges)
+edge-inside : (l : Lent) (k place : ℕ) → k < 3 → Applies shortRows l (6 + k) place → place < edgeCount (l .chain .edges)
 edge-inside l zero place h a = a .0
 edge-inside l (suc zero) place h a = a .0
 edge-inside l (suc (suc zero)) place h a = a .0
@@ -32,7 +33,7 @@ module _ (f : Input) (v : ℕ → ℕ) where
   kept-count = omega (arith, picked-edges (edgeKept f v) (edgeIn f) (λ _. refl) (headEdges f))
 
   -- An edge that refuses what is left has an index in the whole file.
-  place-exists : (number place : ℕ) → LeftRefused (leftIn f v) number place → (at : ℕ) × PlaceIn f v number place at
+  place-exists : (number place : ℕ) → Refused shortRows (leftIn f v) number place → (at : ℕ) × PlaceIn f v number place at
   place-exists number place r =
       ⊎-elim
       (λ (h : 5 < number).
@@ -49,18 +50,18 @@ module _ (f : Input) (v : ℕ → ℕ) where
           omega (
             arith,
             kept-count,
-            edge-inside (leftIn f v) (number - 6) place (omega arith) (subst (λ z. LeftApplies (leftIn f v) z place) e (r .applies)),
+            edge-inside (leftIn f v) (number - 6) place (omega arith) (subst (λ z. Applies shortRows (leftIn f v) z place) e (r .applies)),
           )
 
   -- Of a file that is opened and has lost a block.
   left-salvaged : Opened f v → Lost v → (t : List ℕ) × Salvaged f t
   left-salvaged opened lost =
-      ⊎-elim
-      (λ r.
-      let w = place-exists (r .0) (r .1 .0) (r .1 .1) in
-      (_, Salvaged.left-refused v opened lost (r .0) (r .1 .0) (w .0) (r .1 .1) (w .1) refl))
-      (λ formed. let o = left-outcome (leftIn f v) in (_, Salvaged.left v opened lost formed (o .0) (o .1 .0) (o .1 .1) refl))
-      (left-look (leftIn f v))
+      elim (look shortRows (leftIn f v)) [
+        | LookResult.refused number place r ↦ let w = place-exists number place r in
+            (_, Salvaged.left-refused v opened lost number place (w .0) r (w .1) refl)
+        | LookResult.formed formed ↦ let o = left-outcome (leftIn f v) in
+            (_, Salvaged.left v opened lost formed (o .answer) (o .work) (o .outcome) refl)
+      ]
 
   -- Whether a block is lost.
   lost-decided : Opened f v → Dec (Lost v)

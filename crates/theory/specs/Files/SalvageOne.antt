@@ -3,6 +3,7 @@
 use Prim.Native.Nat.{ℕ, zero, suc}
 use mathlib.Core.Path.{_≡_, refl, sym, ap, ap₂, subst, _∙_}
 use mathlib.Core.Logic.{inl, inr}
+use mathlib.Core.Bool.{false}
 use mathlib.Core.List.{List, _++_}
 use native.Mathlib.Omega.{arith}
 use lib.Dec.{eqb}
@@ -10,7 +11,7 @@ use borrow.Author.Tests.{ne-eqb}
 use Rattle.meaning.specs.Number.{choose}
 use Rattle.meaning.specs.Refusal.{plain, Refused}
 use Rattle.meaning.specs.Outcome.{refused, stopped, answered, Bounds, noBounds, BoundsFigure, BoundsOutcome}
-use Rattle.meaning.specs.Left.{LeftRefused, LeftOutcome}
+use Rattle.meaning.specs.Left.{shortRows, LeftOutcome}
 use Rattle.meaning.specs.Block.{Input, headStates, demanded}
 use Rattle.meaning.specs.File.{Accepted, plainIn, Tables}
 use Rattle.meaning.specs.Text.{bytesOf}
@@ -31,8 +32,7 @@ use Rattle.meaning.specs.Salvage.{
   Salvaged,
 }
 use Rattle.theory.specs.Outcomes.Determined.{refused-one, refused-unformed}
-use Rattle.theory.specs.Outcomes.Entries.{bounds-determined}
-use Rattle.theory.specs.Outcomes.LeftOne.{left-refused-one, left-unformed, left-determined}
+use Rattle.theory.specs.Outcomes.Entries.{bounds-determined, left-determined}
 use Rattle.theory.specs.Files.FileOne.{accepted-unrefused}
 use Rattle.theory.specs.Files.ReportOne.{line}
 use Rattle.theory.specs.Files.Opened.{front-file, front-one, opened-unrefused, accepted-unlost, verdicts-one, verdict-lists-one, index-one}
@@ -64,10 +64,10 @@ place-one (PlaceIn.other (inl h)) (PlaceIn.edge e′ h′ l′ i′) = absurd (o
 place-one (PlaceIn.other (inr h)) (PlaceIn.edge e′ h′ l′ i′) = absurd (omega arith)
 place-one (PlaceIn.other h) (PlaceIn.other h′) = refl
 
-left-places-one : {f : Input} {v v′ : ℕ → ℕ} {n p at n′ p′ at′ : ℕ} → v′ ≡ v → LeftRefused (leftIn f v) n p → PlaceIn f v n p at
-    → LeftRefused (leftIn f v′) n′ p′ → PlaceIn f v′ n′ p′ at′ → (n ≡ n′) × (at ≡ at′)
+left-places-one : {f : Input} {v v′ : ℕ → ℕ} {n p at n′ p′ at′ : ℕ} → v′ ≡ v → Refused shortRows (leftIn f v) n p → PlaceIn f v n p at
+    → Refused shortRows (leftIn f v′) n′ p′ → PlaceIn f v′ n′ p′ at′ → (n ≡ n′) × (at ≡ at′)
 left-places-one {f} {v} {v′} {n} {p} {at} {n′} {p′} {at′} same r i r′ i′ =
-    let o = left-refused-one r (subst (λ z. LeftRefused (leftIn f z) n′ p′) same r′) in
+    let o = refused-one r (subst (λ z. Refused shortRows (leftIn f z) n′ p′) same r′) in
     let j : PlaceIn f v n p at′ =
     subst (λ z. PlaceIn f v z p at′) (sym (o .0)) (subst (λ z. PlaceIn f v n′ z at′) (sym (o .1)) (subst (λ z. PlaceIn f z n′ p′ at′) same i′)) in
     (o .0, place-one i j)
@@ -96,15 +96,15 @@ salvage-determined (Salvaged.left-refused v o l n p q r i e) (Salvaged.whole a�
 salvage-determined (Salvaged.left-refused v o l n p q r i e) (Salvaged.left-refused v′ o′ l′ n′ p′ q′ r′ i′ e′) =
     line (left-places-one (verdicts-same o′ o) r i r′ i′) e e′
 salvage-determined {f = x} (Salvaged.left-refused v o l n p q r i e) (Salvaged.left v′ o′ l′ f′ a′ w′ c′ e′) =
-    absurd (left-unformed (subst (λ z. LeftRefused (leftIn x z) n p) (verdicts-same o o′) r) f′)
+    absurd (refused-unformed (subst (λ z. Refused shortRows (leftIn x z) n p) (verdicts-same o o′) r) f′)
 salvage-determined (Salvaged.left v o l f a w c e) (Salvaged.file-refused n′ p′ r′ e′) = absurd (opened-unrefused o r′)
 salvage-determined (Salvaged.left v o l f a w c e) (Salvaged.whole-refused n′ p′ a′ r′ e′) = absurd (accepted-unlost o a′ l)
 salvage-determined (Salvaged.left v o l f a w c e) (Salvaged.whole a′ f′ b′ w′ o′ e′) = absurd (accepted-unlost o a′ l)
 salvage-determined {f = x} (Salvaged.left v o l f a w c e) (Salvaged.left-refused v′ o′ l′ n′ p′ q′ r′ i′ e′) =
-    absurd (left-unformed (subst (λ z. LeftRefused (leftIn x z) n′ p′) (verdicts-same o′ o) r′) f)
+    absurd (refused-unformed (subst (λ z. Refused shortRows (leftIn x z) n′ p′) (verdicts-same o′ o) r′) f)
 salvage-determined {f = x} (Salvaged.left v o l f a w c e) (Salvaged.left v′ o′ l′ f′ a′ w′ c′ e′) =
     let same : v′ ≡ v = verdicts-same o′ o in
-    let bounds : a ≡ a′ = left-determined c (subst (λ z. LeftOutcome (leftIn x z) a′ w′) same c′) .0 in
+    let bounds : a ≡ a′ = left-determined (leftIn x v) c (subst (λ z. LeftOutcome (leftIn x z) a′ w′) same c′) .0 in
     e
     ∙ ap₂ (λ (z : ℕ → ℕ) (b : Bounds). lineText (bytesOf "bounds ") (boundsText b) ++ lostText z (demanded x) ++ shortText (leftChain x z) (headStates x))
     (sym same) bounds
@@ -128,7 +128,7 @@ whole-salvaged accepted (stopped number place f t e s) = absurd t
 whole-salvaged {f} {a} {work} accepted (answered formed t g s) =
     Salvaged.whole accepted formed a work (answered formed t g s) (said g)
   where
-    said : BoundsFigure (plainIn f) a → boundsSaid a ≡ lineText (bytesOf "bounds ") (boundsText a)
+    said : BoundsFigure false (plainIn f) a → boundsSaid a ≡ lineText (bytesOf "bounds ") (boundsText a)
     said (BoundsFigure.won g e) = rw e refl
     said (BoundsFigure.lost g e) = rw e refl
     said (BoundsFigure.live k r v p q s t f e) = rw e refl

@@ -122,6 +122,6 @@ module _ {l : Lent} {d : ℕ} {table : List ℕ} where
     -- Yes exactly when at every state, those that the start can't reach included, its fraction is the chance.
     pub judge-yes : (a ≡ right) ↔ ((i : ℕ) → i < l .chain .states → ChanceAt (l .chain) d (numerator table) i)
     judge-yes = (
-      λ e. shares-chances (formed-fine bare l (s .formed)) (yes-shares e o),
-      λ c. judge-one o (says-yes s g (chances-shares (formed-fine bare l (s .formed)) (range-some (g .whole)) c) refl),
+      λ e. shares-chances (formed-fine bare l (s .formed) refl) (yes-shares e o),
+      λ c. judge-one o (says-yes s g (chances-shares (formed-fine bare l (s .formed) refl) (range-some (g .whole)) c) refl),
     )

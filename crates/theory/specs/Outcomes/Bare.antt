@@ -7,15 +7,12 @@ use lib.ListN.{getD}
 use native.Mathlib.Omega.{arith}
 use native.Mathlib.Nat.{le-refl}
 use Rattle.meaning.specs.Number.{only}
-use Rattle.meaning.specs.Chain.{Chain, edgeSize}
-use Rattle.meaning.specs.Refusal.{Lent, Entry, bare, whole, never, Misshaped, faults, Applies, Refused, WellFormed}
+use Rattle.meaning.specs.Chain.{edgeSize}
+use Rattle.meaning.specs.Refusal.{Lent, chainAlone, Entry, bareOf, whole, never, Misshaped, faults, Applies, Refused, WellFormed}
 use Rattle.theory.specs.Numbers.Sum.{below}
 use Rattle.theory.specs.Outcomes.Formed.{room-enough}
 
--- What an entry is lent that is lent a chain alone; and of what is lent, its chain alone.
-abbrev pub chainAlone : Chain → Lent
-chainAlone c = record { chain = c; order = []; rewards = []; work = []; list = 0 }
-
+-- Of what is lent, its chain alone.
 abbrev pub alone : Lent → Lent
 alone l = chainAlone (l .chain)
 
@@ -56,11 +53,11 @@ reshaped f g k (Misshaped.order-length h) = Misshaped.order-length (g h)
 reshaped f g k (Misshaped.rewards-length h) = Misshaped.rewards-length (k h)
 
 module _ (x : Entry) (l : Lent) where
-  misshaped : {n d e o w : ℕ} (p : ℕ) → whole (Misshaped bare n d e 0 0) p → whole (Misshaped x n d e o w) p
+  misshaped : {n d e o w : ℕ} (p : ℕ) → whole (Misshaped (bareOf (x .short)) n d e 0 0) p → whole (Misshaped x n d e o w) p
   misshaped p a = (a .0, reshaped (λ h. absurd (omega arith)) (λ h. absurd (h refl)) (λ h. absurd (h refl)) (a .1))
 
   -- What applies to the chain alone applies among all that is lent.
-  among : Entails (faults bare (alone l)) (faults x l)
+  among : Entails (faults (bareOf (x .short)) (alone l)) (faults x l)
   among =
       more (λ p a. a)
       (more misshaped
@@ -76,11 +73,11 @@ module _ (x : Entry) (l : Lent) where
       (more (λ p a. absurd a) none)))))))))))
 
   -- What is well formed with all its tables is well formed with none.
-  pub bare-formed : WellFormed x l → WellFormed bare (alone l)
+  pub bare-formed : WellFormed x l → WellFormed (bareOf (x .short)) (alone l)
   bare-formed formed = record { none = λ k p a. formed .none k p (entails-at among k p a) }
 
   -- Of 3 to 9, what applies among all that is lent applies to the chain alone.
-  own : (k p : ℕ) → k < 7 → Applies x l (3 + k) p → Applies bare (alone l) (3 + k) p
+  own : (k p : ℕ) → k < 7 → Applies x l (3 + k) p → Applies (bareOf (x .short)) (alone l) (3 + k) p
   own zero p h a = a
   own (suc zero) p h a = a
   own (suc (suc zero)) p h a = a
@@ -91,30 +88,30 @@ module _ (x : Entry) (l : Lent) where
   own (suc (suc (suc (suc (suc (suc (suc k))))))) p h a = absurd (omega arith)
 
   -- Nothing from 10 on applies to a chain alone.
-  past : (k p : ℕ) → Applies bare (alone l) (suc (suc (suc (suc (suc (suc (suc (suc (suc (suc k)))))))))) p → ⊥
+  past : (k p : ℕ) → Applies (bareOf (x .short)) (alone l) (suc (suc (suc (suc (suc (suc (suc (suc (suc (suc k)))))))))) p → ⊥
   past zero p a = a
   past (suc zero) p a = a
   past (suc (suc k)) p a = a
 
-  numbered : (k p : ℕ) → Applies bare (alone l) k p → k < 10
+  numbered : (k p : ℕ) → Applies (bareOf (x .short)) (alone l) k p → k < 10
   numbered k p a =
       ⊎-elim (λ h. h)
       (λ (h : 10 ≤ k).
       let e : k ≡ suc (suc (suc (suc (suc (suc (suc (suc (suc (suc (k - 10)))))))))) = omega arith in
-      absurd (past (k - 10) p (subst (λ k. Applies bare (alone l) k p) e a)))
+      absurd (past (k - 10) p (subst (λ k. Applies (bareOf (x .short)) (alone l) k p) e a)))
       (below k 10)
 
   -- Where 1 and 2 do not apply.
   module _ (clear : (k p : ℕ) → k < 3 → Applies x l k p → ⊥) where
-    back : (k p : ℕ) → k < 10 → Applies x l k p → Applies bare (alone l) k p
+    back : (k p : ℕ) → k < 10 → Applies x l k p → Applies (bareOf (x .short)) (alone l) k p
     back k p h a =
         ⊎-elim (λ (g : k < 3). absurd (clear k p g a))
         (λ (g : 3 ≤ k).
         let e : 3 + (k - 3) ≡ k = omega arith in
-        subst (λ k. Applies bare (alone l) k p) e (own (k - 3) p (omega arith) (subst (λ k. Applies x l k p) (sym e) a)))
+        subst (λ k. Applies (bareOf (x .short)) (alone l) k p) e (own (k - 3) p (omega arith) (subst (λ k. Applies x l k p) (sym e) a)))
         (below k 3)
 
-    pub bare-refuses : {number place : ℕ} → Refused bare (alone l) number place → Refused x l number place
+    pub bare-refuses : {number place : ℕ} → Refused (bareOf (x .short)) (alone l) number place → Refused x l number place
     bare-refuses {number} {place} r =
         let n = numbered number place (r .applies) in
         record {
@@ -123,5 +120,5 @@ module _ (x : Entry) (l : Lent) where
           place-least = λ p h a. r .place-least p h (back number p n a);
         }
 
-    pub bare-clears : WellFormed bare (alone l) → (k p : ℕ) → k < 10 → Applies x l k p → ⊥
+    pub bare-clears : WellFormed (bareOf (x .short)) (alone l) → (k p : ℕ) → k < 10 → Applies x l k p → ⊥
     bare-clears formed k p h a = formed .none k p (back k p h a)

@@ -1,6 +1,6 @@
 -- The chosen order is one, it is each state once, and its products sum to what an exact run's step list shows.
 use Prim.Native.Nat.{ℕ, zero, suc, _+_, _*_, _-_, _≤_, _<_}
-use mathlib.Core.Path.{_≡_, sym, ap, ap₂, subst, _∙_}
+use mathlib.Core.Path.{_≡_, refl, sym, ap, ap₂, subst, _∙_}
 use mathlib.Core.Logic.{inl, inr, ⊎-elim}
 use mathlib.Core.Bool.{Bool, true, false}
 use mathlib.Core.List.{List, []}
@@ -137,7 +137,7 @@ module _ (l : Lent) {k : Sets} {m : ℕ} (right : Right (l .chain) k) (x : Chose
       let g : ℕ → ℕ =
       λ p. only (goes (c .start) (k .live) (turn l p)) (f (recordOf (c .states) (turn l p) (tableAt (earns listing l) exact l k p))) in
       let formed = steps-through l z s .formed in
-      let few = turns-few c k (formed-fine listing l formed) right (start-in listing l formed) (chosen-turns c k x) in
+      let few = turns-few c k (formed-fine listing l formed refl) right (start-in listing l formed) (chosen-turns c k x) in
       let e : m + (c .states - m) ≡ c .states = omega (arith, few) in
       steps-sum l z s f d k right
       ∙ ap (sumTo g) (sym e)

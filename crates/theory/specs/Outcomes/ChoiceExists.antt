@@ -118,5 +118,5 @@ choice-exists l before = at (same (length before) (l .chain .states)) (look bare
     at (inl e) (LookResult.refused number place r) = (noChoice number place, before, refused e number place r refl refl)
     at (inl e) (LookResult.formed f) =
         let s = right-exists (l .chain) (goals-in bare l f) (from-in bare l f) in
-        let x = chosen-exists (l .chain) (s .0) (formed-fine bare l f) (s .1) (start-in bare l f) in
+        let x = chosen-exists (l .chain) (s .0) (formed-fine bare l f refl) (s .1) (start-in bare l f) in
         (choice (productsTo (l .chain) (s .0) (x .0) (x .1)), x .0, chosen e f (s .0) (s .1) (x .1) (x .2) refl)

@@ -1,7 +1,7 @@
 -- Each entry has an outcome, and it can be computed where the chain's sets are known.
 use Prim.Native.Nat.{ℕ, _+_, _/_, _<_}
 use mathlib.Core.Path.{_≡_, refl}
-use mathlib.Core.Bool.{Bool, true}
+use mathlib.Core.Bool.{Bool, true, false}
 use mathlib.Core.List.{List}
 use Rattle.meaning.specs.Number.{gcd, Reduced}
 use Rattle.meaning.specs.Chain.{Chain, begin}
@@ -81,14 +81,14 @@ module _ (l : Lent) (k : Sets) (right : Right (l .chain) k) where
   exactRow x = row (tableAt (earns x l) exact l k (c .states)) (c .start)
 
   -- The chance, whether or not every row fits.
-  unfoldable pub chance-is : (x : Entry) → x .order ≡ true → WellFormed x l → (p : ℕ) × ((q : ℕ) × Chance c p q)
+  unfoldable pub chance-is : (x : Entry) → x .order ≡ true → x .short ≡ false → WellFormed x l → (p : ℕ) × ((q : ℕ) × Chance c p q)
   unfolding begins
-  chance-is x lent f =
+  chance-is x lent whole f =
       elim (begins c k right) [
         | won g ↦ (1, (1, chance-won c (start-in x l f) g))
         | lost h ↦ (0, (1, chance-lost c (start-in x l f) h))
         | live a ↦ let g = cell (exactRow x) (goalColumn (c .states)) in
-            let ready = formed-prepared x l f lent k right in
+            let ready = formed-prepared x l f lent whole k right in
             let h : Reduced g (D (exactRow x)) _ _ = fraction-reduced g (D (exactRow x)) (exact-whole c k (l .order) ready (earns x l) a) in
             (top g (D (exactRow x)), (bottom g (D (exactRow x)), exact-chance c k (l .order) ready (earns x l) a _ _ h))
       ]
@@ -101,22 +101,22 @@ module _ (l : Lent) (k : Sets) (right : Right (l .chain) k) where
         | won g ↦ (0, (1, reward-won c (earns paid l) g))
         | lost h ↦ absurd (m (c .start, begin, h))
         | live a ↦ let r = reward (c .states) (exactRow paid) in
-            let ready = formed-prepared paid l f refl k right in
+            let ready = formed-prepared paid l f refl refl k right in
             let h : Reduced r (D (exactRow paid)) _ _ = fraction-reduced r (D (exactRow paid)) (exact-whole c k (l .order) ready (earns paid l) a) in
             (top r (D (exactRow paid)), (bottom r (D (exactRow paid)), exact-reward c k (l .order) ready (earns paid l) a m _ _ h))
       ]
 
   -- The bounds.
-  unfoldable pub bounds-are : WellFormed plain l → (a : Bounds) × BoundsFigure l a
+  unfoldable pub bounds-are : WellFormed plain l → (a : Bounds) × BoundsFigure false l a
   unfolding begins
   bounds-are f =
       elim (begins c k right) [
         | won g ↦ (between 1 1 1 1, BoundsFigure.won g refl)
         | lost h ↦ (between 0 1 0 1, BoundsFigure.lost h refl)
-        | live a ↦ let z = lastRow l k in
+        | live a ↦ let z = lastRow false l k in
             let g = cell z (goalColumn (c .states)) in
             let u = g + cell z (unknownColumn (c .states)) in
-            let whole : 0 < D z = bounds-whole c k (l .order) (formed-prepared plain l f refl k right) (earns plain l) a (unpaid plain l refl) in (
+            let whole : 0 < D z = bounds-whole c k (l .order) (formed-prepared plain l f refl refl k right) (earns plain l) a (unpaid plain l refl) in (
               between (top g (D z)) (bottom g (D z)) (top u (D z)) (bottom u (D z)),
               BoundsFigure.live k right a _ _ _ _ (fraction-reduced g (D z) whole, fraction-reduced u (D z) whole) refl,
             )
@@ -124,14 +124,14 @@ module _ (l : Lent) (k : Sets) (right : Right (l .chain) k) where
 
 -- The three entries, the first for its companion too; the sets need be right only where the input is well formed.
 module _ (l : Lent) (k : Sets) where
-  unfoldable pub chance-computed : (x : Entry) → x .order ≡ true → (WellFormed x l → Right (l .chain) k)
+  unfoldable pub chance-computed : (x : Entry) → x .order ≡ true → x .short ≡ false → (WellFormed x l → Right (l .chain) k)
       → Computed x l refusal (Stopped (earns plain l) exact l) (ChanceFigure l)
   unfolding computed course chance-is
-  chance-computed x lent right =
+  chance-computed x lent whole right =
       computed x l refusal (Stopped (earns plain l) exact l) (ChanceFigure l) (λ f.
       elim (course l k (right f) (earns plain l) exact) [
         | halts number place s ↦ stop number place s
-        | goes-on u ↦ let v = chance-is l k (right f) x lent f in
+        | goes-on u ↦ let v = chance-is l k (right f) x lent whole f in
             figure u (fraction (v .0) (v .1 .0)) (chance (v .0) (v .1 .0) (v .1 .1) refl)
       ])
 
@@ -148,10 +148,10 @@ module _ (l : Lent) (k : Sets) where
         ]
       ])
 
-  unfoldable pub bounds-computed : (WellFormed plain l → Right (l .chain) k) → Computed plain l noBounds BoundsStop (BoundsFigure l)
+  unfoldable pub bounds-computed : (WellFormed plain l → Right (l .chain) k) → Computed plain l noBounds BoundsStop (BoundsFigure false l)
   unfolding computed bounds-are
   bounds-computed right =
-      computed plain l noBounds BoundsStop (BoundsFigure l) (λ f.
+      computed plain l noBounds BoundsStop (BoundsFigure false l) (λ f.
       let v = bounds-are l k (right f) f in figure (λ number place s. s) (v .0) (v .1))
 
 -- The sets are there where the input is well formed, so that each entry has an outcome, whatever it is lent.
@@ -163,10 +163,10 @@ set-in x l t =
     ]
 
 pub chance-outcome : (l : Lent) → Computed plain l refusal (Stopped (earns plain l) exact l) (ChanceFigure l)
-chance-outcome l = set-in plain l (λ k. chance-computed l k plain refl)
+chance-outcome l = set-in plain l (λ k. chance-computed l k plain refl refl)
 
 pub reward-outcome : (l : Lent) → Computed paid l refusal (RewardStop l) (RewardFigure l)
 reward-outcome l = set-in paid l (reward-computed l)
 
-pub bounds-outcome : (l : Lent) → Computed plain l noBounds BoundsStop (BoundsFigure l)
+pub bounds-outcome : (l : Lent) → Computed plain l noBounds BoundsStop (BoundsFigure false l)
 bounds-outcome l = set-in plain l (bounds-computed l)

@@ -2,6 +2,7 @@
 -- them, both equal to it if nothing was rounded.
 use Prim.Native.Nat.{ℕ, _+_, _*_, _≤_, _<_}
 use mathlib.Core.Path.{_≡_, refl, sym, ap, subst}
+use mathlib.Core.Bool.{false}
 use mathlib.Core.List.{List}
 use native.Mathlib.Omega.{arith}
 use native.Mathlib.Nat.{le-of-mul-le-mul-left, mul-le-mul-left, mul-pos}
@@ -64,20 +65,20 @@ module _ (l : Lent) (formed : WellFormed plain l) where
   c = l .chain
 
   module _ (k : Sets) (right : Right c k) (alive : Live c (c .start)) (p q s t : ℕ)
-      (lowest : Reduced (cell (lastRow l k) (goalColumn (c .states))) (outside (c .states) (c .start) (lastRow l k)) p q)
+      (lowest : Reduced (cell (lastRow false l k) (goalColumn (c .states))) (outside (c .states) (c .start) (lastRow false l k)) p q)
       (highest
-      : Reduced (cell (lastRow l k) (goalColumn (c .states)) + cell (lastRow l k) (unknownColumn (c .states)))
-      (outside (c .states) (c .start) (lastRow l k)) s t)
+      : Reduced (cell (lastRow false l k) (goalColumn (c .states)) + cell (lastRow false l k) (unknownColumn (c .states)))
+      (outside (c .states) (c .start) (lastRow false l k)) s t)
     where
-      whole : 0 < outside (c .states) (c .start) (lastRow l k)
+      whole : 0 < outside (c .states) (c .start) (lastRow false l k)
       whole =
-          bounds-whole c k (l .order) (formed-prepared plain l formed refl k right) (earns plain l) alive (unpaid plain l refl)
+          bounds-whole c k (l .order) (formed-prepared plain l formed refl refl k right) (earns plain l) alive (unpaid plain l refl)
 
       live-holds : ChanceBetween c (between p q s t)
       live-holds =
-          let ready = formed-prepared plain l formed refl k right in
+          let ready = formed-prepared plain l formed refl refl k right in
           let free = unpaid plain l refl in
-          let (d, x, share) = shares-exist (formed-fine plain l formed) in
+          let (d, x, share) = shares-exist (formed-fine plain l formed refl) in
           record {
             lower-lowest = lowest .lowest;
             upper-lowest = highest .lowest;
@@ -91,13 +92,13 @@ module _ (l : Lent) (formed : WellFormed plain l) where
 
       live-equal : Unrounded l → Chance c p q × Chance c s t
       live-equal none =
-          let ready = formed-prepared plain l formed refl k right in (
+          let ready = formed-prepared plain l formed refl refl k right in (
             lower-chance c k (l .order) ready (earns plain l) alive (none k right) p q lowest,
             upper-chance c k (l .order) ready (earns plain l) alive (none k right) s t highest,
           )
 
   -- Two fractions: what holds of every figure holds of every outcome.
-  module _ (P : Bounds → Type 0) (a : Bounds) (w : List ℕ) (figure : (b : Bounds) → BoundsFigure l b → P b) where
+  module _ (P : Bounds → Type 0) (a : Bounds) (w : List ℕ) (figure : (b : Bounds) → BoundsFigure false l b → P b) where
     outcome : BoundsOutcome l a w → P a
     outcome (refused n p r e s) = absurd (formed .none n p (r .applies))
     outcome (stopped n p f t e s) = absurd t
@@ -108,7 +109,7 @@ module _ (l : Lent) (formed : WellFormed plain l) where
     pub bounds-answer : BoundsOutcome l a w → a .number ≡ 0
     bounds-answer = outcome (λ b. b .number ≡ 0) a w nought
       where
-        nought : (b : Bounds) → BoundsFigure l b → b .number ≡ 0
+        nought : (b : Bounds) → BoundsFigure false l b → b .number ≡ 0
         nought b (BoundsFigure.won g e) = ap (λ (z : Bounds). z .number) e
         nought b (BoundsFigure.lost g e) = ap (λ (z : Bounds). z .number) e
         nought b (BoundsFigure.live k r v p q s t f e) = ap (λ (z : Bounds). z .number) e
@@ -117,16 +118,16 @@ module _ (l : Lent) (formed : WellFormed plain l) where
     pub bounds-hold : BoundsOutcome l a w → ChanceBetween c a
     bounds-hold = outcome (ChanceBetween c) a w held
       where
-        held : (b : Bounds) → BoundsFigure l b → ChanceBetween c b
-        held b (BoundsFigure.won g e) = subst (ChanceBetween c) (sym e) (known (formed-fine plain l formed) 1 1 (chance-won c (start-in plain l formed) g))
-        held b (BoundsFigure.lost g e) = subst (ChanceBetween c) (sym e) (known (formed-fine plain l formed) 0 1 (chance-lost c (start-in plain l formed) g))
+        held : (b : Bounds) → BoundsFigure false l b → ChanceBetween c b
+        held b (BoundsFigure.won g e) = subst (ChanceBetween c) (sym e) (known (formed-fine plain l formed refl) 1 1 (chance-won c (start-in plain l formed) g))
+        held b (BoundsFigure.lost g e) = subst (ChanceBetween c) (sym e) (known (formed-fine plain l formed refl) 0 1 (chance-lost c (start-in plain l formed) g))
         held b (BoundsFigure.live k r v p q s t f e) = subst (ChanceBetween c) (sym e) (live-holds k r v p q s t (f .0) (f .1))
 
     -- Both are the chance where no row was rounded.
     pub bounds-equal : Unrounded l → BoundsOutcome l a w → BothChance c a
     bounds-equal none = outcome (BothChance c) a w equal
       where
-        equal : (b : Bounds) → BoundsFigure l b → BothChance c b
+        equal : (b : Bounds) → BoundsFigure false l b → BothChance c b
         equal b (BoundsFigure.won g e) =
             let h = chance-won c (start-in plain l formed) g in subst (BothChance c) (sym e) (h, h)
         equal b (BoundsFigure.lost g e) =

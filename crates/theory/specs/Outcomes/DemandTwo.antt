@@ -84,7 +84,7 @@ pub chance-any-order : (l l′ : Lent) → WellFormed plain l → WellFormed pla
     → ChanceOutcome l a w → ChanceOutcome l′ a′ w′ → a .number ≡ 0 → a′ .number ≡ 0
     → (a .numerator ≡ a′ .numerator) × (a .denominator ≡ a′ .denominator)
 chance-any-order l l′ formed formed′ same a a′ w w′ o o′ z z′ =
-    chance-one (formed-fine plain l formed) (chance-is l formed a w o z)
+    chance-one (formed-fine plain l formed refl) (chance-is l formed a w o z)
     (subst (λ c. Chance c (a′ .numerator) (a′ .denominator)) (sym same) (chance-is l′ formed′ a′ w′ o′ z′))
 
 -- The entry for the expected reward.
@@ -142,5 +142,5 @@ pub reward-any-order : (l l′ : Lent) → WellFormed paid l → WellFormed paid
     → RewardOutcome l a w → RewardOutcome l′ a′ w′ → a .number ≡ 0 → a′ .number ≡ 0
     → (a .numerator ≡ a′ .numerator) × (a .denominator ≡ a′ .denominator)
 reward-any-order l l′ formed formed′ same paid′ sure a a′ w w′ o o′ z z′ =
-    expected-one (formed-fine paid l formed) (start-in paid l formed) sure (reward-is l formed a w o z sure)
+    expected-one (formed-fine paid l formed refl) (start-in paid l formed) sure (reward-is l formed a w o z sure)
     (rw (same, paid′) (reward-is l′ formed′ a′ w′ o′ z′ (rw same at sure)))

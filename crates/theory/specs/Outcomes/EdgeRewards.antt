@@ -3,7 +3,7 @@
 use Prim.Native.Nat.{ℕ, _+_, _*_, _<_}
 use mathlib.Core.Path.{_≡_, refl, sym, ap, subst, _∙_}
 use mathlib.Core.List.{List}
-use mathlib.Core.Bool.{Bool, false}
+use mathlib.Core.Bool.{Bool, true, false}
 use native.Mathlib.Omega.{arith}
 use lib.ListN.{length}
 use Rattle.meaning.specs.Number.{filled, Reduced}
@@ -62,8 +62,12 @@ module _ (x : Entry) (l : Lent) (edges : List ℕ) (s : RewardsAlone (l .chain .
       pairs e (h, (d, (l, (f, t)))) =
           (inside e h, (d, (l, (sym (s .froms d) ∙ f ∙ s .froms e, sym (s .tos d) ∙ t ∙ s .tos e))))
 
-      sums : (i : ℕ) → SumFault (c .states) (c .denominators) (c .edges) i → SumFault (c .states) (c .denominators) edges i
-      sums i a = (a .0, λ q. a .1 (same-flow s i (λ _. 1) ∙ q))
+      sums : (i : ℕ) → SumFault (x .short) (c .states) (c .denominators) (c .edges) i → SumFault (x .short) (c .states) (c .denominators) edges i
+      sums i = go (x .short)
+        where
+          go : (short : Bool) → SumFault short (c .states) (c .denominators) (c .edges) i → SumFault short (c .states) (c .denominators) edges i
+          go false a = (a .0, λ q. a .1 (same-flow s i (λ _. 1) ∙ q))
+          go true a = (a .0, omega (arith, a .1, same-flow s i (λ _. 1)))
 
 -- The tables, where live states earn the same; and what stops the elimination.
 module _ (b : Bool) (l : Lent) (edges : List ℕ) (s : RewardsAlone (l .chain .edges) edges) (pay pay′ : ℕ → ℕ)
@@ -134,12 +138,12 @@ module _ (l : Lent) (edges : List ℕ) (s : RewardsAlone (l .chain .edges) edges
   one-chance = chance-says plain l edges s refl
 
   -- One pair of bounds.
-  bounds-figure : {a : Bounds} → BoundsFigure l a → BoundsFigure other a
+  bounds-figure : {a : Bounds} → BoundsFigure false l a → BoundsFigure false other a
   bounds-figure (BoundsFigure.won g e) = BoundsFigure.won g e
   bounds-figure (BoundsFigure.lost h e) = BoundsFigure.lost (λ g. h (same-path (swapped s) g)) e
   bounds-figure (BoundsFigure.live k right v p q t u f e) =
       let n = l .chain .states in
-      let same : lastRow l k ≡ lastRow other k = ap (λ t. row t (l .chain .start)) (unpaid-tables plain l edges s refl rounding k right n) in
+      let same : lastRow false l k ≡ lastRow false other k = ap (λ t. row t (l .chain .start)) (unpaid-tables plain l edges s refl rounding k right n) in
       BoundsFigure.live k (same-right s right) (same-live s v) p q t u
       (subst (λ z.
       Reduced (cell z (goalColumn n)) (outside n (l .chain .start) z) p q

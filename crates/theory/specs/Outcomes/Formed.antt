@@ -5,11 +5,12 @@ use mathlib.Core.Logic.{_⊎_, inl, inr}
 use mathlib.Core.Bool.{Bool, true, false}
 use native.Mathlib.Omega.{arith}
 use lib.ListN.{length, getD}
-use Rattle.meaning.specs.Chain.{mostStates, mostEdges, M, mostReward, Chain, denominator, edgeSize, edgeCount, from, to, weight, edgeReward, along}
-use Rattle.meaning.specs.Refusal.{Lent, Entry, Misshaped, OrderFault, RewardFault, of-state, of-edge, lentFault, WellFormed}
+use Rattle.meaning.specs.Chain.{mostStates, mostEdges, M, mostReward, Chain, denominator, edgeSize, edgeCount, from, to, weight, edgeReward, rowSum}
+use Rattle.meaning.specs.Refusal.{Lent, Entry, Misshaped, SumFault, OrderFault, RewardFault, of-state, of-edge, lentFault, WellFormed}
+use Rattle.meaning.specs.Step.{unknown}
 use Rattle.meaning.specs.Stop.{earns}
 use Rattle.theory.specs.Numbers.Every.{apart-once, holds-every}
-use Rattle.theory.specs.Chains.Fine.{Fine}
+use Rattle.theory.specs.Chains.Fine.{Fine, FineTo}
 
 -- Facts whose contrary cannot be.
 pub equal : (x y : ℕ) → ((x ≡ y → ⊥) → ⊥) → x ≡ y
@@ -36,6 +37,12 @@ room-enough h k (inr a) = omega (arith, k, a)
 pub order-whole : (n : ℕ) (o : ℕ → ℕ) → ((p : ℕ) → p < n → o p < n) → ((p : ℕ) → p < n → (q : ℕ) → q < p → o q ≡ o p → ⊥)
     → (i : ℕ) → i < n → (p : ℕ) × (p < n) × (o p ≡ i)
 order-whole n o states new = holds-every n o states (apart-once n o new)
+
+-- Where 9 does not apply, what is missing makes the row whole, and none is missing but where rows may fall short.
+sum-whole : (short : Bool) (c : Chain) (i : ℕ) → i < c .states → (SumFault short (c .states) (c .denominators) (c .edges) i → ⊥)
+    → rowSum (c .edges) i + unknown short c i ≡ denominator c i
+sum-whole false c i h none = omega (arith, equal (rowSum (c .edges) i) (denominator c i) (λ f. none (h, f)))
+sum-whole true c i h none = omega (arith, atMost (rowSum (c .edges) i) (denominator c i) (λ k. none (h, k)))
 
 -- A table that is lent has its faults.
 lends : (b : Bool) (F : ℕ → Type 0) (p : ℕ) → b ≡ true → F p → lentFault b F p
@@ -76,9 +83,6 @@ module _ (x : Entry) (l : Lent) (formed : WellFormed x l) where
     pub denominator-small : denominator c i ≤ M
     denominator-small = atMost _ _ (λ k. formed .none 5 i (h, inr k))
 
-    pub row-sum : along c i (λ _. 1) ≡ denominator c i
-    row-sum = equal _ _ (λ f. formed .none 9 i (h, f))
-
   module _ (e : ℕ) (h : e < edgeCount (c .edges)) where
     pub from-in : from (c .edges) e < c .states
     from-in = inside _ _ (λ k. formed .none 6 e (h, inl k))
@@ -92,8 +96,17 @@ module _ (x : Entry) (l : Lent) (formed : WellFormed x l) where
     pub weight-small : weight (c .edges) e ≤ M
     weight-small = atMost _ _ (λ k. formed .none 7 e (h, inr k))
 
-  pub formed-fine : Fine c
-  formed-fine = record { targets = to-in; weights = weight-positive; sums = row-sum }
+  pub formed-fine-to : FineTo c (unknown (x .short) c)
+  formed-fine-to =
+      record { targets = to-in; weights = weight-positive; sums = λ i h. sum-whole (x .short) c i h (formed .none 9 i) }
+
+  -- No row falls short in an entry that does not allow it.
+  module _ (whole : x .short ≡ false) where
+    pub row-sum : (i : ℕ) → i < c .states → rowSum (c .edges) i ≡ denominator c i
+    row-sum i h = let s : unknown (x .short) c i ≡ 0 = rw whole in omega (arith, formed-fine-to .sums i h)
+
+    pub formed-fine : Fine c
+    formed-fine = record { targets = to-in; weights = weight-positive; sums = row-sum }
 
   pub some-edges : x .fewest ≤ edgeCount (c .edges)
   some-edges = atMost _ _ (λ h. shape (Misshaped.few-edges h))

@@ -2,7 +2,7 @@
 use Prim.Native.Nat.{ℕ, _+_, _*_, _-_, _≤_, _<_}
 use mathlib.Core.Path.{_≡_, refl, ap}
 use mathlib.Core.Logic.{inl, inr, ⊎-elim}
-use mathlib.Core.Bool.{true}
+use mathlib.Core.Bool.{true, false}
 use mathlib.Core.List.{List}
 use native.Mathlib.Omega.{arith}
 use lib.ListN.{getD, take}
@@ -29,11 +29,11 @@ use Rattle.theory.specs.Outcomes.TurnsCounted.{turns-few}
 use Rattle.theory.specs.Outcomes.Choice.{chosen-turns, choice-order}
 
 -- The limit of an exact run, for m live states other than the start.
-pub line-limit : (x : Entry) (l : Lent) → WellFormed x l → x .order ≡ true → (k : Sets) → Right (l .chain) k → (m b : ℕ)
+pub line-limit : (x : Entry) (l : Lent) → WellFormed x l → x .order ≡ true → x .short ≡ false → (k : Sets) → Right (l .chain) k → (m b : ℕ)
     → Count (Removable (l .chain)) (l .chain .states) m → Near (l .chain) k (l .order) b
     → productsAlong (l .chain) k (l .order) ≤ m * (b + 1) * (b + 3)
-line-limit x l formed lent k right m b number near =
-    let ready = formed-prepared x l formed lent k right in
+line-limit x l formed lent whole k right m b number near =
+    let ready = formed-prepared x l formed lent whole k right in
     omega (
       arith,
       products-few (l .chain) k (l .order) ready b near,
@@ -49,7 +49,7 @@ unfolding recordOf
 steps-limit l answers s k right m b number near d =
     let run = steps-through l answers s in
     rw (steps-sum l answers s (λ r. r .rows * r .columns) d k right)
-    (line-limit listing l (run .formed) refl k right m b number near)
+    (line-limit listing l (run .formed) refl refl k right m b number near)
 
 -- And of a chosen order, where that is such an order: the sum that is answered with it.
 module _ (c : Chain) (k : Sets) (o : List ℕ) {turns : ℕ} (x : Chosen c k o turns) where
@@ -91,5 +91,5 @@ choice-limit l z (list-wrong d e s) k right m b number near = absurd (omega (ari
 choice-limit l z (refused h n p r e s) k right m b number near = absurd (omega (arith, z, ap (λ a. a .number) e, refused-places n p r .0))
 choice-limit l {after = after} z (chosen h f k′ right′ turns x e) k right m b number near =
     let s = right-one right right′ in
-    let limit = chosen-limit (l .chain) k′ after x (formed-fine bare l f) right′ (start-in bare l f) m b number (rw s at near) in
+    let limit = chosen-limit (l .chain) k′ after x (formed-fine bare l f refl) right′ (start-in bare l f) m b number (rw s at near) in
     omega (arith, limit, ap (λ a. a .sum) e)

@@ -123,7 +123,7 @@ module _ (l : Lent) (right : Right (l .chain) (marked (l .chain))) where
   unfoldable shows-chance : (a : Answer) (w : List ℕ) → Option (ChanceOutcome l a w)
   unfolding agreed chance-computed
   shows-chance a w =
-      let t = chance-computed l k plain refl (λ _. right) in
+      let t = chance-computed l k plain refl refl (λ _. right) in
       agreed (ChanceOutcome l) answerNumbers answerOf (λ a. refl) (t .answer) (t .work) (t .outcome) a w
 
   unfoldable shows-reward : (a : Answer) (w : List ℕ) → Option (RewardOutcome l a w)
@@ -153,7 +153,7 @@ module _ (l : Lent) (right : Right (l .chain) (marked (l .chain))) where
   shows-value p q =
       elim (look plain l) [
         | refused number place r ↦ none
-        | formed f ↦ let v = chance-is l k right plain refl f in
+        | formed f ↦ let v = chance-is l k right plain refl refl f in
             elim (matched (v .0 ∷ v .1 .0 ∷ []) (p ∷ q ∷ [])) [
               | none ↦ none
               | some e ↦ some (rw (← ap (λ s. getD s 0 0) e, ← ap (λ s. getD s 1 0) e) (v .1 .1))

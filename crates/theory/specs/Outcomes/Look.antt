@@ -9,7 +9,7 @@ use native.Mathlib.Decide.{ℕ-discrete, decLe, decLt}
 use lib.ListN.{length, getD}
 use Rattle.meaning.specs.Number.{only}
 use Rattle.meaning.specs.Chain.{mostStates, mostEdges, M, mostReward, edgeSize, edgeCount, from, to, weight, edgeReward, rowSum}
-use Rattle.meaning.specs.Refusal.{Lent, Entry, Misshaped, no-states, many-states, denominators-length, edges-ragged, many-edges, few-edges, order-length, rewards-length, GoalFault, OutOfRange, Same, StateRewardFault, EdgeRewardFault, RewardFault, of-state, of-edge, SumFault, whole, never, lentFault, faultsWith, faults, Refused, WellFormed}
+use Rattle.meaning.specs.Refusal.{Lent, Entry, Misshaped, no-states, many-states, denominators-length, edges-ragged, many-edges, few-edges, order-length, rewards-length, GoalFault, OutOfRange, Same, StateRewardFault, EdgeRewardFault, RewardFault, of-state, of-edge, SumFault, whole, never, lentFault, faults, Refused, WellFormed}
 use Rattle.theory.specs.Numbers.Search.{turned, either, NoneBefore, LeastPlace, at, nowhere, clear-none, search-least, ranged, anywhere}
 
 module _ (x : Entry) (states denominators edges order rewards : ℕ) where
@@ -111,10 +111,15 @@ pub data Each : List (ℕ → Type 0) → Type 1 where
   none : Each []
   more : {F : ℕ → Type 0} {fs : List (ℕ → Type 0)} → LeastPlace F → Each fs → Each (F ∷ fs)
 
--- What was found of 9 is given.
-unfoldable pub sought-with : (S : ℕ → Type 0) → LeastPlace S → (x : Entry) (l : Lent) → Each (faultsWith S x l)
-unfolding wholly lently misshaped out-of-range sames overpaid ranged anywhere either decLt decLe ℕ-discrete
-sought-with S sums x l =
+-- 9, where rows may fall short or not.
+unfoldable pub unequal : (short : Bool) (n : ℕ) (denominators edges : List ℕ) → LeastPlace (SumFault short n denominators edges)
+unfolding ranged Dec·not ℕ-discrete decLt
+unequal false n denominators edges = ranged _ n (λ i. Dec·not (ℕ-discrete (rowSum edges i) (getD denominators i 0)))
+unequal true n denominators edges = ranged _ n (λ i. decLt (getD denominators i 0) (rowSum edges i))
+
+unfoldable pub sought : (x : Entry) (l : Lent) → Each (faults x l)
+unfolding wholly lently misshaped out-of-range sames overpaid unequal ranged anywhere either decLt decLe ℕ-discrete
+sought x l =
     let c = l .chain in
     more (nowhere (λ q z. z))
     (more (wholly _ (misshaped x (c .states) (length (c .denominators)) (length (c .edges)) (length (l .order)) (length (l .rewards))))
@@ -125,7 +130,7 @@ sought-with S sums x l =
     (more (ranged _ (edgeCount (c .edges)) (λ e. either (decLe (c .states) (from (c .edges) e)) (decLe (c .states) (to (c .edges) e))))
     (more (ranged _ (edgeCount (c .edges)) (λ e. out-of-range (weight (c .edges) e)))
     (more (ranged _ (edgeCount (c .edges)) (λ e. anywhere _ e (λ d. sames (c .edges) d e)))
-    (more sums
+    (more (unequal (x .short) (c .states) (c .denominators) (c .edges))
     (more
     (lently (x .order) _
     (ranged _ (c .states) (λ p.
@@ -133,13 +138,6 @@ sought-with S sums x l =
     (anywhere _ p (λ o. ℕ-discrete (getD (l .order) o 0) (getD (l .order) p 0))))))
     (more (lently (x .rewards) _ (overpaid (c .states) (l .rewards) (c .edges)))
     none)))))))))))
-
-unfoldable pub sought : (x : Entry) (l : Lent) → Each (faults x l)
-unfolding sought-with ranged Dec·not ℕ-discrete
-sought x l =
-    let c = l .chain in
-    sought-with (SumFault (c .states) (c .denominators) (c .edges))
-    (ranged _ (c .states) (λ i. Dec·not (ℕ-discrete (rowSum (c .edges) i) (getD (c .denominators) i 0)))) x l
 
 -- The least number of a list of faults that applies, with its least place; or that none does.
 pub data First (fs : List (ℕ → Type 0)) : Type 1 where

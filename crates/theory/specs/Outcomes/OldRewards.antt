@@ -79,6 +79,6 @@ first-reward-small l formed i h =
     let small : d ≤ M = denominator-small paid l formed i h in
     let own : rewardOf l i * d ≤ mostReward * M = mul-le-mul (reward-small paid l formed refl i h) small in
     let edges : edgeRewards (l .chain .edges) i ≤ mostReward * d =
-    subst (λ z. edgeRewards (l .chain .edges) i ≤ mostReward * z) (row-sum paid l formed i h)
+    subst (λ z. edgeRewards (l .chain .edges) i ≤ mostReward * z) (row-sum paid l formed refl i h)
     (edge-rewards-most (l .chain .edges) i mostReward (edge-reward-small paid l formed refl)) in
     omega (arith, own, edges, small)

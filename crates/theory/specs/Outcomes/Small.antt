@@ -2,15 +2,15 @@
 use Prim.Native.Nat.{ℕ, _+_, _≤_, _<_}
 use mathlib.Core.Path.{_≡_, refl}
 use mathlib.Core.Logic.{inl, inr, ⊎-elim}
-use mathlib.Core.Bool.{true}
+use mathlib.Core.Bool.{true, false}
 use mathlib.Core.List.{List}
 use native.Mathlib.Omega.{arith}
 use native.Mathlib.Nat.{div-le-self}
 use Rattle.meaning.specs.Number.{gcd, Reduced}
 use Rattle.meaning.specs.Chain.{M, Chain, FromStart, Live}
 use Rattle.meaning.specs.Figure.{Chance, Missed, Expected}
-use Rattle.meaning.specs.Row.{Row, cell, total, goalColumn, reward, exact}
-use Rattle.meaning.specs.Step.{row, Sets, Right, outside}
+use Rattle.meaning.specs.Row.{Row, cell, total, goalColumn, reward, exact, rounding}
+use Rattle.meaning.specs.Step.{row, Sets, Right, outside, unknown}
 use Rattle.meaning.specs.Refusal.{Lent, Entry, plain, paid, WellFormed}
 use Rattle.meaning.specs.Stop.{earns, tableAt, Large, Stopped}
 use Rattle.meaning.specs.Outcome.{
@@ -29,13 +29,14 @@ use Rattle.meaning.specs.Outcome.{
   BoundsFigure,
   BoundsOutcome,
 }
+use Rattle.meaning.specs.Left.{shortRows, LeftOutcome}
 use Rattle.theory.specs.Numbers.Sum.{below, sum-term, sum-two}
 use Rattle.theory.specs.Numbers.Gcd.{fraction-reduced}
 use Rattle.theory.specs.Figures.Unique.{reduced-one, chance-one, expected-one}
 use Rattle.theory.specs.Chains.Sets.{right-exists}
-use Rattle.theory.specs.Outcomes.Formed.{formed-fine, start-in, goals-in, from-in, unpaid}
-use Rattle.theory.specs.Stages.Fits.{bounds-fit}
-use Rattle.theory.specs.Outcomes.Whole.{formed-prepared, exact-whole, exact-chance, exact-reward, bounds-whole, chance-won, chance-lost, reward-won}
+use Rattle.theory.specs.Outcomes.Formed.{formed-fine, start-in, goals-in, from-in}
+use Rattle.theory.specs.Stages.Fits.{stage-fits}
+use Rattle.theory.specs.Outcomes.Whole.{formed-prepared, exact-whole, exact-chance, exact-reward, last-whole, chance-won, chance-lost, reward-won}
 use Rattle.theory.specs.Outcomes.Halt.{Halted, stops, runs, halt}
 use Rattle.theory.specs.Outcomes.Begin.{Begins, won, lost, live, begins}
 
@@ -58,7 +59,7 @@ small e s = record { numerator = omega (arith, e .0, s .numerator); denominator 
 pub one-small : (p : ℕ) → p ≤ 1 → Small p 1
 one-small p h = record { numerator = omega arith; denominator = omega arith }
 
-module _ (x : Entry) (l : Lent) (formed : WellFormed x l) (none : (number place : ℕ) → Stopped (earns x l) exact l number place → ⊥) where
+module _ (x : Entry) (l : Lent) (formed : WellFormed x l) (whole : x .short ≡ false) (none : (number place : ℕ) → Stopped (earns x l) exact l number place → ⊥) where
   abbrev c : Chain
   c = l .chain
 
@@ -93,20 +94,20 @@ module _ (x : Entry) (l : Lent) (formed : WellFormed x l) (none : (number place 
     module _ (ordered : x .order ≡ true) where
       live-chance : (p q : ℕ) → Chance c p q → Small p q
       live-chance p q h =
-          let ready = formed-prepared x l formed ordered k right in
-          let whole = exact-whole c k (l .order) ready (earns x l) alive in
-          let r = fraction-reduced (cell last (goalColumn n)) (outside n (c .start) last) whole in
-          small (chance-one (formed-fine x l formed) (exact-chance c k (l .order) ready (earns x l) alive _ _ r) h)
-          (reduced-small _ _ _ _ whole last-goal last-outside r)
+          let ready = formed-prepared x l formed ordered whole k right in
+          let some = exact-whole c k (l .order) ready (earns x l) alive in
+          let r = fraction-reduced (cell last (goalColumn n)) (outside n (c .start) last) some in
+          small (chance-one (formed-fine x l formed whole) (exact-chance c k (l .order) ready (earns x l) alive _ _ r) h)
+          (reduced-small _ _ _ _ some last-goal last-outside r)
 
       live-reward : (Missed c → ⊥) → (p q : ℕ) → Expected c (earns x l) p q → Small p q
       live-reward sure p q h =
-          let ready = formed-prepared x l formed ordered k right in
-          let whole = exact-whole c k (l .order) ready (earns x l) alive in
-          let r = fraction-reduced (reward n last) (outside n (c .start) last) whole in
+          let ready = formed-prepared x l formed ordered whole k right in
+          let some = exact-whole c k (l .order) ready (earns x l) alive in
+          let r = fraction-reduced (reward n last) (outside n (c .start) last) some in
           small
-          (expected-one (formed-fine x l formed) (start-in x l formed) sure (exact-reward c k (l .order) ready (earns x l) alive sure _ _ r) h)
-          (reduced-small _ _ _ _ whole last-reward last-outside r)
+          (expected-one (formed-fine x l formed whole) (start-in x l formed) sure (exact-reward c k (l .order) ready (earns x l) alive sure _ _ r) h)
+          (reduced-small _ _ _ _ some last-reward last-outside r)
 
 -- The three entries.
 chance-figure : (l : Lent) → WellFormed plain l → ((number place : ℕ) → Stopped (earns plain l) exact l number place → ⊥) → (p q : ℕ) → Chance (l .chain) p q → Small p q
@@ -114,10 +115,10 @@ chance-figure l formed none p q h = go (right-exists (l .chain) (goals-in plain 
   where
     at : (k : Sets) → Right (l .chain) k → Begins (l .chain) → Small p q
     at k right (won g) =
-        small (chance-one (formed-fine plain l formed) (chance-won (l .chain) (start-in plain l formed) g) h) (one-small 1 (omega arith))
+        small (chance-one (formed-fine plain l formed refl) (chance-won (l .chain) (start-in plain l formed) g) h) (one-small 1 (omega arith))
     at k right (lost g) =
-        small (chance-one (formed-fine plain l formed) (chance-lost (l .chain) (start-in plain l formed) g) h) (one-small 0 (omega arith))
-    at k right (live v) = live-chance plain l formed none k right v refl p q h
+        small (chance-one (formed-fine plain l formed refl) (chance-lost (l .chain) (start-in plain l formed) g) h) (one-small 0 (omega arith))
+    at k right (live v) = live-chance plain l formed refl none k right v refl p q h
 
     go : (k : Sets) × Right (l .chain) k → Small p q
     go s = at (s .0) (s .1) (begins (l .chain) (s .0) (s .1))
@@ -128,10 +129,10 @@ reward-figure l formed none sure p q h = go (right-exists (l .chain) (goals-in p
   where
     at : (k : Sets) → Right (l .chain) k → Begins (l .chain) → Small p q
     at k right (won g) =
-        small (expected-one (formed-fine paid l formed) (start-in paid l formed) sure (reward-won (l .chain) (earns paid l) g) h)
+        small (expected-one (formed-fine paid l formed refl) (start-in paid l formed) sure (reward-won (l .chain) (earns paid l) g) h)
         (one-small 0 (omega arith))
     at k right (lost g) = absurd (sure (l .chain .start, FromStart.begin, g))
-    at k right (live v) = live-reward paid l formed none k right v refl sure p q h
+    at k right (live v) = live-reward paid l formed refl none k right v refl sure p q h
 
     go : (k : Sets) × Right (l .chain) k → Small p q
     go s = at (s .0) (s .1) (begins (l .chain) (s .0) (s .1))
@@ -164,17 +165,22 @@ row-small c z whole all p q s t f =
     let two : cell z m + cell z (m + 2) ≤ total m z = sum-two (cell z) (m + 3) m (m + 2) (omega arith) (omega arith) (omega arith) in
     (reduced-small _ _ p q whole (omega arith) (omega arith) (f .0), reduced-small _ _ s t whole (omega arith) (omega arith) (f .1))
 
-bounds-figure : (l : Lent) → WellFormed plain l → (a : Bounds) → BoundsFigure l a → BothSmall a
-bounds-figure l formed a (BoundsFigure.won g e) = rw e (one-small 1 (omega arith), one-small 1 (omega arith))
-bounds-figure l formed a (BoundsFigure.lost g e) = rw e (one-small 0 (omega arith), one-small 0 (omega arith))
-bounds-figure l formed a (BoundsFigure.live k right v p q s t f e) =
+bounds-figure : (x : Entry) (l : Lent) → WellFormed x l → x .order ≡ true → (a : Bounds) → BoundsFigure (x .short) l a → BothSmall a
+bounds-figure x l formed o a (BoundsFigure.won g e) = rw e (one-small 1 (omega arith), one-small 1 (omega arith))
+bounds-figure x l formed o a (BoundsFigure.lost g e) = rw e (one-small 0 (omega arith), one-small 0 (omega arith))
+bounds-figure x l formed o a (BoundsFigure.live k right v p q s t f e) =
     let c = l .chain in
     rw e
-    (row-small c (lastRow l k)
-    (bounds-whole c k (l .order) (formed-prepared plain l formed refl k right) (earns plain l) v (unpaid plain l refl))
-    (bounds-fit c k (earns plain l) (l .order) (c .states) (c .start) (start-in plain l formed)) p q s t f)
+    (row-small c (lastRow (x .short) l k) (last-whole x l formed o k right v)
+    (stage-fits c k (earns plain l) (unknown (x .short) c) (l .order) rounding (c .states) (c .start) (start-in x l formed) .small refl) p q s t f)
 
 pub bounds-small : {l : Lent} {a : Bounds} {w : List ℕ} → BoundsOutcome l a w → BothSmall a
 bounds-small (refused number place r e s) = rw e (nought, nought)
 bounds-small (stopped number place f t e s) = absurd t
-bounds-small {l} {a} (answered f t g s) = bounds-figure l f a g
+bounds-small {l} {a} (answered f t g s) = bounds-figure plain l f refl a g
+
+-- Those of what is left.
+pub left-small : {l : Lent} {a : Bounds} {w : List ℕ} → LeftOutcome l a w → BothSmall a
+left-small (refused number place r e s) = rw e (nought, nought)
+left-small (stopped number place f t e s) = absurd t
+left-small {l} {a} (answered f t g s) = bounds-figure shortRows l f refl a g

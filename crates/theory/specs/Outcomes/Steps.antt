@@ -44,7 +44,7 @@ module _ (l : Lent) where
       → StepsOutcome l before a count w after → StepsOutcome l before a′ count′ w′ after′
       → (a ≡ a′) × (count ≡ count′) × (w ≡ w′) × (after ≡ after′)
   steps-determined {before} {after′ = after′} {count′ = count′} s s′ =
-      let o = outcome-one (stopped-one {pay = earns listing l} {b = exact} {l = l}) (chance-figure-one l listing) (s .outcome) (s′ .outcome) in
+      let o = outcome-one (stopped-one {pay = earns listing l} {b = exact} {l = l}) (chance-figure-one l listing refl) (s .outcome) (s′ .outcome) in
       let t = listed-one (s .list) (subst (λ a. Listed l a before count′ after′) (sym (o .0)) (s′ .list)) in
       (o .0, t .0, o .1, t .1)
 

@@ -55,7 +55,7 @@ pub record StepsComputed (l : Lent) : Type 0 where
 unfoldable pub steps-computed : (l : Lent) (k : Sets) → (WellFormed listing l → Right (l .chain) k) → StepsComputed l
 unfolding chance-computed written
 steps-computed l k right =
-    let t = chance-computed l k listing refl right in
+    let t = chance-computed l k listing refl refl right in
     record { answer = t .answer; work = t .work; list = written k right (t .outcome) }
 
 pub steps-outcome : (l : Lent) → StepsComputed l

@@ -12,9 +12,9 @@ use lib.Seq.{take-all, take-append-seam}
 use lib.Dec.{eqb}
 use borrow.Author.Tests.{ne-eqb, eqb-true, eqb-false}
 use Rattle.meaning.specs.Number.{sumTo, only, choose, bit, filled}
-use Rattle.meaning.specs.Chain.{Chain, Goal, ToGoal, PathTo, FromStart, begin, step, Live}
+use Rattle.meaning.specs.Chain.{Chain, Goal, PathTo, FromStart, begin, step, LiveTo, Live}
 use Rattle.meaning.specs.Row.{exact}
-use Rattle.meaning.specs.Step.{Sets, Right, goes}
+use Rattle.meaning.specs.Step.{Sets, RightTo, Right, goes}
 use Rattle.meaning.specs.Refusal.{Lent, Entry, listing, Refused, WellFormed}
 use Rattle.meaning.specs.Stop.{earns, turn, tableAt}
 use Rattle.meaning.specs.Outcome.{Outcome, refused, stopped, answered, Answer, refusal}
@@ -28,27 +28,31 @@ use Rattle.theory.specs.Outcomes.Determined.{refused-unformed}
 use Rattle.theory.specs.Stages.Records.{records-none, records-sum, records-states}
 
 -- A state that is removed at its turn: it is live, and not the start.
+abbrev RemovableTo : Chain → (ℕ → Type 0) → ℕ → Type 0
+RemovableTo c End s = LiveTo c End s × (s ≡ c .start → ⊥)
+
+-- The ends are the goals.
 abbrev pub Removable : Chain → ℕ → Type 0
-Removable c s = Live c s × (s ≡ c .start → ⊥)
+Removable c s = RemovableTo c (Goal c) s
 
 pub removable : (c : Chain) (s : ℕ) → Dec (Removable c s)
 removable c s = Dec·and (decLive c s) (Dec·not (ℕ-discrete s (c .start)))
 
-module _ (c : Chain) (k : Sets) (right : Right c k) where
-  pub goes-law : (s : ℕ) → (goes (c .start) (k .live) s ≡ true) ↔ Removable c s
+module _ (c : Chain) {End : ℕ → Type 0} (k : Sets) (right : RightTo c End k) where
+  pub goes-law : (s : ℕ) → (goes (c .start) (k .live) s ≡ true) ↔ RemovableTo c End s
   goes-law s = (there (eqb s (c .start)) refl (eqb (bit (k .live) s) 1) refl, λ h. rw (ne-eqb s (c .start) (h .1), right .live s .1 (h .0)))
     where
-      there : (b : Bool) → eqb s (c .start) ≡ b → (g : Bool) → eqb (bit (k .live) s) 1 ≡ g → choose b false g ≡ true → Removable c s
+      there : (b : Bool) → eqb s (c .start) ≡ b → (g : Bool) → eqb (bit (k .live) s) 1 ≡ g → choose b false g ≡ true → RemovableTo c End s
       there true e g f h = absurd (let z : _≡_ {A = ℕ} 0 1 = cc in omega arith)
       there false e true f h = (right .live s .0 (eqb-true (bit (k .live) s) 1 f), eqb-false s (c .start) e)
       there false e false f h = absurd (let z : _≡_ {A = ℕ} 0 1 = cc in omega arith)
 
   -- Where a state is live the start is.
-  live-start : {i : ℕ} → FromStart c i → (Goal c i → ⊥) → ToGoal c i → Live c (c .start)
+  live-start : {i : ℕ} → FromStart c i → (Goal c i → ⊥) → PathTo (c .edges) End i → LiveTo c End (c .start)
   live-start begin u g = record { unwon = u; reached = begin; leads = g }
   live-start (step e l f v) u g = live-start f v (PathTo.step e l g)
 
-  pub none-goes : (Live c (c .start) → ⊥) → (s : ℕ) → goes (c .start) (k .live) s ≡ false
+  pub none-goes : (LiveTo c End (c .start) → ⊥) → (s : ℕ) → goes (c .start) (k .live) s ≡ false
   none-goes dead s = at (goes (c .start) (k .live) s) refl
     where
       at : (b : Bool) → goes (c .start) (k .live) s ≡ b → b ≡ false

@@ -1,33 +1,67 @@
 -- From a well-formed input and right sets to the figures.
 use Prim.Native.Nat.{ℕ, _+_, _*_, _≤_, _<_, _∣_}
 use mathlib.Core.Path.{_≡_, refl, sym, subst}
-use mathlib.Core.Bool.{Bool, true}
+use mathlib.Core.Logic.{_⊎_, inl}
+use mathlib.Core.Bool.{Bool, true, false}
 use mathlib.Core.List.{List}
 use native.Mathlib.Omega.{arith}
 use native.Mathlib.Nat.{add-zero, eq-one-of-dvd-one, dvd-mul-right}
 use Rattle.meaning.specs.Number.{Reduced, Lowest}
-use Rattle.meaning.specs.Chain.{Chain, Goal, ToGoal, FromStart, Live}
+use Rattle.meaning.specs.Chain.{Chain, Goal, End, ToGoal, FromStart, LiveTo, Live}
 use Rattle.meaning.specs.Figure.{Shares, Chance, Missed, Expected}
 use Rattle.meaning.specs.Row.{Row, cell, goalColumn, unknownColumn, reward, exact, rounding}
-use Rattle.meaning.specs.Step.{row, Sets, Right, outside, stage, RoundedAt}
-use Rattle.meaning.specs.Refusal.{Lent, Entry, WellFormed}
+use Rattle.meaning.specs.Step.{row, Sets, RightTo, Right, outside, unknown, stage, RoundedAt}
+use Rattle.meaning.specs.Refusal.{Lent, Entry, plain, WellFormed}
 use Rattle.meaning.specs.Stop.{earns}
+use Rattle.meaning.specs.Outcome.{lastRow}
 use Rattle.theory.specs.Numbers.Gcd.{reduced-share}
 use Rattle.theory.specs.Rows.Settle.{one-engine}
-use Rattle.theory.specs.Stages.Last.{Prepared, prepared-whole, last-loose, last-known, chance-least, chance-most, chance-exact, reward-exact}
+use Rattle.theory.specs.Stages.Last.{PreparedTo, Prepared, prepared-whole, last-loose, last-known, chance-least, chance-most, chance-exact, reward-exact}
 use Rattle.theory.specs.Stages.Unrounded.{unrounded}
-use Rattle.theory.specs.Outcomes.Formed.{formed-fine, start-in, order-in, order-new, order-every}
+use Rattle.theory.specs.Outcomes.Formed.{formed-fine-to, formed-fine, unpaid, start-in, order-in, order-new, order-every}
 
-pub formed-prepared : (x : Entry) (l : Lent) → WellFormed x l → x .order ≡ true → (k : Sets) → Right (l .chain) k → Prepared (l .chain) k (l .order)
-formed-prepared x l formed lent k right =
-    record {
-      fine = formed-fine x l formed;
-      right = right;
-      orders = order-in x l formed lent;
-      once = order-new x l formed lent;
-      every = order-every x l formed lent;
-      start = start-in x l formed;
-    }
+-- A goal is an end, and an end is a goal or a state with weight that is Unknown at first.
+pub goal-end : (short : Bool) (c : Chain) (i : ℕ) → Goal c i → End short c i
+goal-end false c i g = g
+goal-end true c i g = inl g
+
+end-goal : (short : Bool) (c : Chain) (i : ℕ) → End short c i → Goal c i ⊎ (0 < unknown short c i)
+end-goal false c i g = inl g
+end-goal true c i e = e
+
+module _ (x : Entry) (l : Lent) (formed : WellFormed x l) (lent : x .order ≡ true) where
+  pub formed-prepared-to : (k : Sets) → RightTo (l .chain) (End (x .short) (l .chain)) k
+      → PreparedTo (l .chain) k (l .order) (unknown (x .short) (l .chain)) (End (x .short) (l .chain))
+  formed-prepared-to k right =
+      record {
+        fine = formed-fine-to x l formed;
+        right = right;
+        ends = goal-end (x .short) (l .chain);
+        are = end-goal (x .short) (l .chain);
+        orders = order-in x l formed lent;
+        once = order-new x l formed lent;
+        every = order-every x l formed lent;
+        start = start-in x l formed;
+      }
+
+  pub formed-prepared : x .short ≡ false → (k : Sets) → Right (l .chain) k → Prepared (l .chain) k (l .order)
+  formed-prepared whole k right =
+      record {
+        fine = formed-fine x l formed whole;
+        right = right;
+        orders = order-in x l formed lent;
+        once = order-new x l formed lent;
+        every = order-every x l formed lent;
+        start = start-in x l formed;
+      }
+
+  -- The start's row at the end has weight outside its own loop, in the bounds engine.
+  pub last-whole : (k : Sets) → RightTo (l .chain) (End (x .short) (l .chain)) k → LiveTo (l .chain) (End (x .short) (l .chain)) (l .chain .start)
+      → 0 < outside (l .chain .states) (l .chain .start) (lastRow (x .short) l k)
+  last-whole k right alive =
+      let c = l .chain in
+      last-loose c k (l .order) (unknown (x .short) c) (End (x .short) c) (formed-prepared-to k right) rounding (earns plain l)
+      (λ _. unpaid plain l refl) alive
 
 module _ (c : Chain) (k : Sets) (o : List ℕ) (ready : Prepared c k o) (pay : ℕ → ℕ) where
   abbrev n : ℕ

@@ -34,7 +34,7 @@ copies-one (planned s n p q h e) (copies-wrong f′ e′) = absurd (s .copies f�
 copies-one (planned s n p q h e) (weight-wrong g′ p′ f′ b′ e′) = absurd (s .weights p′ f′)
 copies-one (planned s n p q h e) (large s′ n′ e′) = absurd (n n′)
 copies-one {j} (planned s n p q h e) (planned s′ n′ p′ q′ h′ e′) =
-    let o = chance-one (formed-fine plain (copiesLent j) (copies-plain s)) h h′ in
+    let o = chance-one (formed-fine plain (copiesLent j) (copies-plain s) refl) h h′ in
     e ∙ ap₂ fraction (o .0) (o .1) ∙ sym e′
 
 -- One copy, loss 1 and finish 3.

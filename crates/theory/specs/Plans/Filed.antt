@@ -44,6 +44,7 @@ module _ {j : Plan} (sensible : Sensible j) where
             chain-is = chain-is;
             order-is = order-is;
             asks-order = refl;
+            whole = refl;
             rewards-length = ap length rewards-are ∙ length-replicate (copiesStates j) 0;
             rewards-none = λ i. rw rewards-are (getD-zeros (copiesStates j) i);
             few = omega arith;

@@ -5,16 +5,17 @@ use mathlib.Core.Logic.{_⊎_, inl, inr, ⊎-elim}
 use mathlib.Core.Bool.{Bool, true, false}
 use mathlib.Core.List.{List, []}
 use native.Mathlib.Omega.{arith}
-use native.Mathlib.Nat.{mul-le-mul, add-le-add, le-refl, pow-le-pow-right}
-use lib.ListN.{length, getD, replicate, length-replicate}
+use native.Mathlib.Nat.{mul-le-mul, pow-le-pow-right}
+use lib.ListN.{length, getD}
 use lib.Dec.{eqb, ltb, leb}
 use borrow.Author.Tests.{ne-eqb, lt-ltb, le-ltb, le-leb, lt-leb}
 use Rattle.meaning.specs.Number.{only, choose, tabFrom}
-use Rattle.meaning.specs.Chain.{mostStates, M, from, to, weight, edgeReward, edgeCount, rowSum}
-use Rattle.meaning.specs.Refusal.{Lent, Entry, plain, workSize, Misshaped, Same, Earlier, OutOfRange, RewardFault, of-state, of-edge, lentFault, Applies, WellFormed}
+use Rattle.meaning.specs.Chain.{M, from, to, weight, edgeReward, edgeCount, rowSum}
+use Rattle.meaning.specs.Refusal.{Lent, Entry, plain, Misshaped, UnequalFault, SumFault, Same, Earlier, OutOfRange, RewardFault, of-state, of-edge, lentFault, Applies, WellFormed}
 use Rattle.meaning.specs.Copies.{mostCopies, mostWeight, Plan, Sensible, finished, copiesStates, copiesEdges, copiesChain, copiesOrder, copiesLent}
 use Rattle.theory.specs.Numbers.Sum.{below, same}
 use Rattle.theory.specs.Outcomes.Formed.{room-enough}
+use Rattle.theory.specs.Outcomes.OwnWork.{own-room}
 use Rattle.theory.specs.Numbers.Tab.{tab-at, tab-length}
 use Rattle.theory.specs.Plans.Kinds.{beforeFinishes, beforeLoops, Kind, loses, rebuilt, ends, empty, done, kind, copies-whole, copies-count}
 use Rattle.theory.specs.Plans.Sums.{row-between, row-full, row-empty, row-done}
@@ -153,6 +154,7 @@ pub record LentPlan (j : Plan) (x : Entry) (l : Lent) : Type 0 where
   pub asks-order : x .order ≡ true
   pub rewards-length : length (l .rewards) ≡ only (x .rewards) (copiesStates j)
   pub rewards-none : (i : ℕ) → getD (l .rewards) i 0 ≡ 0
+  pub whole : x .short ≡ false
   pub few : x .fewest ≤ 1
   pub room : x .room (copiesStates j) (edgeCount (copiesEdges j)) ≤ length (l .work)
   pub list-room : x .records (copiesStates j) ≤ l .list
@@ -160,6 +162,10 @@ pub record LentPlan (j : Plan) (x : Entry) (l : Lent) : Type 0 where
 lent-fault : (b : Bool) (F : ℕ → Type 0) (p : ℕ) → lentFault b F p → F p
 lent-fault true F p f = f
 lent-fault false F p f = absurd f
+
+sum-fault : (short : Bool) → short ≡ false → (n : ℕ) (denominators edges : List ℕ) (p : ℕ) → SumFault short n denominators edges p
+    → UnequalFault n denominators edges p
+sum-fault short whole n denominators edges p f = rw whole at f
 
 module _ {j : Plan} (sensible : Sensible j) {x : Entry} {l : Lent} (h : LentPlan j x l) where
   abbrev r : InRange j
@@ -231,7 +237,7 @@ module _ {j : Plan} (sensible : Sensible j) {x : Entry} {l : Lent} (h : LentPlan
       let e : d ≡ p = once j r (kind j d (omega arith)) (kind j p b) s in
       omega arith
   none-applies (suc (suc (suc (suc (suc (suc (suc (suc (suc zero))))))))) p a =
-      let b = rw (h .chain-is) at a in b .1 (sym (tab-at (copiesStates j) (rowSum (copiesEdges j)) 0 p (b .0)))
+      let b = rw (h .chain-is) at (sum-fault (x .short) (h .whole) _ _ _ p a) in b .1 (sym (tab-at (copiesStates j) (rowSum (copiesEdges j)) 0 p (b .0)))
   none-applies (suc (suc (suc (suc (suc (suc (suc (suc (suc (suc zero)))))))))) p a =
       let b = rw (h .chain-is, h .order-is) at (lent-fault (x .order) _ p a) in order-in p (b .0) (b .1)
   none-applies (suc (suc (suc (suc (suc (suc (suc (suc (suc (suc (suc zero))))))))))) p a =
@@ -249,12 +255,10 @@ copies-plain {j} s =
       chain-is = refl;
       order-is = refl;
       asks-order = refl;
+      whole = refl;
       rewards-length = refl;
       rewards-none = λ i. refl;
       few = omega arith;
-      room = enough (copiesStates j) (omega (arith, in-range s .few));
+      room = own-room (copiesStates j) (omega (arith, in-range s .few));
       list-room = omega arith;
     })
-  where
-    enough : (n : ℕ) → n ≤ mostStates → workSize n ≤ length {A = ℕ} (replicate (workSize mostStates) 0)
-    enough n h = omega (arith, mul-le-mul h (add-le-add h (le-refl 4)), length-replicate {A = ℕ} (workSize mostStates) 0)

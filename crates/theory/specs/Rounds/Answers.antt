@@ -51,7 +51,7 @@ module _ (l : Lent) (formed : WellFormed bare l) where
   pub formed-ready : Ready c
   formed-ready =
       record {
-        fine = formed-fine bare l formed;
+        fine = formed-fine bare l formed refl;
         some = λ i h. ⊎-elim (λ (z : 0 < denominator c i). z) (λ z. absurd (formed .none 5 i (h, inl (omega arith)))) (below 0 (denominator c i));
       }
 
@@ -61,7 +61,7 @@ module _ (l : Lent) (formed : WellFormed bare l) where
   -- The true chance within k steps is at most the chance.
   pub reached-chance : (k p q : ℕ) → Chance c p q → reachedIn c k (c .start) * q ≤ p * common c ^ k
   reached-chance k p q chance =
-      let (d, x, s) = chances-exist bare l formed in
+      let (d, x, s) = chances-exist bare l formed refl in
       cancel (reachedIn c k (c .start)) (x (c .start)) (common c ^ k) p q d (s .whole) (chance .share d x s)
       (reached-below formed-ready d x s k (c .start) inside)
     where

@@ -11,7 +11,7 @@ use borrow.Author.Tests.{eq-eqb}
 use Rattle.meaning.specs.Number.{choose, bit}
 use Rattle.meaning.specs.Chain.{M, Chain}
 use Rattle.meaning.specs.Row.{Row, cell, total, settled, rounding}
-use Rattle.meaning.specs.Step.{Table, row, Sets, outside, given, firstRow, noRow, renewed, removed, after, stageFrom, stage}
+use Rattle.meaning.specs.Step.{Table, row, Sets, outside, given, firstRow, noRow, renewed, removed, after, stageFrom}
 use Rattle.theory.specs.Numbers.Sum.{same, sum-zero}
 use Rattle.theory.specs.Numbers.Tab.{tab-at, tab-length}
 use Rattle.theory.specs.Rows.Relation.{combined-length}
@@ -78,7 +78,3 @@ module _ (c : Chain) (k : Sets) (pay u : ℕ → ℕ) (o : List ℕ) where
           → All b n (choose g (removed b n (getD o p 0) (stageFrom b c k pay u o p)) (stageFrom b c k pay u o p))
       go rest true = removed-all b n (getD o p 0) (stageFrom b c k pay u o p) rest
       go rest false = rest
-
--- In the bounds engine all fit.
-pub bounds-fit : (c : Chain) (k : Sets) (pay : ℕ → ℕ) (o : List ℕ) (p i : ℕ) → i < c .states → total (c .states) (row (stage rounding c k pay o p) i) ≤ M
-bounds-fit c k pay o p i h = stage-fits c k pay (λ _. 0) o rounding p i h .small refl

@@ -2,11 +2,10 @@ use mathlib.Core.Path.{refl}
 use mathlib.Core.Logic.{inl}
 use mathlib.Core.Bool.{false}
 use mathlib.Core.List.{[]}
-use native.Mathlib.Omega.{arith}
 use borrow.Author.Needs.{needs}
 use Rattle.meaning.specs.Refusal.{Lent}
 use Rattle.chain.specs.Lent.{lent}
-use Rattle.engines.proofs.Outcomes.{reduced-of, bounds-sum, answers-bounds, refuses-bounds}
+use Rattle.engines.proofs.Outcomes.{addable, outcome-bounds}
 use Rattle.engines.proofs.entry.bounds.Statement.{statement}
 use Rattle.engines.proofs.entry.bounds.Tie as tie
 
@@ -16,41 +15,17 @@ l c =
     lent (a .c) (a .denominators .now) (a .edges .now) (a .order .now) [] (a .work .now)
 
 unpaid-requires : tie.Need-unpaid-requires
-unpaid-requires c κs = inl refl
+unpaid-requires c κs = (inl refl, λ _. refl)
 
-add-new : tie.Need-add-new
-add-new c =
-    let goal = c .before .before .before in
-    let at = goal .before .before .before .before .before in
-    omega (arith, bounds-sum (l at) _ _ (goal .goal .given .1) (at .unpaid .ensures false 0 (refl, refl)))
+bounds-of-requires : tie.Need-bounds-of-requires
+bounds-of-requires c κs =
+    let at = c .before .before .before in
+    addable false (l at) _ _ (at .unpaid .result) (at .unpaid .ensures false 0 (refl, refl))
 
 returns : tie.Need-returns
 returns c =
-    let goal = c .before .before .before .before .before in
-    let at = goal .before .before .before .before .before in
-    answers-bounds (l at) _ _ (goal .goal .given .1) (at .unpaid .ensures false 0 (refl, refl))
-    (reduced-of (c .before .before .before .new .ensures) (c .before .before .reduce .ensures)) (reduced-of (c .before .new2 .ensures) (c .reduce2 .ensures))
-
-returns-2 : tie.Need-returns-2
-returns-2 c =
-    let number = c .before in
-    let at = number .before .before .before .before .before in
-    refuses-bounds (l at) _ _ (number .number .given .1) (at .unpaid .ensures false 0 (refl, refl))
+    let at = c .before .before .before .before in
+    rw (c .bounds-of .ensures) (outcome-bounds false (l at) _ _ (at .unpaid .result) (at .unpaid .ensures false 0 (refl, refl)))
 
 pub bounds-spec : {M : Type 1} → statement M
-bounds-spec =
-    tie.close
-    (tie.spec
-    (λ c. search needs)
-    unpaid-requires
-    (λ c. search needs)
-    (λ c κs. search needs)
-    (λ c κs. search needs)
-    add-new
-    (λ c κs. search needs)
-    (λ c κs. search needs)
-    (λ c. search needs)
-    (λ c. search needs)
-    returns
-    (λ c. search needs)
-    returns-2)
+bounds-spec = tie.close (tie.spec (λ c. search needs) unpaid-requires bounds-of-requires (λ c. search needs) returns)

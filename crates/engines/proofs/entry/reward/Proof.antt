@@ -1,13 +1,13 @@
-use Prim.Native.Nat.{ℕ}
-use mathlib.Core.Path.{_≡_, refl}
+use mathlib.Core.Path.{refl}
 use mathlib.Core.Logic.{inl}
 use native.Mathlib.Omega.{arith}
 use borrow.Author.Needs.{needs}
-use Rattle.meaning.specs.Row.{exact, rounding}
+use Rattle.meaning.specs.Row.{exact}
 use Rattle.meaning.specs.Figure.{Missed}
 use Rattle.meaning.specs.Refusal.{Lent, paid, WellFormed}
 use Rattle.chain.specs.Lent.{lent}
 use Rattle.theory.specs.Numbers.Decide.{holds, fails}
+use Rattle.theory.specs.Rows.Settle.{one-engine}
 use Rattle.theory.specs.Outcomes.Formed.{few-states, room}
 use Rattle.engines.proofs.Looked.{refused-by, clear, begun}
 use Rattle.engines.proofs.Outcomes.{reduced-of, refuses-reward, misses-reward, answers-reward, stops-reward}
@@ -46,10 +46,7 @@ run-requires c κs =
     let sets = c .before .before .before .before in
     let m = l (sets .before .before) in
     let f = clear {l = m} (sets .before .before .look-paid .ensures) (sets .sets .given .1) in
-    (begun paid m (formed sets) exact _ refl (room paid m (formed sets)) (λ e. absurd (apart e)) (f .1 .right), inl refl)
-  where
-    apart : exact ≡ rounding → ⊥
-    apart e = let z : _≡_ {A = ℕ} 0 1 = cc in omega arith
+    (begun paid m (formed sets) exact _ refl (room paid m (formed sets)) (λ e. one-engine exact refl e) (λ e. e) (f .1 .right), inl refl)
 
 sure : (c : tie.Else1) → Missed (l (c .before .before .before .before) .chain) → ⊥
 sure c = fails _ (clear {l = l (c .before .before .before .before)} (c .before .before .before .before .look-paid .ensures) (c .before .before .sets .given .1) .1 .missed) (c .if1 .left)

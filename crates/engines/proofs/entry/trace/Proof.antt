@@ -10,7 +10,7 @@ use Rattle.engines.proofs.entry.trace.Statement.{statement}
 use Rattle.engines.proofs.entry.trace.Tie as tie
 
 unpaid-requires : tie.Need-unpaid-requires
-unpaid-requires c κs = logged-zeros
+unpaid-requires c κs = (logged-zeros, λ e. e)
 
 returns : tie.Need-returns
 returns c =

@@ -20,16 +20,17 @@ run-requires : tie.Need-run-requires
 run-requires c κs =
     let sets = c .before .before .before .before in
     let at = sets .before .before in
-    let m = at .before .before .before .before .before .before .before .args .list in
-    let x = ordered false true in
+    let a = at .before .before .before .before .before .before .before in
+    let m = a .args .list in
+    let x = ordered false true (a .args .short) in
     let w = withList m (l at) in
     let f = clear {l = w} (at .look .ensures true m refl) (sets .sets .given .1) in
-    (begun-unlisted m (begun x w (f .0) _ _ refl (room x w (f .0)) (λ _. refl) (f .1 .right)), at .before .before .before .before .before .before .before .pre)
+    (begun-unlisted m (begun x w (f .0) _ _ refl (room x w (f .0)) (λ _. refl) (a .pre .1) (f .1 .right)), a .pre .0)
 
 returns : tie.Need-returns
 returns c t k e =
     let at = c .before .before .before in
-    inl (refused-by {l = withList k (l at)} (at .look .ensures t k e) (c .before .number .given .1), refl, at .before .before .before .before .before .before .before .pre)
+    inl (refused-by {l = withList k (l at)} (at .look .ensures t k e) (c .before .number .given .1), refl, at .before .before .before .before .before .before .before .pre .0)
 
 returns-2 : tie.Need-returns-2
 returns-2 c t k e =

@@ -14,7 +14,7 @@ use Rattle.engines.proofs.looking.look.Tie as tie
 returns : tie.Need-returns
 returns c t k e =
     let a = c .before .before .before .before .before .args in
-    settle (ordered false t) (withList k (lent (a .c) (a .denominators .now) (a .edges .now) (a .order .now) [] (a .work .now))) 11 (c .tables .result)
+    settle (ordered false t (a .short)) (withList k (lent (a .c) (a .denominators .now) (a .edges .now) (a .order .now) [] (a .work .now))) 11 (c .tables .result)
     (λ u. well (next u (λ p a. a))) (c .tables .ensures false t [] k (refl, refl) e)
 
 pub look-spec : {M : Type 1} → statement M

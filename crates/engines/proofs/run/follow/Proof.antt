@@ -4,8 +4,8 @@ use native.Mathlib.Omega.{arith}
 use borrow.Author.Needs.{needs}
 use borrow.Author.Tests.{not-true, not-false, eqb-true, eqb-false}
 use Rattle.meaning.specs.Number.{bit}
-use Rattle.meaning.specs.Chain.{Live}
-use Rattle.meaning.specs.Step.{Sets, first, after}
+use Rattle.meaning.specs.Chain.{End, LiveTo}
+use Rattle.meaning.specs.Step.{Table, Sets, unknown, first, after}
 use Rattle.meaning.specs.Refusal.{Lent}
 use Rattle.chain.specs.Lent.{lent as lentTo}
 use Rattle.survey.specs.Sets.{setsOf}
@@ -33,20 +33,27 @@ k c = setsOf (c .args .e .sets)
 abbrev pay : tie.Start → ℕ → ℕ
 pay c = pays (c .args .e .paid) (l c .chain) (l c .rewards)
 
-begun : (c : tie.Start) → Begun (c .args .e .rounding) (c .args .e .paid) (l c) (k c)
+begun : (c : tie.Start) → Begun (c .args .e .rounding) (c .args .e .paid) (c .args .e .short) (l c) (k c)
 begun c = c .pre .0
 
+abbrev firstTable : tie.Start → Table
+firstTable c = first (c .args .e .rounding) (l c .chain) (k c) (pay c) (unknown (c .args .e .short) (l c .chain))
+
 -- No first row has a weight to a goal.
-spare : (c : tie.Start) → Spare (c .args .e .chain .states) (first (c .args .e .rounding) (l c .chain) (k c) (pay c) (λ _. 0))
+spare : (c : tie.Start) → Spare (c .args .e .chain .states) (firstTable c)
 spare c =
     let a = begun c .asked in
-    first-spare (c .args .e .rounding) (l c .chain) (k c) (pay c) (λ _. 0) (a .right) (a .goal .0) (a .goal .1 .0) (a .goal .1 .1)
+    first-spare (c .args .e .rounding) (l c .chain) (k c) (pay c) _ (a .right) (a .goal .0) (a .goal .1 .0) (a .goal .1 .1)
 
--- The start is a goal, or has no path to one.
-won-by : (c : tie.After-no-row) → bit (c .before .before .before .before .before .before .before .before .before .before .before .args .e .chain .goals) (c .before .before .before .before .before .before .before .before .before .before .before .args .e .chain .start) ≡ 1
+-- The start is a goal, or has no path to an end.
+won-by : (c : tie.After-no-row)
+    → let e = c .before .before .before .before .before .before .before .before .before .before .before .args .e in
+    bit (e .chain .goals) (e .chain .start) ≡ 1
 won-by c = eqb-true _ _ (sym (c .before .before .holds .ensures) ∙ c .before .if1 .taken)
 
-lost-by : (c : tie.After-no-row2) → bit (c .before .before .before .before .before .before .before .before .before .before .before .before .before .args .e .sets .good) (c .before .before .before .before .before .before .before .before .before .before .before .before .before .args .e .chain .start) ≡ 1 → ⊥
+lost-by : (c : tie.After-no-row2)
+    → let e = c .before .before .before .before .before .before .before .before .before .before .before .before .before .args .e in
+    bit (e .sets .good) (e .chain .start) ≡ 1 → ⊥
 lost-by c = eqb-false _ _ (sym (c .before .before .holds2 .ensures) ∙ not-true _ (c .before .if2 .taken))
 
 returns : tie.Need-returns
@@ -54,8 +61,8 @@ returns c =
     let h = c .before .before in
     let s = h .before .before .before .before .before .before .before .before .before in (
       kept-same (s .args .e .chain .states) (s .args .work .now),
-      runs-won (pay s) (s .args .e .rounding) (l s) (k s) (begun s .asked .right) (won-by c) (c .no-row .ensures),
-      unlogged (pay s) (s .args .e .rounding) (l s) (k s) (begun s .asked .right) (λ a. a .unwon (won-by c)) (s .pre .1) _,
+      runs-won (pay s) (s .args .e .short) (s .args .e .rounding) (l s) (k s) (begun s .asked .right) (won-by c) (c .no-row .ensures),
+      unlogged (pay s) (s .args .e .short) (s .args .e .rounding) (l s) (k s) (begun s .asked .right) (λ a. a .unwon (won-by c)) (s .pre .1) _,
     )
 
 returns-2 : tie.Need-returns-2
@@ -63,18 +70,18 @@ returns-2 c =
     let h = c .before .before in
     let s = h .before .before .before .before .before .before .before .before .before .before .before in (
       kept-same (s .args .e .chain .states) (s .args .work .now),
-      runs-lost (pay s) (s .args .e .rounding) (l s) (k s) (begun s .asked .right) (lost-by c) (c .no-row2 .ensures),
-      unlogged (pay s) (s .args .e .rounding) (l s) (k s) (begun s .asked .right) (λ a. lost-by c (begun s .asked .right .good _ .1 (a .leads))) (s .pre .1) _,
+      runs-lost (pay s) (s .args .e .short) (s .args .e .rounding) (l s) (k s) (begun s .asked .right) (lost-by c) (c .no-row2 .ensures),
+      unlogged (pay s) (s .args .e .short) (s .args .e .rounding) (l s) (k s) (begun s .asked .right) (λ a. lost-by c (begun s .asked .right .good _ .1 (a .leads))) (s .pre .1) _,
     )
 
 -- The elimination is begun where the start is live.
 abbrev start-of : tie.Else2 → tie.Start
 start-of c = c .before .before .before .before .before .before .before .before .before .before .before .before
 
-alive : (c : tie.Else2) → Live (l (start-of c) .chain) (l (start-of c) .chain .start)
+alive : (c : tie.Else2) → let s = start-of c in LiveTo (l s .chain) (End (s .args .e .short) (l s .chain)) (l s .chain .start)
 alive c =
     let s = start-of c in
-    start-live (pay s) (s .args .e .rounding) (l s) (k s) (begun s .asked .right) (eqb-false _ _ (sym (c .before .before .before .holds .ensures) ∙ c .before .before .if1 .left))
+    start-live (pay s) (s .args .e .short) (s .args .e .rounding) (l s) (k s) (begun s .asked .right) (eqb-false _ _ (sym (c .before .before .before .holds .ensures) ∙ c .before .before .if1 .left))
     (eqb-true _ _ (sym (c .before .holds2 .ensures) ∙ not-false _ (c .if2 .left)))
 
 first-rows-requires : tie.Need-first-rows-requires
@@ -90,8 +97,8 @@ returns-3 c =
     let s = start-of y in
     let m = at .first-rows .ensures in (
       m .kept,
-      stops-first (pay s) (s .args .e .rounding) (l s) (k s) (begun s .asked .right) (alive y) (m .unfit (not-true _ (c .if3 .taken))),
-      logged-first (pay s) (s .args .e .rounding) (l s) (k s) (begun s .asked .right) (begun s .asked .few) (s .pre .1),
+      stops-first (pay s) (s .args .e .short) (s .args .e .rounding) (l s) (k s) (begun s .asked .right) (alive y) (begun s .rounds) (m .unfit (not-true _ (c .if3 .taken))),
+      logged-first (pay s) (s .args .e .short) (s .args .e .rounding) (l s) (k s) (begun s .asked .right) (begun s .asked .few) (s .pre .1),
     )
 
 eliminate-requires : tie.Need-eliminate-requires
@@ -109,9 +116,8 @@ abbrev from : tie.After-eliminate → tie.Start
 from c = start-of (begun-at c)
 
 begins : (c : tie.After-eliminate)
-    → let s = from c in
-    let b = s .args .e .rounding in
-    Reached b (s .args .e .chain .states) (first b (l s .chain) (k s) (pay s) (λ _. 0)) (s .args .work .now) (c .before .before .before .before .before .before .first-rows .last .0)
+    → let a = from c .args in
+    Reached (a .e .rounding) (a .e .chain .states) (firstTable (from c)) (a .work .now) (c .before .before .before .before .before .before .first-rows .last .0)
 begins c = c .before .before .before .before .before .before .first-rows .ensures .reached (not-false _ (c .before .before .before .if3 .left))
 
 kept : (c : tie.After-eliminate) → Kept (from c .args .e .chain .states) (from c .args .work .now) (c .eliminate .last .0)
@@ -139,9 +145,10 @@ returns-4 c =
     let at = c .before .before .before .before .before .before .before in
     let s = from at in (
       kept at,
-      stops-unfit (pay s) (s .args .e .rounding) (l s) (k s) (begun s .asked .right) (alive (begun-at at)) _ _ (begins at .same) (at .eliminate .result)
-          (at .eliminate .ensures .0) _ (c .before .p .given .1),
-      logged-unfit (pay s) (s .args .e .rounding) (l s) (k s) (begun s .asked .right) (alive (begun-at at)) _ (begins at .same) (at .eliminate .result) (at .eliminate .ensures .1) _ (c .before .p .given .1)
+      stops-unfit (pay s) (s .args .e .short) (s .args .e .rounding) (l s) (k s) (begun s .asked .right) (alive (begun-at at)) _ _ (begins at .same) (at .eliminate .result)
+          (at .eliminate .ensures .0) (begun s .rounds) _ (c .before .p .given .1),
+      logged-unfit (pay s) (s .args .e .short) (s .args .e .rounding) (l s) (k s) (begun s .asked .right) (alive (begun-at at)) _ (begins at .same) (at .eliminate .result)
+          (at .eliminate .ensures .1) _ (c .before .p .given .1)
           (walk-inside (s .args .e .rounding) (s .args .e .chain .states) (going (s .args .e)) (s .args .order .now) _ _ (at .eliminate .result) (at .eliminate .ensures .0) (c .before .p .given .1)),
     )
 
@@ -149,8 +156,12 @@ last-of-requires : tie.Need-last-of-requires
 last-of-requires c κs =
     let at = c .before .before .before .before .before .before .before in
     let s = from at in
-    let z = begins at .kept .len in
-    (reached-fitting (begun s .asked .few) (omega (arith, begun s .asked .room)) (after-spare _ _ (going (s .args .e)) (s .args .order .now) _ (rw (begins at .same) (spare s)) (s .args .e .chain .states)) (done at (c .before .enum-told .given .1) .reached), begun s .start)
+    let z = begins at .kept .len in (
+      reached-fitting (begun s .asked .few) (omega (arith, begun s .asked .room))
+          (after-spare _ _ (going (s .args .e)) (s .args .order .now) _ (rw (begins at .same) (spare s)) (s .args .e .chain .states))
+          (done at (c .before .enum-told .given .1) .reached),
+      begun s .start,
+    )
 
 same-length-4 : tie.Need-same-length-4
 same-length-4 c = kept (c .before .before .before .before .before .before .before .before) .len
@@ -160,9 +171,10 @@ returns-5 c =
     let at = c .before .before .before .before .before .before .before .before in
     let s = from at in (
       kept at,
-      reads (pay s) (s .args .e .rounding) (l s) (k s) (begun s .asked .right) (alive (begun-at at)) _ _ (begins at .same) (at .eliminate .result)
+      reads (pay s) (s .args .e .short) (s .args .e .rounding) (l s) (k s) (begun s .asked .right) (alive (begun-at at)) _ _ (begins at .same) (at .eliminate .result)
           (at .eliminate .ensures .0) (begun s .start) (c .before .before .enum-told .given .1) (c .last-of .result) (c .last-of .ensures),
-      logged-through (pay s) (s .args .e .rounding) (l s) (k s) (begun s .asked .right) (alive (begun-at at)) _ (begins at .same) (at .eliminate .result) (at .eliminate .ensures .1) (c .before .before .enum-told .given .1)
+      logged-through (pay s) (s .args .e .short) (s .args .e .rounding) (l s) (k s) (begun s .asked .right) (alive (begun-at at)) _ (begins at .same) (at .eliminate .result)
+          (at .eliminate .ensures .1) (c .before .before .enum-told .given .1)
           (rowAt (s .args .e .chain .states) (at .eliminate .last .0) (s .args .e .chain .start)) (c .last-of .ensures),
     )
 

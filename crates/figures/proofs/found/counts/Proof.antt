@@ -1,3 +1,4 @@
+use mathlib.Core.Bool.{false}
 use mathlib.Core.List.{[]}
 use borrow.Author.Needs.{needs}
 use mathlib.Core.Path.{subst}
@@ -16,13 +17,13 @@ returns : tie.Need-returns
 returns c =
     let v = c .before .before .before in
     let s = v .before .before .before .before in
-    surveyed (subst (λ r. SurveyOutcome (l s) (told r)) (c .before .goals .given .1) (v .of .ensures)) (v .before .count .ensures)
+    surveyed (subst (λ r. SurveyOutcome false (l s) (told r)) (c .before .goals .given .1) (v .of .ensures)) (v .before .count .ensures)
 
 returns-2 : tie.Need-returns-2
 returns-2 c =
     let v = c .before .before in
     let s = v .before .before .before .before in
-    surveyed (subst (λ r. SurveyOutcome (l s) (told r)) (c .enum-told .given .1) (v .of .ensures)) (v .before .count .ensures)
+    surveyed (subst (λ r. SurveyOutcome false (l s) (told r)) (c .enum-told .given .1) (v .of .ensures)) (v .before .count .ensures)
 
 pub counts-spec : {M : Type 1} → statement M
 counts-spec =

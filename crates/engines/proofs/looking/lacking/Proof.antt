@@ -5,8 +5,8 @@ use native.Mathlib.Nat.{mul-le-mul, add-le-add, le-refl}
 use Rattle.theory.specs.Numbers.Decide.{compares}
 use Rattle.meaning.specs.Refusal.{workSize}
 use borrow.Author.Needs.{needs}
-use Rattle.engines.proofs.looking.short.Statement.{statement}
-use Rattle.engines.proofs.looking.short.Tie as tie
+use Rattle.engines.proofs.looking.lacking.Statement.{statement}
+use Rattle.engines.proofs.looking.lacking.Tie as tie
 
 mul-result : tie.Need-mul-result
 mul-result c = let h = c .before .pre in omega (arith, mul-le-mul h (add-le-add h (le-refl 4)))
@@ -20,5 +20,5 @@ returns-2 c =
     compares ((a .work < workSize (a .n)) ⊎ (a .list < a .n)) (a .work) (workSize (a .n)) inl
     (⊎-elim (λ h. h) (λ h. absurd (omega (arith, h, c .if1 .left))))
 
-pub short-spec : {M : Type 1} → statement M
-short-spec = tie.close (tie.spec returns (λ c. search needs) mul-result returns-2)
+pub lacking-spec : {M : Type 1} → statement M
+lacking-spec = tie.close (tie.spec returns (λ c. search needs) mul-result returns-2)
