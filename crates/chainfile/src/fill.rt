@@ -2,12 +2,11 @@
 ghost use mathlib.Core.Path.{_≡_};
 ghost use Prim.Native.Nat.{_+_, _*_, _/_, _≤_, _<_};
 ghost use lib.ListN.{length};
-ghost use Rattle.meaning.specs.Number.{tabFrom, filled};
+ghost use Rattle.meaning.specs.Number.{tabFrom, filled, decides};
 ghost use Rattle.meaning.specs.Chain.{mostEdges, edgeSize};
 ghost use Rattle.meaning.specs.Block.{numberAt, recordSize, fullBlock, headStates, headEdges, stateBlocks, recordAt, stateAt};
 ghost use Rattle.meaning.specs.File.{ShortOf, mostBlocks, edgeIn, goalsIn};
 ghost use Rattle.meaning.specs.Salvage.{keptEdges, keptBefore, leftTables, verdict};
-ghost use Rattle.meaning.specs.Number.{decides};
 ghost use Rattle.chain.specs.Edge.{placed};
 ghost use Rattle.chainfile.specs.Input.{input, end};
 ghost use Rattle.chainfile.specs.Tells.{Within, ShortFor, Narrow, EdgeSet, tables};

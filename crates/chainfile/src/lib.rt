@@ -1,5 +1,5 @@
 // The readers of chain files: a file is refused with its number and place, or its chain and tables are handed over; the salvaging reader hands over
-// what is left of it. What is public beside them is for the writer.
+// what is left of it. What is public beside them is for other crates.
 ghost use mathlib.Core.Path.{_≡_};
 ghost use Prim.Native.Nat.{ℕ};
 ghost use Rattle.meaning.specs.Block.{headStates, headStart};
@@ -141,9 +141,12 @@ fn leave(
         ⌜ ((more : ℕ) → LeftOver (input (now (kept .entry)) more) before (toldLeft r) after) ⌝ }
 {
     let lost = lost::verdicts(kept);
-    let edges = fill::tables(kept, &lost, denominators, edges, order, rewards);
+    let count = fill::tables(kept, &lost, denominators, edges, order, rewards);
     let chain = chain(kept);
-    let reading = Reading::Chain { chain, edges };
+    let reading = Reading::Chain {
+        chain,
+        edges: count,
+    };
     Left { reading, lost }
 }
 

@@ -6,7 +6,7 @@ use Prim.Native.Nat.{ℕ, _+_, _≤_, _<_}
 use native.Mathlib.Omega.{arith}
 use lib.Dec.{eqb}
 use lib.ListN.{length, getD, set}
-use borrow.Author.Tests.{eq-eqb, ne-eqb, lt-ltb}
+use borrow.Author.Tests.{eq-eqb, ne-eqb}
 use Rattle.meaning.specs.Number.{only, bit}
 use Rattle.meaning.specs.Chain.{mostStates, M, Chain}
 use Rattle.meaning.specs.Row.{cell, unknownColumn}
@@ -81,13 +81,13 @@ completed-whole c live short w e =
 
 -- Where they may, what is missing from each row is Unknown.
 module _ (c : Chain) (short : Bool) (may : short ≡ true) (few : c .states ≤ mostStates) (left : List ℕ)
-    (lacks : Lacks (c .states) (c .denominators) (c .edges) left)
+    (lacks : Lacks (c .denominators) (c .edges) left)
   where
     abbrev m : ℕ
     m = c .states
 
     left-is : (i : ℕ) → i < m → getD left i 0 ≡ unknown short c i
-    left-is i h = rw may (lacks .is i (omega arith) ∙ rw (lt-ltb i m h))
+    left-is i h = rw may (lacks .is i (omega arith))
 
     pub left-completable : (w : List ℕ) → Completable m (unknown short c) w → Completable m (λ i. getD left i 0) w
     left-completable w a = record { few = few; room = a .room; sums = λ i h. omega (arith, left-is i h, a .sums i h) }

@@ -11,9 +11,9 @@ use Rattle.meaning.specs.Figure.{Chance, Missed, Expected}
 use Rattle.meaning.specs.Row.{cell, goalColumn, unknownColumn, exact, rounding, rewardColumn}
 use Rattle.meaning.specs.Row.{reward as rewardIn}
 use Rattle.meaning.specs.Step.{row, Sets, outside, unknown}
-use Rattle.meaning.specs.Refusal.{Lent, Entry, paid, Refused, WellFormed}
+use Rattle.meaning.specs.Refusal.{eliminating, Lent, Entry, paid, Refused, WellFormed}
 use Rattle.meaning.specs.Stop.{earns, Stopped}
-use Rattle.meaning.specs.Outcome.{cleared, Outcome, refused, stopped, answered, refusal, ChanceFigure, RewardFigure, noBounds, between, BoundsFigure, BoundsStop}
+use Rattle.meaning.specs.Outcome.{cleared, Outcome, refused, stopped, answered, refusal, ChanceFigure, RewardFigure, noBounds, between, BoundsFigure, BoundsOutcomeOf}
 use Rattle.theory.specs.Numbers.Sum.{sum-two}
 use Rattle.theory.specs.Numbers.Gcd.{reduced-share}
 use Rattle.theory.specs.Outcomes.Formed.{start-in}
@@ -30,8 +30,7 @@ use Rattle.engines.specs.declared.answer.Bounds.the-variants as bounds
 use Rattle.engines.specs.Answer.{toldChance, toldBounds}
 use Rattle.chain.proofs.Terms.{terms}
 use Rattle.look.proofs.Refuse.{refused-some}
-use Rattle.engines.specs.Looking.{ordered}
-use Rattle.engines.specs.Run.{tableFrom, chanceOf, boundsOf, Addable, entered, Ended, Read, won, lost, live, runs}
+use Rattle.engines.specs.Run.{tableFrom, chanceOf, entered, Ended, Read, won, lost, live, runs}
 use Rattle.engines.specs.Told.{Rewarded}
 use Rattle.engines.specs.declared.run.Course.{Course}
 use Rattle.engines.specs.declared.run.Course.the-variants.{Ends, Stops}
@@ -104,7 +103,7 @@ reward-read l formed sure (live k right alive z) =
 -- The entry for the bounds, whose rows may fall short or not.
 module _ (short : Bool) (l : Lent) where
   abbrev x : Entry
-  x = ordered false false short
+  x = eliminating false false short
 
   bounds-read : WellFormed x l → {g u e d : ℕ} → Read (earns x l) short rounding l g u e d
       → let lower = reduced (over g d) in
@@ -141,15 +140,20 @@ module _ (short : Bool) (l : Lent) where
         stage-fits (l .chain) k (earns x l) (unknown short (l .chain)) (l .order) rounding n (l .chain .start) (start-in x l formed) .small refl,
       )
 
-  module _ (w log : List ℕ) where
-    pub addable : (r : Course) → entered x rounding l w log r → Addable r
-    addable (Ends g u e d) y = read-sum (y .0) (y .2)
-    addable (Stops number place) y = tt
+  module _ (w log : List ℕ) {r : Course} where
+    pub bounds-sum : {g u e d : ℕ} → r ≡ Ends g u e d → entered x rounding l w log r → g + u ≤ M
+    bounds-sum q z = let y = subst (entered x rounding l w log) q z in read-sum (y .0) (y .2)
 
-    -- Its elimination does not stop, so that what is refused is refused by 1 to 10.
-    pub outcome-bounds : (r : Course) → entered x rounding l w log r → Outcome x l noBounds BoundsStop (BoundsFigure short l) (toldBounds (boundsOf r)) w
-    outcome-bounds (Ends g u e d) y = answered (y .0) (λ number place s. s) (bounds-read (y .0) (y .2)) (y .1)
-    outcome-bounds (Stops number place) y = ⊎-elim (λ y. refused _ _ (y .0) refl (y .1)) (λ y. absurd (rounding-unstopped (y .2))) y
+    pub answers-bounds : {g u e d : ℕ} → r ≡ Ends g u e d → entered x rounding l w log r → {f h : Fraction} → f ≡ reduced (over g d)
+        → h ≡ reduced (over (g + u) d) → BoundsOutcomeOf x l (toldBounds (bounds.Between f h)) w
+    answers-bounds q z t v =
+        let y = subst (entered x rounding l w log) q z in
+        rw (t, v) (answered (y .0) (λ number place s. s) (bounds-read (y .0) (y .2)) (y .1))
+
+    -- Its elimination does not stop, so that this is a refusal by 1 to 10.
+    pub refuses-bounds : {number place : ℕ} → r ≡ Stops number place → entered x rounding l w log r → BoundsOutcomeOf x l (noBounds number place) w
+    refuses-bounds q z =
+        ⊎-elim (λ y. refused _ _ (y .0) refl (y .1)) (λ y. absurd (rounding-unstopped (y .2))) (subst (entered x rounding l w log) q z)
 
 -- A fraction that was made of two numbers and reduced.
 pub reduced-of : {f g : Fraction} {a b : ℕ} → (f .numerator ≡ a) × (f .denominator ≡ b) → g ≡ reduced f → g ≡ reduced (over a b)
@@ -161,17 +165,6 @@ chance-ends q e = ap (λ (f : Fraction). chance.Is f) e ∙ sym (ap chanceOf q)
 
 pub chance-stops : {r : Course} {number place : ℕ} → r ≡ Stops number place → chance.Refused number place ≡ chanceOf r
 chance-stops q = sym (ap chanceOf q)
-
--- The bounds that are read off.
-pub bounds-ends : {r : Course} {g u e d : ℕ} → r ≡ Ends g u e d → {f h : Fraction} → f ≡ reduced (over g d) → h ≡ reduced (over (g + u) d)
-    → bounds.Between f h ≡ boundsOf r
-bounds-ends q e i = ap₂ (λ (f h : Fraction). bounds.Between f h) e i ∙ sym (ap boundsOf q)
-
-pub bounds-stops : {r : Course} {number place : ℕ} → r ≡ Stops number place → bounds.Refused number place ≡ boundsOf r
-bounds-stops q = sym (ap boundsOf q)
-
-pub bounds-sum : {r : Course} {g u e d : ℕ} → r ≡ Ends g u e d → Addable r → g + u ≤ M
-bounds-sum q h = subst Addable q h
 
 -- The outcome of the entries for the chance, by what the entry's looking and elimination come to.
 pub outcome-chance : (x : Entry) → x .order ≡ true → x .short ≡ false → (l : Lent) (w log : List ℕ) (r : Course) → entered x exact l w log r

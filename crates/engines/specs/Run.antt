@@ -3,11 +3,11 @@ use mathlib.Core.Path.{_≡_}
 use mathlib.Core.Logic.{_⊎_}
 use mathlib.Core.Bool.{Bool, true}
 use mathlib.Core.List.{List, []}
-use Prim.Native.Nat.{ℕ, _+_, _≤_, _<_}
+use Prim.Native.Nat.{ℕ, _≤_, _<_}
 use lib.ListN.{length}
 use lib.Dec.{ltb}
 use Rattle.meaning.specs.Number.{choose}
-use Rattle.meaning.specs.Chain.{M, Goal, End, PathTo, LiveTo}
+use Rattle.meaning.specs.Chain.{Goal, End, PathTo, LiveTo}
 use Rattle.meaning.specs.Row.{Row, cell, goalColumn, unknownColumn, reward, rounding}
 use Rattle.meaning.specs.Step.{Table, row, Sets, RightTo, outside, goes, unknown, stageFrom}
 use Rattle.meaning.specs.Steps.{StepRecord, recordsAlong}
@@ -19,8 +19,6 @@ use Rattle.engines.specs.Log.{Logged}
 use Rattle.chain.specs.Reduce.{reduced}
 use Rattle.engines.specs.declared.answer.Chance.{Chance}
 use Rattle.engines.specs.declared.answer.Chance.the-variants as chance
-use Rattle.engines.specs.declared.answer.Bounds.{Bounds}
-use Rattle.engines.specs.declared.answer.Bounds.the-variants as bounds
 use Rattle.engines.specs.declared.run.Course.{Course}
 use Rattle.engines.specs.declared.run.Course.the-variants.{Ends, Stops}
 
@@ -29,8 +27,8 @@ abbrev pub endOf : ℕ → ℕ → Row → Course
 endOf n s z = Ends (cell z (goalColumn n)) (cell z (unknownColumn n)) (reward n z) (outside n s z)
 
 -- What an elimination asks for.
-pub record Begun (b p short : Bool) (l : Lent) (k : Sets) : Type 0 where
-  pub asked : Makeable b p short (l .chain) k (l .rewards) (l .work)
+pub record Begun (b paid short : Bool) (l : Lent) (k : Sets) : Type 0 where
+  pub asked : Makeable b paid short (l .chain) k (l .rewards) (l .work)
   pub rounds : short ≡ true → b ≡ rounding
   pub orders : length (l .order) ≡ l .chain .states
   pub inside : (p : ℕ) → p < l .chain .states → turn l p < l .chain .states
@@ -42,27 +40,27 @@ abbrev pub tableFrom : (ℕ → ℕ) → Bool → Bool → Lent → Sets → ℕ
 tableFrom pay short b l k p = stageFrom b (l .chain) k pay (unknown short (l .chain)) (l .order) p
 
 -- It runs through, and these are read off the start's row at the end.
-pub record Ended (pay : ℕ → ℕ) (short b : Bool) (l : Lent) (k : Sets) (goal unknown rewards outside : ℕ) : Type 0 where
+pub record Ended (pay : ℕ → ℕ) (short b : Bool) (l : Lent) (k : Sets) (goal unsure rewards outside : ℕ) : Type 0 where
   pub passed : (q : ℕ) → q ≤ l .chain .states → Unfit b (l .chain .states) (tableFrom pay short b l k q) → ⊥
-  pub read : Ends goal unknown rewards outside
+  pub read : Ends goal unsure rewards outside
       ≡ endOf (l .chain .states) (l .chain .start) (row (tableFrom pay short b l k (l .chain .states)) (l .chain .start))
 
 -- What the figures are read off: no row is made where the start is a goal or has no path to an end; else it is live, and these are read.
-pub data Read (pay : ℕ → ℕ) (short b : Bool) (l : Lent) (goal unknown rewards outside : ℕ) : Type 0 where
-  won : Goal (l .chain) (l .chain .start) → Ends goal unknown rewards outside ≡ Ends 1 0 0 1 → Read pay short b l goal unknown rewards outside
-  lost : (PathTo (l .chain .edges) (End short (l .chain)) (l .chain .start) → ⊥) → Ends goal unknown rewards outside ≡ Ends 0 0 0 1
-      → Read pay short b l goal unknown rewards outside
+pub data Read (pay : ℕ → ℕ) (short b : Bool) (l : Lent) (goal unsure rewards outside : ℕ) : Type 0 where
+  won : Goal (l .chain) (l .chain .start) → Ends goal unsure rewards outside ≡ Ends 1 0 0 1 → Read pay short b l goal unsure rewards outside
+  lost : (PathTo (l .chain .edges) (End short (l .chain)) (l .chain .start) → ⊥) → Ends goal unsure rewards outside ≡ Ends 0 0 0 1
+      → Read pay short b l goal unsure rewards outside
   live : (k : Sets) → RightTo (l .chain) (End short (l .chain)) k → LiveTo (l .chain) (End short (l .chain)) (l .chain .start)
-      → Ended pay short b l k goal unknown rewards outside → Read pay short b l goal unknown rewards outside
+      → Ended pay short b l k goal unsure rewards outside → Read pay short b l goal unsure rewards outside
 
 -- The figures can be read off, or something stops the elimination: nothing does where rows may fall short, since they are rounded there.
 abbrev pub runs : (ℕ → ℕ) → Bool → Bool → Lent → Course → Type 0
-runs pay short b l (Ends goal unknown rewards outside) = Read pay short b l goal unknown rewards outside
+runs pay short b l (Ends goal unsure rewards outside) = Read pay short b l goal unsure rewards outside
 runs pay short b l (Stops number place) = Stopped pay b l number place
 
 -- How many positions of the order have a finished step: none where 12 comes before the first step, at 64.
 abbrev pub finishedIn : ℕ → Course → ℕ
-finishedIn n (Ends goal unknown rewards outside) = n
+finishedIn n (Ends goal unsure rewards outside) = n
 finishedIn n (Stops number place) = choose (ltb place n) place 0
 
 -- The records of the first p positions.
@@ -78,25 +76,14 @@ pub record LoggedRun (pay : ℕ → ℕ) (short b : Bool) (l : Lent) (log : List
 -- What an entry's looking and elimination come to, w being the work table afterwards and log the log: a refusal by the numbers 1 to 11
 -- leaves them.
 abbrev pub entered : Entry → Bool → Lent → List ℕ → List ℕ → Course → Type 0
-entered x b l w log (Ends goal unknown rewards outside) =
-    WellFormed x l × (w ≡ cleared l) × Read (earns x l) (x .short) b l goal unknown rewards outside
-    × LoggedRun (earns x l) (x .short) b l log (Ends goal unknown rewards outside)
+entered x b l w log (Ends goal unsure rewards outside) =
+    WellFormed x l × (w ≡ cleared l) × Read (earns x l) (x .short) b l goal unsure rewards outside
+    × LoggedRun (earns x l) (x .short) b l log (Ends goal unsure rewards outside)
 entered x b l w log (Stops number place) =
     (Refused x l number place × (w ≡ l .work) × Logged log [])
     ⊎ (WellFormed x l × (w ≡ cleared l) × Stopped (earns x l) b l number place × LoggedRun (earns x l) (x .short) b l log (Stops number place))
 
 -- The chance that is read off.
 abbrev pub chanceOf : Course → Chance
-chanceOf (Ends goal unknown rewards outside) = chance.Is (reduced (record { numerator = goal; denominator = outside }))
+chanceOf (Ends goal unsure rewards outside) = chance.Is (reduced (record { numerator = goal; denominator = outside }))
 chanceOf (Stops number place) = chance.Refused number place
-
--- The bounds that are read off.
-abbrev pub boundsOf : Course → Bounds
-boundsOf (Ends goal unknown rewards outside) =
-    bounds.Between (reduced (record { numerator = goal; denominator = outside })) (reduced (record { numerator = goal + unknown; denominator = outside }))
-boundsOf (Stops number place) = bounds.Refused number place
-
--- Goal and Unknown can be added.
-abbrev pub Addable : Course → Type 0
-Addable (Ends goal unknown rewards outside) = goal + unknown ≤ M
-Addable (Stops number place) = Unit {0}

@@ -3,16 +3,15 @@ ghost use mathlib.Core.Path.{_≡_};
 ghost use mathlib.Core.Bool.{Bool, true, false};
 ghost use mathlib.Core.List.{[]};
 ghost use Prim.Native.Nat.{ℕ};
-ghost use Rattle.meaning.specs.Outcome.{ChanceOutcome, BoundsOutcome};
+ghost use Rattle.meaning.specs.Outcome.{ChanceOutcome, BoundsOutcomeOf, BoundsOutcome};
 ghost use Rattle.meaning.specs.Row.{rounding as rounds};
-ghost use Rattle.meaning.specs.Refusal.{withList};
+ghost use Rattle.meaning.specs.Refusal.{withList, eliminating};
 ghost use Rattle.meaning.specs.Left.{LeftOutcome};
 ghost use Rattle.chain.specs.Lent.{lent};
 ghost use Rattle.look.specs.Says.{counted};
 ghost use Rattle.engines.specs.Answer.{toldChance, toldBounds};
 ghost use Rattle.engines.specs.Log.{Logged};
-ghost use Rattle.engines.specs.Looking.{ordered};
-ghost use Rattle.engines.specs.Run.{entered, chanceOf, boundsOf, Addable};
+ghost use Rattle.engines.specs.Run.{entered, chanceOf};
 ghost use Rattle.engines.specs.Trace.{Traced};
 ghost use Rattle.engines.specs.Told.{Rewarded};
 use crate::answer::Bounds;
@@ -46,7 +45,7 @@ fn unpaid(
     ensures { λ r.
         let l = lent c (now (denominators .entry)) (now (edges .entry)) (now (order .entry)) [] (now (work .entry)) in
         ⌜ ((t : Bool) (k : ℕ) → counted t k (c .states) list
-        → entered (ordered false t short) rounding (withList k l) (now (work .exit)) (now (log .exit)) r) ⌝ }
+        → entered (eliminating false t short) rounding (withList k l) (now (work .exit)) (now (log .exit)) r) ⌝ }
 {
     match look(c, denominators, edges, order, work, list, short) {
         Looked::Refused { number, place } => Course::Stops { number, place },
@@ -176,12 +175,31 @@ pub fn reward(
     }
 }
 
-// The bounds that are read off.
-fn bounds_of(course: Course) -> Bounds
-    requires { ⌜ Addable course ⌝ }
-    ensures { λ r. ⌜ r ≡ boundsOf course ⌝ }
+// The bounds of a chain whose rows may fall short or not.
+fn between(
+    c: Chain,
+    denominators: &[u64],
+    edges: &[u64],
+    order: &[u64],
+    work: &mut [u64],
+    short: bool,
+) -> Bounds
+    ensures { λ r.
+        let l = lent c (now (denominators .entry)) (now (edges .entry)) (now (order .entry)) [] (now (work .entry)) in
+        ⌜ BoundsOutcomeOf (eliminating false false short) l (toldBounds r) (now (work .exit)) ⌝ }
 {
-    match course {
+    let mut none = [0u64; 0];
+    match unpaid(
+        c,
+        denominators,
+        edges,
+        order,
+        work,
+        true,
+        short,
+        c.states,
+        &mut none,
+    ) {
         Course::Ends {
             goal,
             unknown,
@@ -207,18 +225,7 @@ pub fn bounds(
         let l = lent c (now (denominators .entry)) (now (edges .entry)) (now (order .entry)) [] (now (work .entry)) in
         ⌜ BoundsOutcome l (toldBounds r) (now (work .exit)) ⌝ }
 {
-    let mut none = [0u64; 0];
-    bounds_of(unpaid(
-        c,
-        denominators,
-        edges,
-        order,
-        work,
-        true,
-        false,
-        c.states,
-        &mut none,
-    ))
+    between(c, denominators, edges, order, work, false)
 }
 
 // The same of a chain where edges are lost: rows may fall short, and their missing weight goes to Unknown.
@@ -233,16 +240,5 @@ pub fn bounds_left(
         let l = lent c (now (denominators .entry)) (now (edges .entry)) (now (order .entry)) [] (now (work .entry)) in
         ⌜ LeftOutcome l (toldBounds r) (now (work .exit)) ⌝ }
 {
-    let mut none = [0u64; 0];
-    bounds_of(unpaid(
-        c,
-        denominators,
-        edges,
-        order,
-        work,
-        true,
-        true,
-        c.states,
-        &mut none,
-    ))
+    between(c, denominators, edges, order, work, true)
 }

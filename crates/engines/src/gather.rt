@@ -15,7 +15,6 @@ ghost use Rattle.engines.specs.Gather.{columnOf, share, lack, Changed, A
 use crate::run::Elimination;
 use crate::work::clear_work;
 use crate::work::row_start;
-use chain::Chain;
 use chain::edge;
 use chain::set::holds;
 use chain::table::at;
@@ -120,6 +119,6 @@ pub(crate) fn add_missing(work: &mut [u64], e: Elimination, denominators: &[u64]
     }
     let c = e.chain;
     let sets = e.sets;
-    let left = missing(c.states, denominators, edges);
+    let left = missing(denominators, edges);
     complete_all(work, c.states, sets.live, &left);
 }

@@ -5,11 +5,11 @@ ghost use mathlib.Core.List.{List, []};
 ghost use Prim.Native.Nat.{ℕ, _≤_, _<_};
 ghost use lib.ListN.{length};
 ghost use Rattle.meaning.specs.Chain.{mostStates};
-ghost use Rattle.meaning.specs.Refusal.{paid, workSize, withList};
+ghost use Rattle.meaning.specs.Refusal.{paid, eliminating, workSize, withList};
 ghost use Rattle.meaning.specs.Number.{decides};
 ghost use Rattle.chain.specs.Lent.{lent};
 ghost use Rattle.look.specs.Says.{counted};
-ghost use Rattle.engines.specs.Looking.{ordered, soFar, looked};
+ghost use Rattle.engines.specs.Looking.{soFar, looked};
 use chain::Chain;
 use look::rewards;
 use look::scan;
@@ -53,7 +53,7 @@ fn tables(
         let o = now (order .entry) in
         let v = now (work .entry) in
         ⌜ ((b t : Bool) (w : List ℕ) (k : ℕ) → counted b (length w) n rewards → counted t k n list
-        → soFar (ordered b t short) (withList k (lent c d e o w v)) 11 r) ⌝ }
+        → soFar (eliminating b t short) (withList k (lent c d e o w v)) 11 r) ⌝ }
 {
     let n = c.states;
     if misshaped(n, denominators.len(), edges, order.len(), rewards) {
@@ -98,7 +98,7 @@ pub(crate) fn look(
 ) -> Looked
     ensures { λ r.
         let l = lent c (now (denominators .entry)) (now (edges .entry)) (now (order .entry)) [] (now (work .entry)) in
-        ⌜ ((t : Bool) (k : ℕ) → counted t k (c .states) list → looked (ordered false t short) (withList k l) r) ⌝ }
+        ⌜ ((t : Bool) (k : ℕ) → counted t k (c .states) list → looked (eliminating false t short) (withList k l) r) ⌝ }
 {
     tables(c, denominators, edges, order, c.states, work, list, short)
 }

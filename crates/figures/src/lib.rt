@@ -100,7 +100,7 @@ pub fn ask(kept: &[u8], more: u64, question: Question) -> Figures
     asked(kept, more, question, &mut edges)
 }
 
-// Opens the file in the same way, and answers its chance and its step list by value, for a caller who has room for so many records.
+// Opens the file with the largest tables, and answers its chance and its step list by value, for a caller who has room for so many records.
 pub fn steps(kept: &[u8], more: u64, list: usize) -> Trace
     ensures { λ r. ⌜ FileTraced (input (now (kept .entry)) more) list r ⌝ }
 {
@@ -128,7 +128,7 @@ pub fn steps(kept: &[u8], more: u64, list: usize) -> Trace
     }
 }
 
-// Opens the file in the same way, and answers its chance within so many steps. They are looked at before the file is.
+// Opens the file with the largest tables, and answers its chance within so many steps. They are looked at before the file is.
 pub fn within(kept: &[u8], more: u64, steps: u64) -> Parts
     ensures { λ r. ⌜ FileWithins (input (now (kept .entry)) more) steps r ⌝ }
 {
@@ -162,7 +162,7 @@ pub fn within(kept: &[u8], more: u64, steps: u64) -> Parts
     }
 }
 
-// Opens the file in the same way, and says whether a table in bytes is the chance at every state of its chain.
+// Opens the file with the largest tables, and says whether a table in bytes is the chance at every state of its chain.
 pub fn check(kept: &[u8], more: u64, shares: &[u8]) -> Verdict
     ensures { λ r. ⌜ FileJudged (input (now (kept .entry)) more) (now (shares .entry)) (told r) ⌝ }
 {

@@ -5,27 +5,26 @@ use mathlib.Core.List.{List, []}
 use mathlib.Core.Logic.{⊎-elim}
 use native.Mathlib.Omega.{arith}
 use native.Mathlib.Numerals.{add-one}
-use lib.Dec.{ltb}
 use lib.ListN.{length, getD, set, replicate, length-set, length-replicate}
 use lib.Seq.{getD-set-same, getD-set-other}
 use borrow.Author.Tests.{eq-eqb, ne-eqb}
-use Rattle.meaning.specs.Number.{sumTo, only}
+use Rattle.meaning.specs.Number.{sumTo}
 use Rattle.meaning.specs.Chain.{mostStates, edgeCount, from, weight, carried, flow, rowSum}
 use Rattle.theory.specs.Numbers.Sum.{same, sum-next}
 use Rattle.look.specs.Sums.{Lacks, TakenOut}
 
 -- The first i of 64 numbers are filled in.
-pub record Filling (n : ℕ) (numbers r : List ℕ) (i : ℕ) : Type 0 where
+pub record Filling (numbers r : List ℕ) (i : ℕ) : Type 0 where
   pub size : length r ≡ mostStates
   pub past : i ≤ mostStates
-  pub is : (k : ℕ) → k < i → getD r k 0 ≡ only (ltb k n) (getD numbers k 0)
+  pub is : (k : ℕ) → k < i → getD r k 0 ≡ getD numbers k 0
 
-module _ (n : ℕ) (numbers : List ℕ) where
-  pub filling-none : Filling n numbers (replicate mostStates 0) 0
+module _ (numbers : List ℕ) where
+  pub filling-none : Filling numbers (replicate mostStates 0) 0
   filling-none = record { size = length-replicate {A = ℕ} mostStates 0; past = omega arith; is = λ k h. absurd (omega arith) }
 
-  pub filling-more : {r : List ℕ} {i x : ℕ} → Filling n numbers r i → i < mostStates → x ≡ only (ltb i n) (getD numbers i 0)
-      → Filling n numbers (set r i x) (i + 1)
+  pub filling-more : {r : List ℕ} {i x : ℕ} → Filling numbers r i → i < mostStates → x ≡ getD numbers i 0
+      → Filling numbers (set r i x) (i + 1)
   filling-more {r} {i} {x} f h e =
       record {
         size = length-set r i x ∙ f .size;
@@ -37,23 +36,23 @@ module _ (n : ℕ) (numbers : List ℕ) where
             (same k i);
       }
 
-  pub filling-all : {r : List ℕ} {i : ℕ} → Filling n numbers r i → mostStates ≤ i → Lacks n numbers [] r
+  pub filling-all : {r : List ℕ} {i : ℕ} → Filling numbers r i → mostStates ≤ i → Lacks numbers [] r
   unfolding flow sumTo
   filling-all f h = record { size = f .size; is = λ k l. let z : rowSum [] k ≡ 0 = refl in omega (arith, z, f .is k (omega (arith, f .past))) }
 
 -- The weights of the first e edges are taken out.
-pub record Lacking (n : ℕ) (denominators edges r : List ℕ) (e : ℕ) : Type 0 where
+pub record Lacking (denominators edges r : List ℕ) (e : ℕ) : Type 0 where
   pub size : length r ≡ mostStates
   pub past : e ≤ edgeCount edges
-  pub is : (i : ℕ) → i < mostStates → getD r i 0 ≡ only (ltb i n) (getD denominators i 0) - sumTo (carried edges i (λ _. 1)) e
+  pub is : (i : ℕ) → i < mostStates → getD r i 0 ≡ getD denominators i 0 - sumTo (carried edges i (λ _. 1)) e
 
-module _ (n : ℕ) (denominators edges : List ℕ) where
-  pub lacking-none : {r : List ℕ} → Lacks n denominators [] r → Lacking n denominators edges r 0
+module _ (denominators edges : List ℕ) where
+  pub lacking-none : {r : List ℕ} → Lacks denominators [] r → Lacking denominators edges r 0
   unfolding flow sumTo
   lacking-none f =
       record { size = f .size; past = omega arith; is = λ i l. let z : rowSum [] i ≡ 0 = refl in omega (arith, z, f .is i l) }
 
-  pub lacking-all : {r : List ℕ} {e : ℕ} → Lacking n denominators edges r e → edgeCount edges ≤ e → Lacks n denominators edges r
+  pub lacking-all : {r : List ℕ} {e : ℕ} → Lacking denominators edges r e → edgeCount edges ≤ e → Lacks denominators edges r
   unfolding flow
   lacking-all {e = e} f h =
       let z : e ≡ edgeCount edges = omega (arith, f .past) in
@@ -68,8 +67,8 @@ module _ (n : ℕ) (denominators edges : List ℕ) where
     unfolding carried
     stays i h = rw (ne-eqb (from edges e) i h)
 
-    pub lacking-more : {r v : List ℕ} {s w : ℕ} → Lacking n denominators edges r e → e < edgeCount edges → s ≡ from edges e → w ≡ weight edges e
-        → TakenOut r s w v → Lacking n denominators edges v (e + 1)
+    pub lacking-more : {r v : List ℕ} {s w : ℕ} → Lacking denominators edges r e → e < edgeCount edges → s ≡ from edges e → w ≡ weight edges e
+        → TakenOut r s w v → Lacking denominators edges v (e + 1)
     lacking-more {r} {v} {s} {w} f h p q t =
         record {
           size = t .size ∙ f .size;

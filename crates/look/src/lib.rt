@@ -49,7 +49,7 @@ fn own(c: Chain, denominators: &[u64], edges: &[u64], short: bool) -> Finding
     if let Place::At(e) = pairs::repeated(edges) {
         return refused(8, e);
     }
-    if let Place::At(i) = sums::unequal(n, denominators, edges, short) {
+    if let Place::At(i) = sums::first_wrong(n, denominators, edges, short) {
         return refused(9, i);
     }
     Finding::Clear

@@ -1,14 +1,14 @@
+// Row sums: the first that is wrong, and what is missing from each row.
 ghost use mathlib.Core.Path.{_≡_};
 ghost use Prim.Native.Nat.{ℕ, _-_, _≤_, _<_};
 ghost use mathlib.Core.List.{[]};
 ghost use lib.ListN.{getD};
-ghost use lib.Dec.{ltb};
 ghost use Rattle.look.specs.Least.{least};
 ghost use Rattle.look.specs.Says.{Shaped};
-ghost use Rattle.look.specs.Sums.{Wrong, Lacks, TakenOut};
-ghost use Rattle.meaning.specs.Number.{decides, only};
+ghost use Rattle.look.specs.Sums.{Lacks, TakenOut};
+ghost use Rattle.meaning.specs.Number.{decides};
 ghost use Rattle.meaning.specs.Chain.{mostStates, mostEdges, edgeCount, rowSum};
-ghost use Rattle.meaning.specs.Refusal.{EndFault, WeightFault, SumFault};
+ghost use Rattle.meaning.specs.Refusal.{EndFault, WeightFault, WrongSum, SumFault};
 use crate::scan::Place;
 use chain::Chain;
 use chain::edge;
@@ -34,7 +34,7 @@ fn row_sums(edges: &[u64]) -> [u64; Chain::STATES]
 
 // Whether a row sum is wrong for its denominator: it differs or, where rows may fall short, exceeds it.
 fn wrong(sum: u64, denominator: u64, short: bool) -> bool
-    ensures { λ r. ⌜ decides (Wrong short sum denominator) r ⌝ }
+    ensures { λ r. ⌜ decides (WrongSum short sum denominator) r ⌝ }
 {
     if short {
         return denominator < sum;
@@ -43,7 +43,7 @@ fn wrong(sum: u64, denominator: u64, short: bool) -> bool
 }
 
 // The first state whose row sum is wrong.
-pub(crate) fn unequal(n: usize, denominators: &[u64], edges: &[u64], short: bool) -> Place
+pub(crate) fn first_wrong(n: usize, denominators: &[u64], edges: &[u64], short: bool) -> Place
     requires { ⌜ Shaped n (now denominators) (now edges) ⌝ }
     requires { ⌜ ((e : ℕ) → EndFault n (now edges) e → ⊥) ⌝ }
     requires { ⌜ ((e : ℕ) → WeightFault (now edges) e → ⊥) ⌝ }
@@ -60,24 +60,14 @@ pub(crate) fn unequal(n: usize, denominators: &[u64], edges: &[u64], short: bool
     Place::Nowhere
 }
 
-// Number i of a table of n numbers, and 0 past them.
-fn own(n: usize, numbers: &[u64], i: usize) -> u64
-    ensures { λ r. ⌜ r ≡ only (ltb i n) (getD (now (numbers .entry)) i 0) ⌝ }
-{
-    if i < n {
-        return at(numbers, i);
-    }
-    0
-}
-
-// The denominators of n states.
-fn whole(n: usize, denominators: &[u64]) -> [u64; Chain::STATES]
-    ensures { λ r. ⌜ Lacks n (now (denominators .entry)) [] r ⌝ }
+// The denominators of all states there can be, 0 past the last.
+fn whole(denominators: &[u64]) -> [u64; Chain::STATES]
+    ensures { λ r. ⌜ Lacks (now (denominators .entry)) [] r ⌝ }
 {
     let mut left = [0u64; Chain::STATES];
     let mut i = 0;
     while i < Chain::STATES {
-        left[i] = own(n, denominators, i);
+        left[i] = at(denominators, i);
         i += 1;
     }
     left
@@ -103,12 +93,12 @@ fn take_out(left: &mut [u64], i: usize, weight: u64)
     left[i] = less(left[i], weight);
 }
 
-// The weight that is missing from the row of each of n states: none where the row exceeds its denominator.
-pub fn missing(n: usize, denominators: &[u64], edges: &[u64]) -> [u64; Chain::STATES]
-    ensures { λ r. ⌜ Lacks n (now (denominators .entry)) (now (edges .entry)) r ⌝ }
+// The weight that is missing from the row of each state: none where the row exceeds its denominator, and none past the last.
+pub fn missing(denominators: &[u64], edges: &[u64]) -> [u64; Chain::STATES]
+    ensures { λ r. ⌜ Lacks (now (denominators .entry)) (now (edges .entry)) r ⌝ }
 {
     let count = edge::count(edges);
-    let mut left = whole(n, denominators);
+    let mut left = whole(denominators);
     let mut e = 0;
     while e < count {
         let i = edge::from(edges, e) as usize;

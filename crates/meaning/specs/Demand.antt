@@ -2,12 +2,12 @@
 use Prim.Native.Nat.{ℕ, _*_, _≤_, _<_}
 use mathlib.Core.Bool.{Bool}
 use Rattle.meaning.specs.Number.{Lowest}
-use Rattle.meaning.specs.Chain.{Chain, Live}
+use Rattle.meaning.specs.Chain.{Chain, End, LiveTo, Live}
 use Rattle.meaning.specs.Figure.{Chance}
-use Rattle.meaning.specs.Row.{exact}
-use Rattle.meaning.specs.Step.{row, Sets, Right, outside, RoundedAt}
-use Rattle.meaning.specs.Refusal.{Lent, plain}
-use Rattle.meaning.specs.Stop.{earns, turn, tableAt, NoFit}
+use Rattle.meaning.specs.Row.{Row, exact}
+use Rattle.meaning.specs.Step.{row, Sets, RightTo, Right, outside, unknown, stageFrom, RoundedAt}
+use Rattle.meaning.specs.Refusal.{Lent, Entry, plain}
+use Rattle.meaning.specs.Stop.{earns, turn, NoFit}
 use Rattle.meaning.specs.Outcome.{Bounds}
 
 -- In the exact engine a kept row in lowest terms does not fit, after some of the positions of the order. With the start a goal or not live
@@ -43,14 +43,18 @@ BothChance c a = Chance c (a .lowerNumerator) (a .lowerDenominator) × Chance c 
 abbrev pub Unrounded : Lent → Type 0
 Unrounded l = (k : Sets) → Right (l .chain) k → (p : ℕ) → p ≤ l .chain .states → RoundedAt (l .chain) k (earns plain l) (l .order) p → ⊥
 
+-- The row of s after the first p positions of the order, in an entry whose rows may fall short or not.
+abbrev pub rowAfter : Entry → Bool → Lent → Sets → ℕ → ℕ → Row
+rowAfter x b l k p s = row (stageFrom b (l .chain) k (earns x l) (unknown (x .short) (l .chain)) (l .order) p) s
+
 -- A live state has, at its turn, weight outside its own loop: D is above 0.
-abbrev pub OutsideAtTurn : (ℕ → ℕ) → Bool → Lent → Type 0
-OutsideAtTurn pay b l =
-    (k : Sets) → Right (l .chain) k → (p : ℕ) → p < l .chain .states → Live (l .chain) (turn l p)
-    → 0 < outside (l .chain .states) (turn l p) (row (tableAt pay b l k p) (turn l p))
+abbrev pub OutsideAtTurn : Entry → Bool → Lent → Type 0
+OutsideAtTurn x b l =
+    let c = l .chain in (k : Sets) → RightTo c (End (x .short) c) k → (p : ℕ) → p < c .states → LiveTo c (End (x .short) c) (turn l p)
+    → 0 < outside (c .states) (turn l p) (rowAfter x b l k p (turn l p))
 
 -- So has a live start at the end.
-abbrev pub OutsideAtEnd : (ℕ → ℕ) → Bool → Lent → Type 0
-OutsideAtEnd pay b l =
-    let c = l .chain in (k : Sets) → Right c k → Live c (c .start)
-    → 0 < outside (c .states) (c .start) (row (tableAt pay b l k (c .states)) (c .start))
+abbrev pub OutsideAtEnd : Entry → Bool → Lent → Type 0
+OutsideAtEnd x b l =
+    let c = l .chain in (k : Sets) → RightTo c (End (x .short) c) k → LiveTo c (End (x .short) c) (c .start)
+    → 0 < outside (c .states) (c .start) (rowAfter x b l k (c .states) (c .start))

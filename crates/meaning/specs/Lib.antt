@@ -18,7 +18,7 @@ pub mod Stop
 pub mod Outcome
 -- The step list of request 2: what is said of each state that the exact engine removes.
 pub mod Steps
--- The survey: which states have a path to a goal, which are live, whether the goal may be missed, and the counts that the report prints.
+-- The survey: which states have a path to an end, which are live, whether a state is reached that has none, and the counts that the report prints.
 pub mod Survey
 -- "Chain files": where each field of a block lies, and the check.
 pub mod Block

@@ -124,6 +124,9 @@ pub data BoundsFigure (short : Bool) (l : Lent) (a : Bounds) : Type 0 where
 abbrev pub BoundsStop : ℕ → ℕ → Type 0
 BoundsStop number place = ⊥
 
--- The entry for the bounds.
+-- An entry for bounds, whose rows may fall short or not; and the entry for the bounds, where none may.
+abbrev pub BoundsOutcomeOf : Entry → Lent → Bounds → List ℕ → Type 0
+BoundsOutcomeOf x l = Outcome x l noBounds BoundsStop (BoundsFigure (x .short) l)
+
 abbrev pub BoundsOutcome : Lent → Bounds → List ℕ → Type 0
-BoundsOutcome l = Outcome plain l noBounds BoundsStop (BoundsFigure false l)
+BoundsOutcome = BoundsOutcomeOf plain

@@ -58,13 +58,19 @@ pub record Entry : Type 0 where
   pub room : ℕ → ℕ → ℕ
   pub records : ℕ → ℕ
 
+-- An entry that eliminates is lent an order and a work table, rewards or not, a step list of n records or more or none; and its rows may fall
+-- short or not.
+abbrev pub eliminating : Bool → Bool → Bool → Entry
+eliminating rewards list short =
+    record { order = true; rewards = rewards; short = short; fewest = 0; room = λ n _. workSize n; records = only list }
+
 -- The entries for the chance and for the bounds: numbers 1 to 10.
 abbrev pub plain : Entry
-plain = record { order = true; rewards = false; short = false; fewest = 0; room = λ n _. workSize n; records = λ _. 0 }
+plain = eliminating false false false
 
 -- The entry for the expected reward: numbers 1 to 11.
 abbrev pub paid : Entry
-paid = record { order = true; rewards = true; short = false; fewest = 0; room = λ n _. workSize n; records = λ _. 0 }
+paid = eliminating true false false
 
 -- An entry that is lent a chain alone, whose rows may fall short or not: numbers 1 and 3 to 9.
 abbrev pub bareOf : Bool → Entry
@@ -75,7 +81,7 @@ bare = bareOf false
 
 -- The companion of the entry for the chance, which is lent a step list of n records or more: numbers 1 to 10.
 abbrev pub listing : Entry
-listing = record { order = true; rewards = false; short = false; fewest = 0; room = λ n _. workSize n; records = λ n. n }
+listing = eliminating false true false
 
 -- 1: n is not 1 to 64; a table length is other than n, or than 0 where the entry is not lent that table; numbers are left over past
 -- the last whole edge; over 4,096 edges, or fewer than the entry asks for.
@@ -125,17 +131,14 @@ Same edges d e = (from edges d ≡ from edges e) × (to edges d ≡ to edges e)
 abbrev pub PairFault : List ℕ → ℕ → Type 0
 PairFault edges e = (e < edgeCount edges) × ((d : ℕ) × ((d < e) × Same edges d e))
 
--- The row sum of state i differs from its denominator; it exceeds it.
-abbrev pub UnequalFault : ℕ → List ℕ → List ℕ → ℕ → Type 0
-UnequalFault n denominators edges i = (i < n) × (rowSum edges i ≡ getD denominators i 0 → ⊥)
+-- A row sum differs from its denominator or, where rows may fall short, exceeds it.
+abbrev pub WrongSum : Bool → ℕ → ℕ → Type 0
+WrongSum false sum denominator = sum ≡ denominator → ⊥
+WrongSum true sum denominator = denominator < sum
 
-abbrev pub OverFault : ℕ → List ℕ → List ℕ → ℕ → Type 0
-OverFault n denominators edges i = (i < n) × (getD denominators i 0 < rowSum edges i)
-
--- 9: the row sum of state i differs from its denominator or, where rows may fall short, exceeds it.
+-- 9: the row sum of state i is wrong.
 abbrev pub SumFault : Bool → ℕ → List ℕ → List ℕ → ℕ → Type 0
-SumFault false = UnequalFault
-SumFault true = OverFault
+SumFault short n denominators edges i = (i < n) × WrongSum short (rowSum edges i) (getD denominators i 0)
 
 -- The state at position p of the order was seen before.
 abbrev pub Earlier : List ℕ → ℕ → Type 0

@@ -29,7 +29,7 @@ Table = List Row
 abbrev pub row : Table → ℕ → Row
 row t i = getD t i []
 
--- Two sets of states, each written as one number: those with a path to a goal, and the live ones.
+-- Two sets of states, each written as one number: those with a path to an end, and the live ones.
 pub record Sets : Type 0 where
   pub good : ℕ
   pub live : ℕ
@@ -43,7 +43,7 @@ pub record RightTo (c : Chain) (End : ℕ → Type 0) (k : Sets) : Type 0 where
 abbrev pub Right : Chain → Sets → Type 0
 Right c k = RightTo c (Goal c) k
 
--- The row of a live state as the chain gives it: the weight to each live state, to goals, to states with no path to a goal; u in Unknown;
+-- The row of a live state as the chain gives it: the weight to each live state, to goals, to states with no path to an end; u in Unknown;
 -- and in Reward what one turn in the state earns, times its denominator, as pay says.
 unfoldable pub given : Chain → Sets → (ℕ → ℕ) → ℕ → ℕ → Row
 given c k pay u i =

@@ -1,5 +1,5 @@
--- The survey of a chain: which of its states have a path to a goal, which are live, whether the goal may be missed, and how many states are
--- goals and live.
+-- The survey of a chain: which of its states have a path to an end, which are live, whether a state is reached that has none, and how many states
+-- are goals and live.
 use Prim.Native.Nat.{ℕ, suc}
 use mathlib.Core.Path.{_≡_}
 use mathlib.Core.Logic.{_↔_}

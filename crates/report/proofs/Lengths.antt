@@ -12,7 +12,7 @@ use Rattle.meaning.specs.Text.{bytesOf}
 use Rattle.meaning.specs.Report.{fractionText, refusedText, answerText, linesText, answerLine, faceText, reportRoom, faceRoom, answerRoom}
 use Rattle.theory.specs.Numbers.Decimal.{digits}
 use Rattle.theory.specs.Outcomes.Small.{Small, BothSmall}
-use Rattle.theory.specs.Files.Lengths.{Near, refused-short, fraction-short, bounds-short}
+use Rattle.theory.specs.Files.Lengths.{Near, refused-short, refusal-line, fraction-short, bounds-short}
 use Rattle.chainfile.specs.Written.{Room}
 
 either : (b : Bool) (x y : List ℕ) (n : ℕ) → length x ≤ n → length y ≤ n → length (choose b x y) ≤ n
@@ -47,7 +47,7 @@ lines-short states edges goals live chance reward bounds hs he hg hl nc sc nr sr
 
 -- The single line of a refusal.
 pub refusal-short : (number place : ℕ) → Near number place → length (refusedText number place ++ bytesOf "\n") ≤ reportRoom
-refusal-short number place n = simp length-append (omega (arith, digits 1 number (omega arith), digits 3 place (omega arith)))
+refusal-short number place n = omega (arith, refusal-line number place n)
 
 -- An answer whose numbers have room in their types.
 pub record Wide (a : Answer) : Type 0 where

@@ -7,7 +7,6 @@ use mathlib.Core.List.{List}
 use native.Mathlib.Omega.{arith}
 use lib.Bits.{bitOr}
 use lib.ListN.{length, getD, List·getD-eq-default}
-use borrow.Author.Tests.{lt-ltb, le-ltb}
 use Rattle.meaning.specs.Number.{bit}
 use Rattle.meaning.specs.Chain.{mostStates, Chain, denominator, missing, End}
 use Rattle.theory.specs.Numbers.Bits.{in-either, in-one}
@@ -61,12 +60,12 @@ module _ (set : ℕ) (missing : List ℕ) where
           (below k i)
 
 -- The marks are the ends where rows may fall short.
-pub marked-ends : (c : Chain) (few : c .states ≤ mostStates) (whole : length (c .denominators) ≡ c .states) (lacking : List ℕ) → Lacks (c .states) (c .denominators) (c .edges) lacking
+pub marked-ends : (c : Chain) (few : c .states ≤ mostStates) (whole : length (c .denominators) ≡ c .states) (lacking : List ℕ) → Lacks (c .denominators) (c .edges) lacking
     → (ends : ℕ) → Exactly (MarkedTo (c .goals) lacking mostStates) ends → Exactly (End true c) ends
 marked-ends c few whole lacking lacks ends marks k = (λ b. there (marks k .0 b), λ e. marks k .1 (back e))
   where
-    is : k < c .states → getD lacking k 0 ≡ missing c k
-    is h = lacks .is k (omega arith) ∙ rw (lt-ltb k (c .states) h)
+    is : k < mostStates → getD lacking k 0 ≡ missing c k
+    is h = lacks .is k h
 
     state : (k : ℕ) → 0 < missing c k → k < c .states
     state k h =
@@ -77,17 +76,10 @@ marked-ends c few whole lacking lacks ends marks k = (λ b. there (marks k .0 b)
         absurd (omega (arith, h, z)))
         (below k (c .states))
 
-    past : c .states ≤ k → k < mostStates → getD lacking k 0 ≡ 0
-    past h m = lacks .is k m ∙ rw (le-ltb k (c .states) h) (omega arith)
-
     there : MarkedTo (c .goals) lacking mostStates k → End true c k
     there (inl b) = inl b
-    there (inr h) =
-        ⊎-elim
-        (λ (m : k < c .states). inr (omega (arith, is m, h .1)))
-        (λ (m : c .states ≤ k). absurd (omega (arith, past m (h .0), h .1)))
-        (below k (c .states))
+    there (inr h) = inr (omega (arith, is (h .0), h .1))
 
     back : End true c k → MarkedTo (c .goals) lacking mostStates k
     back (inl b) = inl b
-    back (inr h) = let m = state k h in inr (omega arith, omega (arith, is m, h))
+    back (inr h) = let m : k < mostStates = omega (arith, state k h) in inr (m, omega (arith, is m, h))

@@ -5,12 +5,11 @@ use mathlib.Core.Logic.{_⊎_, _↔_}
 use mathlib.Core.Bool.{Bool}
 use lib.ListN.{getD}
 use mathlib.Core.List.{List, []}
-use Rattle.meaning.specs.Number.{bit}
+use Rattle.meaning.specs.Number.{bit, decides}
 use Rattle.meaning.specs.Chain.{Chain, End}
 use Rattle.meaning.specs.Step.{Sets, RightTo}
 use Rattle.meaning.specs.Survey.{Misses}
 use Rattle.chain.specs.declared.Chain.{Chain as Given}
-use Rattle.meaning.specs.Number.{decides}
 use Rattle.chain.specs.Lent.{lent}
 use Rattle.survey.specs.declared.Sets.{Sets as Found}
 
@@ -23,12 +22,12 @@ abbrev pub Exactly : (ℕ → Type 0) → ℕ → Type 0
 Exactly P set = (i : ℕ) → (bit set i ≡ 1) ↔ P i
 
 -- State i joins the set where a weight is missing from its row.
-pub record Marked (set i missing r : ℕ) : Type 0 where
-  pub is : (k : ℕ) → (bit r k ≡ 1) ↔ ((bit set k ≡ 1) ⊎ ((k ≡ i) × (0 < missing)))
+pub record Marked (set i lack r : ℕ) : Type 0 where
+  pub is : (k : ℕ) → (bit r k ≡ 1) ↔ ((bit set k ≡ 1) ⊎ ((k ≡ i) × (0 < lack)))
 
 -- k is in the set, or is one of the first n states and a weight is missing from its row.
 abbrev pub MarkedTo : ℕ → List ℕ → ℕ → ℕ → Type 0
-MarkedTo set missing n k = (bit set k ≡ 1) ⊎ ((k < n) × (0 < getD missing k 0))
+MarkedTo set lacks n k = (bit set k ≡ 1) ⊎ ((k < n) × (0 < getD lacks k 0))
 
 -- i is good and reached, and no goal.
 pub record Alive (good reached goals i : ℕ) : Type 0 where

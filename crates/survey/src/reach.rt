@@ -96,24 +96,24 @@ fn grow(back: bool, barrier: u64, seed: u64, edges: &[u64]) -> u64
 }
 
 // The set with state i, where a weight is missing from its row.
-fn marked(set: u64, i: usize, missing: u64) -> u64
+fn marked(set: u64, i: usize, lack: u64) -> u64
     requires { ⌜ i < mostStates ⌝ }
-    ensures { λ r. ⌜ Marked set i missing r ⌝ }
+    ensures { λ r. ⌜ Marked set i lack r ⌝ }
 {
-    if missing == 0 {
+    if lack == 0 {
         return set;
     }
     set | alone(i)
 }
 
 // The states from whose rows a weight is missing, and those of another set.
-fn with_short(set: u64, missing: &[u64; Chain::STATES]) -> u64
-    ensures { λ r. ⌜ Exactly (MarkedTo set (now (missing .entry)) mostStates) r ⌝ }
+fn with_short(set: u64, lacks: &[u64; Chain::STATES]) -> u64
+    ensures { λ r. ⌜ Exactly (MarkedTo set (now (lacks .entry)) mostStates) r ⌝ }
 {
     let mut marks = set;
     let mut i = 0;
     while i < Chain::STATES {
-        marks = marked(marks, i, missing[i]);
+        marks = marked(marks, i, lacks[i]);
         i += 1;
     }
     marks
@@ -127,8 +127,8 @@ fn ends(c: Chain, denominators: &[u64], edges: &[u64], short: bool) -> u64
     if !short {
         return c.goals;
     }
-    let missing = missing(c.states, denominators, edges);
-    with_short(c.goals, &missing)
+    let lacks = missing(denominators, edges);
+    with_short(c.goals, &lacks)
 }
 
 // The states with a path to an end: they grow from the ends, backwards.
@@ -164,6 +164,7 @@ fn astray(good: u64, reached: u64) -> bool
     good & reached != reached
 }
 
+// The sets of a chain, whose rows may fall short or not.
 pub(crate) fn sets(c: Chain, denominators: &[u64], edges: &[u64], short: bool) -> Sets
     requires { ⌜ (c .start < mostStates) × (c .states ≤ mostStates) × (length (now denominators) ≡ c .states) ⌝ }
     requires { ⌜ ((e : ℕ) → EndFault mostStates (now edges) e → ⊥) ⌝ }

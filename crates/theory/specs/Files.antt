@@ -15,7 +15,6 @@ pub mod Alike
 pub mod Written
 pub mod Completed
 pub mod Opened
-pub mod CompletedFormed
 pub mod Decided
 pub mod ReportOne
 pub mod StepsOne
@@ -23,6 +22,7 @@ pub mod Lengths
 pub mod SalvageOne
 pub mod SalvageExists
 pub mod SalvageRoom
+pub mod CompletedFormed
 pub mod CallOne
 pub mod CallRead
 pub mod CallBounds

@@ -63,7 +63,7 @@ up-9 c x z o w t u =
 
 up-10 : (c : tie.After-enum-told5) → K10 c 10
 up-10 c x z o w t u =
-    next (up-9 (c .before .before .before) x z o w t u) (rw z (none _ (c .before .before .unequal .ensures) (c .enum-told5 .given .1)))
+    next (up-9 (c .before .before .before) x z o w t u) (rw z (none _ (c .before .before .first-wrong .ensures) (c .enum-told5 .given .1)))
 
 returns : tie.Need-returns
 returns c x z o w t u = tell 10 (c .refused .ensures) (refuse u (at-0 (c .before .if1 .taken)))
@@ -96,7 +96,7 @@ returns-6 c x z o w t u =
 returns-7 : tie.Need-returns-7
 returns-7 c x z o w t u =
     let at = c .before .before .before .before in
-    tell 10 (c .refused7 .ensures) (refuse (up-9 (at .before) x z o w t u) (rw z (found _ (at .unequal .ensures) (c .before .before .i2 .given .1))))
+    tell 10 (c .refused7 .ensures) (refuse (up-9 (at .before) x z o w t u) (rw z (found _ (at .first-wrong .ensures) (c .before .before .i2 .given .1))))
 
 repeated-requires : tie.Need-repeated-requires
 repeated-requires c κs =
@@ -106,8 +106,8 @@ repeated-requires c κs =
     wide _ (start .args .edges .now) (start .pre .few-states)
     (none _ (ends .before .before .ends .ensures) (ends .enum-told2 .given .1))
 
-unequal-requires : tie.Need-unequal-requires
-unequal-requires c κs =
+first-wrong-requires : tie.Need-first-wrong-requires
+first-wrong-requires c κs =
     let weights = c .before .before .before in
     let ends = weights .before .before .before in
     let goals = ends .before .before .before .before .before .before in (
@@ -150,7 +150,7 @@ own-spec =
     (λ c κs. search needs)
     returns-6
     (λ c. search needs)
-    unequal-requires
+    first-wrong-requires
     (λ c. search needs)
     (λ c κs. search needs)
     returns-7

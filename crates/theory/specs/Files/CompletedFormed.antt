@@ -3,22 +3,28 @@ use Prim.Native.Nat.{ℕ, zero, suc, _+_, _*_, _≤_, _<_}
 use mathlib.Core.Path.{_≡_, refl, sym, ap, subst, _∙_}
 use mathlib.Core.Bool.{true}
 use mathlib.Core.Logic.{inl, inr, ⊎-elim}
+use mathlib.Core.List.{List, _++_}
 use native.Mathlib.Omega.{arith}
 use lib.ListN.{length, getD}
 use Rattle.meaning.specs.Chain.{mostEdges, edgeSize, edgeCount, Chain, from, to, weight}
-use Rattle.meaning.specs.Refusal.{chainAlone, bare, Misshaped, EndFault, WeightFault, PairFault, OverFault, OrderFault, Applies, WellFormed}
-use Rattle.meaning.specs.Outcome.{Bounds, BoundsFigure}
+use Rattle.meaning.specs.Refusal.{chainAlone, bare, Misshaped, EndFault, WeightFault, PairFault, SumFault, OrderFault, Applies, Refused, WellFormed}
+use Rattle.meaning.specs.Outcome.{Bounds}
 use Rattle.meaning.specs.Demand.{ChanceBetween}
-use Rattle.meaning.specs.Left.{shortRows}
-use Rattle.meaning.specs.Block.{Input, headStates, headEdges, orderIn}
+use Rattle.meaning.specs.Left.{shortRows, LeftOutcome}
+use Rattle.meaning.specs.Block.{Input, headStates, headEdges, demanded, orderIn}
 use Rattle.meaning.specs.File.{ordersIn, edgeIn}
-use Rattle.meaning.specs.Salvage.{edgeKept, keptBefore, IndexOf, leftChain, leftIn, Completes}
+use Rattle.meaning.specs.Salvage.{Opened, Lost, edgeKept, keptBefore, IndexOf, leftChain, leftIn, Completes, lostText, shortText, Salvaged}
+use Rattle.meaning.specs.Text.{bytesOf}
+use Rattle.meaning.specs.Report.{boundsText, lineText}
 use Rattle.theory.specs.Numbers.Tab.{tab-length}
 use Rattle.theory.specs.Chains.Picked.{picked-edges, picked-small, picked-at}
 use Rattle.theory.specs.Stages.Left.{withEdges}
 use Rattle.theory.specs.Outcomes.Formed.{few-states, few-edges, row-sum, room-enough}
 use Rattle.theory.specs.Outcomes.OwnWork.{own-room}
-use Rattle.theory.specs.Files.Opened.{index-exists, index-rises}
+use Rattle.theory.specs.Files.Opened.{index-exists, index-rises, opened-unrefused, accepted-unlost}
+use Rattle.theory.specs.Files.SalvageOne.{verdicts-same}
+use Rattle.theory.specs.Outcomes.Determined.{refused-unformed}
+use Rattle.theory.specs.Outcomes.DemandThree.{bounds-figure-of}
 use Rattle.theory.specs.Files.Completed.{same-chain, parted, salvage-holds}
 
 module _ (f : Input) (v : ℕ → ℕ) (c : Chain) (completes : Completes f v c) (formed : WellFormed bare (chainAlone c)) where
@@ -81,7 +87,7 @@ module _ (f : Input) (v : ℕ → ℕ) (c : Chain) (completes : Completes f v c)
       (e .inside, (d .at, (index-rises (d .index) (e .index) l, (sym (d .source) ∙ w .0 ∙ e .source, sym (d .target) ∙ w .1 ∙ e .target))))
 
   -- The kept weights of a row are part of its sum.
-  rows-right : (i : ℕ) → OverFault (headStates f) (left .denominators) (left .edges) i → ⊥
+  rows-right : (i : ℕ) → SumFault true (headStates f) (left .denominators) (left .edges) i → ⊥
   rows-right i (h, over) =
       omega (arith, over, parted f v c completes formed i (λ _. 1), row-sum bare (chainAlone completed) whole-formed refl i h)
 
@@ -121,5 +127,20 @@ module _ (f : Input) (v : ℕ → ℕ) (c : Chain) (completes : Completes f v c)
     completed-formed = record { none = none-left }
 
     -- So the chance of every well-formed completion lies between the two fractions, with nothing asked of what is left but its order.
-    pub completed-holds : (a : Bounds) → BoundsFigure true (leftIn f v) a → ChanceBetween c a
-    completed-holds = salvage-holds f v c completes formed completed-formed
+    pub completed-holds : (a : Bounds) (w : List ℕ) → LeftOutcome (leftIn f v) a w → ChanceBetween c a
+    completed-holds a w o = salvage-holds f v c completes formed completed-formed a (bounds-figure-of completed-formed o)
+
+    -- And the text says so: where a block is lost it is the line of two such fractions, and then the lost blocks and the rows that fell short.
+    pub salvaged-holds : Opened f v → Lost v → (t : List ℕ) → Salvaged f t
+        → (a : Bounds) × ChanceBetween c a × (t ≡ lineText (bytesOf "bounds ") (boundsText a) ++ lostText v (demanded f) ++ shortText left (headStates f))
+    salvaged-holds opened lost t (Salvaged.file-refused n p r e) = absurd (opened-unrefused opened r)
+    salvaged-holds opened lost t (Salvaged.whole-refused n p a r e) = absurd (accepted-unlost opened a lost)
+    salvaged-holds opened lost t (Salvaged.whole a w b k o e) = absurd (accepted-unlost opened a lost)
+    salvaged-holds opened lost t (Salvaged.left-refused u o l n p q r i e) =
+        absurd (refused-unformed (subst (λ z. Refused shortRows (leftIn f z) n p) (verdicts-same o opened) r) completed-formed)
+    salvaged-holds opened lost t (Salvaged.left u o l w a k b e) =
+        let same : u ≡ v = verdicts-same o opened in (
+          a,
+          completed-holds a k (subst (λ z. LeftOutcome (leftIn f z) a k) same b),
+          e ∙ ap (λ z. lineText (bytesOf "bounds ") (boundsText a) ++ lostText z (demanded f) ++ shortText (leftChain f z) (headStates f)) same,
+        )

@@ -1,12 +1,14 @@
 -- How long the pieces of a printed text can be.
 use Prim.Native.Nat.{ℕ, _≤_}
+use mathlib.Core.List.{_++_}
 use native.Mathlib.Omega.{arith}
 use lib.ListN.{length, length-append}
 use Rattle.meaning.specs.Refusal.{Lent, Entry, Refused}
 use Rattle.meaning.specs.Outcome.{Bounds}
 use Rattle.meaning.specs.Block.{Input}
 use Rattle.meaning.specs.File.{FileRefused}
-use Rattle.meaning.specs.Report.{fractionText, refusedText, boundsText}
+use Rattle.meaning.specs.Report.{fractionText, refusedText, boundsText, lineText}
+use Rattle.meaning.specs.Text.{bytesOf}
 use Rattle.theory.specs.Numbers.Decimal.{digits}
 use Rattle.theory.specs.Outcomes.Small.{Small, BothSmall}
 use Rattle.theory.specs.Outcomes.Places.{refused-places}
@@ -40,3 +42,10 @@ bounds-short a s =
       simp length-append at (fraction-short (a .lowerNumerator) (a .lowerDenominator) (s .0)),
       simp length-append at (fraction-short (a .upperNumerator) (a .upperDenominator) (s .1)),
     ))
+
+-- The line of a refusal, and that of the bounds.
+pub refusal-line : (number place : ℕ) → Near number place → length (refusedText number place ++ bytesOf "\n") ≤ 19
+refusal-line number place n = simp length-append (omega (arith, simp length-append at (refused-short number place n)))
+
+pub bounds-line : (a : Bounds) → BothSmall a → length (lineText (bytesOf "bounds ") (boundsText a)) ≤ 51
+bounds-line a s = simp length-append (omega (arith, simp length-append at (bounds-short a s)))

@@ -53,7 +53,7 @@ salvage-read-one {f} {before} (SalvageOutcome.opened s l h o e t) (SalvageOutcom
     (e ∙ ap (salvage f) q ∙ sym e′, t ∙ ap (λ z. leftTables f (verdict z) before) q ∙ sym t′)
 
 -- The verdicts as one function.
-verdicts-same : {f : Input} {v v′ : ℕ → ℕ} → Opened f v → Opened f v′ → v ≡ v′
+pub verdicts-same : {f : Input} {v v′ : ℕ → ℕ} → Opened f v → Opened f v′ → v ≡ v′
 verdicts-same o o′ i b = verdicts-one o o′ b i
 
 place-one : {f : Input} {v : ℕ → ℕ} {number place at at′ : ℕ} → PlaceIn f v number place at → PlaceIn f v number place at′ → at ≡ at′

@@ -10,31 +10,22 @@ use lib.Dec.{ltb}
 use borrow.Author.Tests.{le-ltb}
 use Rattle.meaning.specs.Chain.{mostStates, M, Chain, missing}
 use Rattle.meaning.specs.Refusal.{Lent, Refused, WellFormed}
-use Rattle.meaning.specs.Outcome.{Bounds}
 use Rattle.meaning.specs.Left.{shortRows}
 use Rattle.meaning.specs.Block.{Input, headStates, stateBlocks, demanded}
 use Rattle.meaning.specs.Text.{bytesOf}
-use Rattle.meaning.specs.Report.{refusedText, boundsText, lineText}
+use Rattle.meaning.specs.Report.{boundsText, lineText}
 use Rattle.meaning.specs.Salvage.{Opened, leftChain, leftIn, PlaceIn, pairText, lostText, shortText, Salvaged, salvageRoom}
 use Rattle.theory.specs.Numbers.Sum.{below}
 use Rattle.theory.specs.Numbers.Join.{join-length, join-past}
 use Rattle.theory.specs.Numbers.Decimal.{digits}
-use Rattle.theory.specs.Outcomes.Small.{BothSmall, bounds-small, left-small}
+use Rattle.theory.specs.Outcomes.Small.{bounds-small, left-small}
 use Rattle.theory.specs.Outcomes.Formed.{few-states, denominator-small}
 use Rattle.theory.specs.Files.Right.{Bounded, bounded}
 use Rattle.theory.specs.Files.Opened.{front-file, lost-numbers}
-use Rattle.theory.specs.Files.Lengths.{Near, chain-near, block-near, refused-short, bounds-short}
-
--- The line of the bounds.
-pub bounds-line : (a : Bounds) → BothSmall a → length (lineText (bytesOf "bounds ") (boundsText a)) ≤ 51
-bounds-line a s = simp length-append (omega (arith, simp length-append at (bounds-short a s)))
-
--- The line of a refusal.
-pub refusal-line : (number place : ℕ) → Near number place → length (refusedText number place ++ bytesOf "\n") ≤ 19
-refusal-line number place n = simp length-append (omega (arith, simp length-append at (refused-short number place n)))
+use Rattle.theory.specs.Files.Lengths.{Near, chain-near, block-near, refusal-line, bounds-line}
 
 -- A line of two numbers, of so many digits and one more.
-pub pair-short : (word : List ℕ) (k m a b : ℕ) → a < 10 ^ suc k → b < 10 ^ suc m → length (pairText word a b) ≤ length word + k + m + 4
+pair-short : (word : List ℕ) (k m a b : ℕ) → a < 10 ^ suc k → b < 10 ^ suc m → length (pairText word a b) ≤ length word + k + m + 4
 pair-short word k m a b h l = simp length-append (omega (arith, digits k a h, digits m b l))
 
 -- The lines of the lost blocks: head and state blocks are none of them, and there are at most 66 edge blocks.

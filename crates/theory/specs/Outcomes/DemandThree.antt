@@ -11,9 +11,9 @@ use Rattle.meaning.specs.Chain.{Chain, Live}
 use Rattle.meaning.specs.Figure.{Chance}
 use Rattle.meaning.specs.Row.{cell, goalColumn, unknownColumn, rounding}
 use Rattle.meaning.specs.Step.{Sets, Right, outside}
-use Rattle.meaning.specs.Refusal.{Lent, plain, WellFormed}
+use Rattle.meaning.specs.Refusal.{Lent, Entry, plain, WellFormed}
 use Rattle.meaning.specs.Stop.{earns, Stops, before-steps, in-step, Stopped}
-use Rattle.meaning.specs.Outcome.{refused, stopped, answered, Bounds, between, lastRow, BoundsFigure, BoundsOutcome}
+use Rattle.meaning.specs.Outcome.{refused, stopped, answered, Bounds, between, lastRow, BoundsFigure, BoundsOutcomeOf, BoundsOutcome}
 use Rattle.meaning.specs.Demand.{AtMost, ChanceBetween, BothChance, Unrounded}
 use Rattle.theory.specs.Rows.Settle.{one-engine}
 use Rattle.theory.specs.Chains.Fine.{Fine}
@@ -60,6 +60,12 @@ known fine u v h =
       upper = λ p q k. let o = chance-one fine h k in rw (o .0, o .1) (omega arith);
     }
 
+-- Of a well-formed input an entry for bounds says two fractions.
+pub bounds-figure-of : {x : Entry} {l : Lent} {a : Bounds} {w : List ℕ} → WellFormed x l → BoundsOutcomeOf x l a w → BoundsFigure (x .short) l a
+bounds-figure-of formed (refused n p r e s) = absurd (formed .none n p (r .applies))
+bounds-figure-of formed (stopped n p f t e s) = absurd t
+bounds-figure-of formed (answered f t g s) = g
+
 module _ (l : Lent) (formed : WellFormed plain l) where
   abbrev c : Chain
   c = l .chain
@@ -97,17 +103,10 @@ module _ (l : Lent) (formed : WellFormed plain l) where
             upper-chance c k (l .order) ready (earns plain l) alive (none k right) s t highest,
           )
 
-  -- Two fractions: what holds of every figure holds of every outcome.
-  module _ (P : Bounds → Type 0) (a : Bounds) (w : List ℕ) (figure : (b : Bounds) → BoundsFigure false l b → P b) where
-    outcome : BoundsOutcome l a w → P a
-    outcome (refused n p r e s) = absurd (formed .none n p (r .applies))
-    outcome (stopped n p f t e s) = absurd t
-    outcome (answered f t g s) = figure a g
-
   module _ (a : Bounds) (w : List ℕ) where
     -- The entry for the bounds never refuses a well-formed chain.
     pub bounds-answer : BoundsOutcome l a w → a .number ≡ 0
-    bounds-answer = outcome (λ b. b .number ≡ 0) a w nought
+    bounds-answer o = nought a (bounds-figure-of formed o)
       where
         nought : (b : Bounds) → BoundsFigure false l b → b .number ≡ 0
         nought b (BoundsFigure.won g e) = ap (λ (z : Bounds). z .number) e
@@ -116,7 +115,7 @@ module _ (l : Lent) (formed : WellFormed plain l) where
 
     -- The chance lies between its two fractions, which are in lowest terms.
     pub bounds-hold : BoundsOutcome l a w → ChanceBetween c a
-    bounds-hold = outcome (ChanceBetween c) a w held
+    bounds-hold o = held a (bounds-figure-of formed o)
       where
         held : (b : Bounds) → BoundsFigure false l b → ChanceBetween c b
         held b (BoundsFigure.won g e) = subst (ChanceBetween c) (sym e) (known (formed-fine plain l formed refl) 1 1 (chance-won c (start-in plain l formed) g))
@@ -125,7 +124,7 @@ module _ (l : Lent) (formed : WellFormed plain l) where
 
     -- Both are the chance where no row was rounded.
     pub bounds-equal : Unrounded l → BoundsOutcome l a w → BothChance c a
-    bounds-equal none = outcome (BothChance c) a w equal
+    bounds-equal none o = equal a (bounds-figure-of formed o)
       where
         equal : (b : Bounds) → BoundsFigure false l b → BothChance c b
         equal b (BoundsFigure.won g e) =

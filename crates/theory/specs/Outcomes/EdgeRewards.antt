@@ -63,11 +63,7 @@ module _ (x : Entry) (l : Lent) (edges : List ℕ) (s : RewardsAlone (l .chain .
           (inside e h, (d, (l, (sym (s .froms d) ∙ f ∙ s .froms e, sym (s .tos d) ∙ t ∙ s .tos e))))
 
       sums : (i : ℕ) → SumFault (x .short) (c .states) (c .denominators) (c .edges) i → SumFault (x .short) (c .states) (c .denominators) edges i
-      sums i = go (x .short)
-        where
-          go : (short : Bool) → SumFault short (c .states) (c .denominators) (c .edges) i → SumFault short (c .states) (c .denominators) edges i
-          go false a = (a .0, λ q. a .1 (same-flow s i (λ _. 1) ∙ q))
-          go true a = (a .0, omega (arith, a .1, same-flow s i (λ _. 1)))
+      sums i a = (a .0, rw (← same-flow s i (λ _. 1)) (a .1))
 
 -- The tables, where live states earn the same; and what stops the elimination.
 module _ (b : Bool) (l : Lent) (edges : List ℕ) (s : RewardsAlone (l .chain .edges) edges) (pay pay′ : ℕ → ℕ)

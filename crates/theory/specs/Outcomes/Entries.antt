@@ -1,4 +1,4 @@
--- Each of the three entries has one outcome for one input, work table included.
+-- Each of the four entries has one outcome for one input, work table included.
 use Prim.Native.Nat.{ℕ, _<_}
 use mathlib.Core.Path.{_≡_, refl, sym, ap₂, subst, _∙_}
 use mathlib.Core.Bool.{Bool, true, false}
@@ -22,7 +22,7 @@ stopped-one {pay} {b} {l} n p n′ p′ s s′ =
     stops-one (s .stops) (subst (λ k. Stops pay b l k n′ p′) (right-one (s′ .right) (s .right)) (s′ .stops))
 
 -- The two fractions of a row at the end are one.
-pub row-bounds-one : (c : Chain) (z : Row) → 0 < outside (c .states) (c .start) z → (p q s t p′ q′ s′ t′ : ℕ)
+row-bounds-one : (c : Chain) (z : Row) → 0 < outside (c .states) (c .start) z → (p q s t p′ q′ s′ t′ : ℕ)
     → BoundsOf c z p q s t → BoundsOf c z p′ q′ s′ t′ → between p q s t ≡ between p′ q′ s′ t′
 row-bounds-one c z whole p q s t p′ q′ s′ t′ f f′ =
     let lower = reduced-one whole (f .0) (f′ .0) in

@@ -9,7 +9,34 @@ use native.Mathlib.Decide.{ℕ-discrete, decLe, decLt}
 use lib.ListN.{length, getD}
 use Rattle.meaning.specs.Number.{only}
 use Rattle.meaning.specs.Chain.{mostStates, mostEdges, M, mostReward, edgeSize, edgeCount, from, to, weight, edgeReward, rowSum}
-use Rattle.meaning.specs.Refusal.{Lent, Entry, Misshaped, no-states, many-states, denominators-length, edges-ragged, many-edges, few-edges, order-length, rewards-length, GoalFault, OutOfRange, Same, StateRewardFault, EdgeRewardFault, RewardFault, of-state, of-edge, SumFault, whole, never, lentFault, faults, Refused, WellFormed}
+use Rattle.meaning.specs.Refusal.{
+  Lent,
+  Entry,
+  Misshaped,
+  no-states,
+  many-states,
+  denominators-length,
+  edges-ragged,
+  many-edges,
+  few-edges,
+  order-length,
+  rewards-length,
+  GoalFault,
+  OutOfRange,
+  Same,
+  StateRewardFault,
+  EdgeRewardFault,
+  RewardFault,
+  of-state,
+  of-edge,
+  SumFault,
+  whole,
+  never,
+  lentFault,
+  faults,
+  Refused,
+  WellFormed,
+}
 use Rattle.theory.specs.Numbers.Search.{turned, either, NoneBefore, LeastPlace, at, nowhere, clear-none, search-least, ranged, anywhere}
 
 module _ (x : Entry) (states denominators edges order rewards : ℕ) where

@@ -6,15 +6,10 @@ use mathlib.Core.Bool.{Bool, true, false}
 use mathlib.Core.List.{List, [], _∷_}
 use lib.ListN.{length, getD}
 use Rattle.meaning.specs.Chain.{mostStates, mostEdges, edgeCount}
-use Rattle.meaning.specs.Refusal.{Lent, Entry, Misshaped, SumFault, RewardFault, of-state, of-edge, never, lentFault, faults, Refused}
+use Rattle.meaning.specs.Refusal.{Lent, Entry, Misshaped, RewardFault, of-state, of-edge, never, lentFault, faults, Refused}
 
 atMost : (x y : ℕ) → (y < x → ⊥) → x ≤ y
 atMost x y f = omega arith
-
--- 9 is at a state.
-pub sum-inside : (short : Bool) (n : ℕ) (denominators edges : List ℕ) (p : ℕ) → SumFault short n denominators edges p → p < n
-sum-inside false n denominators edges p f = f .0
-sum-inside true n denominators edges p f = f .0
 
 -- Each fault of a list is at a place up to the bound.
 abbrev Within : ℕ → List (ℕ → Type 0) → Type 0
@@ -51,7 +46,7 @@ faults-within x l states edges = (
                 (
                   (λ p h. omega (arith, h .0)),
                   (
-                    (λ p h. omega (arith, sum-inside (x .short) _ _ _ p h)),
+                    (λ p h. omega (arith, h .0)),
                     (
                       lent-within (x .order) _ (λ p h. omega (arith, h .0)),
                       (

@@ -56,7 +56,7 @@ reduced-small a b p q whole h k r =
 small : {p q p′ q′ : ℕ} → (p ≡ p′) × (q ≡ q′) → Small p q → Small p′ q′
 small e s = record { numerator = omega (arith, e .0, s .numerator); denominator = omega (arith, e .1, s .denominator) }
 
-pub one-small : (p : ℕ) → p ≤ 1 → Small p 1
+one-small : (p : ℕ) → p ≤ 1 → Small p 1
 one-small p h = record { numerator = omega arith; denominator = omega arith }
 
 module _ (x : Entry) (l : Lent) (formed : WellFormed x l) (whole : x .short ≡ false) (none : (number place : ℕ) → Stopped (earns x l) exact l number place → ⊥) where
@@ -158,7 +158,7 @@ abbrev pub BothSmall : Bounds → Type 0
 BothSmall a = Small (a .lowerNumerator) (a .lowerDenominator) × Small (a .upperNumerator) (a .upperDenominator)
 
 -- Those of a row that fits.
-pub row-small : (c : Chain) (z : Row) → 0 < outside (c .states) (c .start) z → total (c .states) z ≤ M → (p q s t : ℕ) → BoundsOf c z p q s t
+row-small : (c : Chain) (z : Row) → 0 < outside (c .states) (c .start) z → total (c .states) z ≤ M → (p q s t : ℕ) → BoundsOf c z p q s t
     → BothSmall (between p q s t)
 row-small c z whole all p q s t f =
     let m = c .states in

@@ -11,7 +11,7 @@ use lib.Dec.{eqb, ltb, leb}
 use borrow.Author.Tests.{ne-eqb, lt-ltb, le-ltb, le-leb, lt-leb}
 use Rattle.meaning.specs.Number.{only, choose, tabFrom}
 use Rattle.meaning.specs.Chain.{M, from, to, weight, edgeReward, edgeCount, rowSum}
-use Rattle.meaning.specs.Refusal.{Lent, Entry, plain, Misshaped, UnequalFault, SumFault, Same, Earlier, OutOfRange, RewardFault, of-state, of-edge, lentFault, Applies, WellFormed}
+use Rattle.meaning.specs.Refusal.{Lent, Entry, plain, Misshaped, WrongSum, Same, Earlier, OutOfRange, RewardFault, of-state, of-edge, lentFault, Applies, WellFormed}
 use Rattle.meaning.specs.Copies.{mostCopies, mostWeight, Plan, Sensible, finished, copiesStates, copiesEdges, copiesChain, copiesOrder, copiesLent}
 use Rattle.theory.specs.Numbers.Sum.{below, same}
 use Rattle.theory.specs.Outcomes.Formed.{room-enough}
@@ -163,9 +163,8 @@ lent-fault : (b : Bool) (F : ℕ → Type 0) (p : ℕ) → lentFault b F p → F
 lent-fault true F p f = f
 lent-fault false F p f = absurd f
 
-sum-fault : (short : Bool) → short ≡ false → (n : ℕ) (denominators edges : List ℕ) (p : ℕ) → SumFault short n denominators edges p
-    → UnequalFault n denominators edges p
-sum-fault short whole n denominators edges p f = rw whole at f
+wrong-sum : (short : Bool) → short ≡ false → (sum denominator : ℕ) → WrongSum short sum denominator → sum ≡ denominator → ⊥
+wrong-sum short whole sum denominator w = rw whole at w
 
 module _ {j : Plan} (sensible : Sensible j) {x : Entry} {l : Lent} (h : LentPlan j x l) where
   abbrev r : InRange j
@@ -237,7 +236,8 @@ module _ {j : Plan} (sensible : Sensible j) {x : Entry} {l : Lent} (h : LentPlan
       let e : d ≡ p = once j r (kind j d (omega arith)) (kind j p b) s in
       omega arith
   none-applies (suc (suc (suc (suc (suc (suc (suc (suc (suc zero))))))))) p a =
-      let b = rw (h .chain-is) at (sum-fault (x .short) (h .whole) _ _ _ p a) in b .1 (sym (tab-at (copiesStates j) (rowSum (copiesEdges j)) 0 p (b .0)))
+      let b = rw (h .chain-is) at a in
+      wrong-sum (x .short) (h .whole) _ _ (b .1) (sym (tab-at (copiesStates j) (rowSum (copiesEdges j)) 0 p (b .0)))
   none-applies (suc (suc (suc (suc (suc (suc (suc (suc (suc (suc zero)))))))))) p a =
       let b = rw (h .chain-is, h .order-is) at (lent-fault (x .order) _ p a) in order-in p (b .0) (b .1)
   none-applies (suc (suc (suc (suc (suc (suc (suc (suc (suc (suc (suc zero))))))))))) p a =

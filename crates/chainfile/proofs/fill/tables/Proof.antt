@@ -20,10 +20,14 @@ edge-numbers-requires : tie.Need-edge-numbers-requires
 edge-numbers-requires c κs = let s = c .before .before .before .before .before .before .before .before .before .before .before in (s .pre .0, omega (arith, rooms s))
 
 state-numbers-requires-2 : tie.Need-state-numbers-requires-2
-state-numbers-requires-2 c κs = let s = c .before .before .before .before .before .before .before .before .before .before .before .before .before .before .before in (s .pre .0, omega (arith, rooms s))
+state-numbers-requires-2 c κs =
+    let s = c .before .before .before .before .before .before .before .before .before .before .before .before .before .before .before in
+    (s .pre .0, omega (arith, rooms s))
 
 state-numbers-requires-3 : tie.Need-state-numbers-requires-3
-state-numbers-requires-3 c κs = let s = c .before .before .before .before .before .before .before .before .before .before .before .before .before .before .before .before .before .before .before in (s .pre .0, omega (arith, rooms s))
+state-numbers-requires-3 c κs =
+    let s = c .before .before .before .before .before .before .before .before .before .before .before .before .before .before .before .before .before .before .before in
+    (s .pre .0, omega (arith, rooms s))
 
 returns : tie.Need-returns
 returns c =

@@ -3,10 +3,9 @@ use mathlib.Core.Logic.{inl}
 use mathlib.Core.Bool.{true, false}
 use mathlib.Core.List.{[]}
 use borrow.Author.Needs.{needs}
-use Rattle.meaning.specs.Refusal.{Lent, withList}
+use Rattle.meaning.specs.Refusal.{eliminating, Lent, withList}
 use Rattle.theory.specs.Outcomes.Formed.{room}
 use Rattle.chain.specs.Lent.{lent}
-use Rattle.engines.specs.Looking.{ordered}
 use Rattle.engines.proofs.Looked.{refused-by, clear, begun, begun-unlisted, ran}
 use Rattle.engines.proofs.entry.unpaid.Statement.{statement}
 use Rattle.engines.proofs.entry.unpaid.Tie as tie
@@ -22,7 +21,7 @@ run-requires c κs =
     let at = sets .before .before in
     let a = at .before .before .before .before .before .before .before in
     let m = a .args .list in
-    let x = ordered false true (a .args .short) in
+    let x = eliminating false true (a .args .short) in
     let w = withList m (l at) in
     let f = clear {l = w} (at .look .ensures true m refl) (sets .sets .given .1) in
     (begun-unlisted m (begun x w (f .0) _ _ refl (room x w (f .0)) (λ _. refl) (a .pre .1) (f .1 .right)), a .pre .0)

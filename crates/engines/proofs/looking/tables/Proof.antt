@@ -5,13 +5,12 @@ use mathlib.Core.List.{List}
 use lib.Dec.{lit<}
 use lib.ListN.{length, replicate, length-replicate}
 use borrow.Author.Needs.{needs}
-use Rattle.meaning.specs.Refusal.{Lent, withList}
+use Rattle.meaning.specs.Refusal.{eliminating, Lent, withList}
 use Rattle.chain.specs.Lent.{lent}
 use Rattle.theory.specs.Numbers.Decide.{holds, fails}
 use Rattle.look.specs.Says.{Upto, counted}
 use Rattle.look.proofs.Found.{found, none}
 use Rattle.look.proofs.Refuse.{refuse, next, at-0, off, misshapen, shaped, sized}
-use Rattle.engines.specs.Looking.{ordered}
 use Rattle.engines.proofs.Looked.{survey-refuses, survey-clears, lacking-in, lacking-out}
 use Rattle.engines.proofs.looking.tables.Statement.{statement}
 use Rattle.engines.proofs.looking.tables.Tie as tie
@@ -21,10 +20,10 @@ abbrev K2 : tie.Else1 → ℕ → Type 0
 K2 c k =
     let a = c .before .before .before .before .before .before .args in
     (b t : Bool) (w : List ℕ) (r : ℕ) → counted b (length w) (a .c .states) (a .rewards) → counted t r (a .c .states) (a .list)
-    → Upto (ordered b t (a .short)) (withList r (lent (a .c) (a .denominators .now) (a .edges .now) (a .order .now) w (a .work .now))) k
+    → Upto (eliminating b t (a .short)) (withList r (lent (a .c) (a .denominators .now) (a .edges .now) (a .order .now) w (a .work .now))) k
 
 up-2 : (c : tie.Else1) → K2 c 2
-up-2 c b t w r e f = shaped (ordered b t _) refl _ _ _ _ refl e (c .before .misshaped .ensures) (c .if1 .left)
+up-2 c b t w r e f = shaped (eliminating b t _) refl _ _ _ _ refl e (c .before .misshaped .ensures) (c .if1 .left)
 
 up-3 : (c : tie.Else2) → K2 (c .before .before) 3
 up-3 c b t w r e f =
@@ -32,12 +31,12 @@ up-3 c b t w r e f =
 
 -- With rewards and a list of those lengths put in.
 known : {short : Bool} {l : List ℕ → ℕ → Lent} {k n m : ℕ}
-    → ((b t : Bool) (w : List ℕ) (r : ℕ) → counted b (length w) (l w r .chain .states) n → counted t r (l w r .chain .states) m → Upto (ordered b t short) (l w r) k)
-    → Upto (ordered true true short) (l (replicate n 0) m) k
+    → ((b t : Bool) (w : List ℕ) (r : ℕ) → counted b (length w) (l w r .chain .states) n → counted t r (l w r .chain .states) m → Upto (eliminating b t short) (l w r) k)
+    → Upto (eliminating true true short) (l (replicate n 0) m) k
 known {n = n} {m} u = u true true (replicate n 0) m (length-replicate {A = ℕ} n 0) refl
 
 returns : tie.Need-returns
-returns c b t w r e f = misshapen (ordered b t _) refl _ _ _ _ refl e (c .before .misshaped .ensures) (c .if1 .taken)
+returns c b t w r e f = misshapen (eliminating b t _) refl _ _ _ _ refl e (c .before .misshaped .ensures) (c .if1 .taken)
 
 lacking-requires : tie.Need-lacking-requires
 lacking-requires c κs = sized (known (up-2 c)) (lit< tt) .few-states

@@ -6,22 +6,22 @@ use Rattle.look.proofs.sums.missing.Statement.{statement}
 use Rattle.look.proofs.sums.missing.Tie as tie
 
 abbrev Inv-loop : tie.InvT-loop
-Inv-loop n denominators edges count left₀ e₀ left e = Lacking n denominators edges left e
+Inv-loop denominators edges count left₀ e₀ left e = Lacking denominators edges left e
 
 abbrev μ-loop : tie.MeasureT-loop
-μ-loop n denominators edges count left₀ e₀ left e = edgeCount edges - e
+μ-loop denominators edges count left₀ e₀ left e = edgeCount edges - e
 
 loop-holds : tie.Need-loop-holds Inv-loop μ-loop
-loop-holds c = lacking-none _ _ _ (c .whole .ensures)
+loop-holds c = lacking-none _ _ (c .whole .ensures)
 
 loop-again : tie.Need-loop-again Inv-loop μ-loop
 loop-again c =
     let w = c .before .before in
     let at = w .before .before .before .before in
-    lacking-more _ _ _ _ (at .loop .inv) (search needs) (w .before .before .from .ensures) (w .weight .ensures) (c .before .take-out .ensures)
+    lacking-more _ _ _ (at .loop .inv) (search needs) (w .before .before .from .ensures) (w .weight .ensures) (c .before .take-out .ensures)
 
 returns : tie.Need-returns Inv-loop μ-loop
-returns c = lacking-all _ _ _ (c .before .loop .inv) (search needs)
+returns c = lacking-all _ _ (c .before .loop .inv) (search needs)
 
 pub missing-spec : {M : Type 1} → statement M
 missing-spec =

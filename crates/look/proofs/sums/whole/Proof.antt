@@ -6,19 +6,19 @@ use Rattle.look.proofs.sums.whole.Statement.{statement}
 use Rattle.look.proofs.sums.whole.Tie as tie
 
 abbrev Inv-loop : tie.InvT-loop
-Inv-loop n denominators left₀ i₀ left i = Filling n denominators left i
+Inv-loop denominators left₀ i₀ left i = Filling denominators left i
 
 abbrev μ-loop : tie.MeasureT-loop
-μ-loop n denominators left₀ i₀ left i = mostStates - i
+μ-loop denominators left₀ i₀ left i = mostStates - i
 
 loop-holds : tie.Need-loop-holds Inv-loop μ-loop
-loop-holds c = filling-none _ _
+loop-holds c = filling-none _
 
 loop-again : tie.Need-loop-again Inv-loop μ-loop
-loop-again c = filling-more _ _ (c .before .before .loop .inv) (search needs) (c .own .ensures)
+loop-again c = filling-more _ (c .before .before .loop .inv) (search needs) (c .at .ensures)
 
 returns : tie.Need-returns Inv-loop μ-loop
-returns c = filling-all _ _ (c .before .loop .inv) (search needs)
+returns c = filling-all _ (c .before .loop .inv) (search needs)
 
 pub whole-spec : {M : Type 1} → statement M
 whole-spec =
