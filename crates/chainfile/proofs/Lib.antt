@@ -7,6 +7,7 @@ pub mod Filling
 pub mod Flags
 pub mod Saving
 pub mod Opening
+pub mod Counting
 pub mod Steps
 pub mod Storing
 pub mod Unique

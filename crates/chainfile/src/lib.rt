@@ -14,6 +14,7 @@ pub mod block;
 pub mod bytes;
 mod fill;
 pub mod head;
+pub mod index;
 mod judge;
 pub mod layout;
 mod lost;

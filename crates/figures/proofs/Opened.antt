@@ -9,8 +9,8 @@ use lib.Seq.{take-at}
 use Rattle.meaning.specs.Number.{tabFrom, filled}
 use Rattle.meaning.specs.Chain.{mostStates, mostEdges, edgeSize, edgeNumber}
 use Rattle.meaning.specs.Refusal.{workSize}
-use Rattle.meaning.specs.Block.{Input, inputLength, blockSize, fullBlock, demanded, headEdges, denominatorIn, rewardIn, orderIn}
-use Rattle.meaning.specs.File.{FileRefused, Accepted, edgeIn, Tables, Reading as Numbers, reading}
+use Rattle.meaning.specs.Block.{Input, inputLength, blockSize, fullBlock, demanded, headStates, headEdges, denominatorIn, rewardIn, orderIn}
+use Rattle.meaning.specs.File.{FileRefused, Accepted, denominatorsIn, rewardsIn, ordersIn, edgeIn, edgesIn, Tables, Reading as Numbers, reading}
 use Rattle.theory.specs.Files.FileOne.{file-numbers}
 use Rattle.theory.specs.Numbers.Tab.{tab-length}
 use Rattle.chain.specs.declared.Chain.{Chain as Frame}
@@ -31,13 +31,11 @@ module _ {a b : Numbers} (e : a ≡ b) where
   states = ap (λ (a : Numbers). a .states) e
 
 -- A list stands at the front of the table that it fills.
-at : (f : ℕ → ℕ) (t after : List ℕ) {m n : ℕ} → m ≡ n → after ≡ filled (tabFrom 0 n f) t → (m ≤ length after) × (take m after ≡ tabFrom 0 n f)
-at f t after {m} {n} h e =
-    let l = tabFrom 0 n f in
-    let size = tab-length 0 n f in (
-      omega (arith, ap length e ∙ length-append l (drop (length l) t)),
-      ap (take m) e ∙ take-at l (drop (length l) t) m (size ∙ sym h),
-    )
+pub at : (l t after : List ℕ) {m : ℕ} → m ≡ length l → after ≡ filled l t → (m ≤ length after) × (take m after ≡ l)
+at l t after {m} h e = (
+  omega (arith, ap length e ∙ length-append l (drop (length l) t)),
+  ap (take m) e ∙ take-at l (drop (length l) t) m (sym h),
+)
 
 -- The tables hold the chain at their front.
 pub record Opened (f : Input) (c : Frame) (count : ℕ) (t : Tables) : Type 0 where
@@ -94,10 +92,11 @@ module _ {f : Input} {edges : List ℕ} {after : Tables} (fits : Fits f edges) w
       let de = ap (λ (t : Tables). t .edges) d in
       let do′ = ap (λ (t : Tables). t .order) d in
       let dr = ap (λ (t : Tables). t .rewards) d in
-      let fd = at (denominatorIn f) _ _ sn dd in
-      let fe = at (edgeNumber (edgeIn f)) _ _ (ap (λ k. edgeSize * k) en) de in
-      let fo = at (orderIn f) _ _ sn do′ in
-      let fr = at (rewardIn f) _ _ sn dr in
+      let size : (g : ℕ → ℕ) → c .states ≡ length (tabFrom 0 (headStates f) g) = λ g. sn ∙ sym (tab-length 0 (headStates f) g) in
+      let fd = at (denominatorsIn f) _ _ (size (denominatorIn f)) dd in
+      let fe = at (edgesIn f) _ _ (ap (λ k. edgeSize * k) en ∙ sym (tab-length 0 (edgeSize * headEdges f) (edgeNumber (edgeIn f)))) de in
+      let fo = at (ordersIn f) _ _ (size (orderIn f)) do′ in
+      let fr = at (rewardsIn f) _ _ (size (rewardIn f)) dr in
       record {
         few-states = omega arith;
         few-edges = omega arith;

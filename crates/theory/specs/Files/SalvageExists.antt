@@ -33,7 +33,7 @@ module _ (f : Input) (v : ℕ → ℕ) where
   kept-count = omega (arith, picked-edges (edgeKept f v) (edgeIn f) (λ _. refl) (headEdges f))
 
   -- An edge that refuses what is left has an index in the whole file.
-  place-exists : (number place : ℕ) → Refused shortRows (leftIn f v) number place → (at : ℕ) × PlaceIn f v number place at
+  pub place-exists : (number place : ℕ) → Refused shortRows (leftIn f v) number place → (at : ℕ) × PlaceIn f v number place at
   place-exists number place r =
       ⊎-elim
       (λ (h : 5 < number).
