@@ -1,5 +1,5 @@
 -- Saving what is left of a damaged file (request 10): which edge blocks are lost, what the salvaging reader hands over, and what the program prints.
-use Prim.Native.Nat.{ℕ, _+_, _/_, _≤_, _<_}
+use Prim.Native.Nat.{ℕ, _+_, _*_, _/_, _≤_, _<_}
 use mathlib.Core.Path.{_≡_}
 use mathlib.Core.Logic.{_⊎_}
 use mathlib.Core.Bool.{Bool, true}
@@ -7,7 +7,7 @@ use mathlib.Core.List.{List, [], _++_}
 use lib.ListN.{length, getD, replicate}
 use lib.Dec.{eqb, ltb}
 use Rattle.meaning.specs.Number.{sumTo, only, joinTo, filled}
-use Rattle.meaning.specs.Chain.{Chain, edgeCount, from, to, weight, missing}
+use Rattle.meaning.specs.Chain.{mostStates, Chain, edgeCount, from, to, weight, missing}
 use Rattle.meaning.specs.Refusal.{Lent, plain, ownWork, Refused, WellFormed}
 use Rattle.meaning.specs.Outcome.{Bounds, BoundsOutcome}
 use Rattle.meaning.specs.Left.{shortRows, LeftOutcome}
@@ -175,9 +175,18 @@ pub data Salvaged (f : Input) (t : List ℕ) : Type 0 where
       → t ≡ lineText (bytesOf "bounds ") (boundsText a) ++ lostText v (demanded f) ++ shortText (leftChain f v) (headStates f)
       → Salvaged f t
 
--- Room for any such text: the bounds line of 51 bytes, 66 lines of 11, 64 lines of 20.
+-- Room for any such text: that of the bounds line, of 66 lines of lost blocks and of 64 lines of rows.
+abbrev pub boundsRoom : ℕ
+boundsRoom = 51
+
+abbrev pub lostRoom : ℕ
+lostRoom = 11 * 66
+
+abbrev pub shortRoom : ℕ
+shortRoom = 20 * mostStates
+
 abbrev pub salvageRoom : ℕ
-salvageRoom = 2057
+salvageRoom = boundsRoom + lostRoom + shortRoom
 
 abbrev pub SalvagedOutcome : Input → List ℕ → Writing → List ℕ → Type 0
 SalvagedOutcome f = TextOutcome salvageRoom (Salvaged f)

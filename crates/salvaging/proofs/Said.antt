@@ -17,7 +17,7 @@ use Rattle.meaning.specs.Block.{Input, demanded}
 use Rattle.meaning.specs.File.{mostBlocks}
 use Rattle.meaning.specs.Text.{bytesOf}
 use Rattle.meaning.specs.Report.{refusedText, TextOutcome, AnswerOutcome}
-use Rattle.meaning.specs.Salvage.{Opened, Lost, leftChain, leftIn, IndexOf, PlaceIn, edge, other, pairText, lostText, shortText, verdict, Salvaged, SalvagedOutcome, salvageRoom}
+use Rattle.meaning.specs.Salvage.{Opened, Lost, leftChain, leftIn, IndexOf, PlaceIn, edge, other, pairText, lostText, shortText, verdict, Salvaged, SalvagedOutcome, shortRoom, salvageRoom}
 use Rattle.theory.specs.Numbers.Sum.{below}
 use Rattle.theory.specs.Numbers.Join.{join-past}
 use Rattle.theory.specs.Outcomes.Small.{left-small}
@@ -99,7 +99,7 @@ module _ (l : Lent) (formed : WellFormed shortRows l) {short : List ℕ}
       join-past (λ j. ltb 0 (missing (l .chain) j)) (λ j. pairText (bytesOf "short ") j (missing (l .chain) j)) (l .chain .states) k h
       (λ j m. le-ltb 0 (missing (l .chain) j) (omega (arith, past-states j m)))
 
-  pub rows-fit : (k : ℕ) → length (numbersText (bytesOf "short ") short k) ≤ 20 * mostStates
+  pub rows-fit : (k : ℕ) → length (numbersText (bytesOf "short ") short k) ≤ shortRoom
   rows-fit k =
       rw (short-lines k)
       (⊎-elim

@@ -8,7 +8,7 @@ use Rattle.meaning.specs.Chain.{mostStates}
 use Rattle.meaning.specs.Outcome.{Bounds}
 use Rattle.meaning.specs.Text.{bytesOf}
 use Rattle.meaning.specs.Report.{boundsText, lineText}
-use Rattle.meaning.specs.Salvage.{pairText, salvageRoom}
+use Rattle.meaning.specs.Salvage.{pairText, boundsRoom, lostRoom, shortRoom, salvageRoom}
 
 abbrev pub boundsLine : Bounds → List ℕ
 boundsLine a = lineText (bytesOf "bounds ") (boundsText a)
@@ -34,9 +34,9 @@ leftText a lost short =
 
 -- The lines are no longer than those of a file.
 pub record Fits (a : Bounds) (lost short : List ℕ) : Type 0 where
-  pub bounds : length (boundsLine a) ≤ 51
-  pub blocks : (k : ℕ) → length (numbersText (bytesOf "lost ") lost k) ≤ 11 * 66
-  pub rows : (k : ℕ) → length (numbersText (bytesOf "short ") short k) ≤ 20 * mostStates
+  pub bounds : length (boundsLine a) ≤ boundsRoom
+  pub blocks : (k : ℕ) → length (numbersText (bytesOf "lost ") lost k) ≤ lostRoom
+  pub rows : (k : ℕ) → length (numbersText (bytesOf "short ") short k) ≤ shortRoom
 
 -- The size of a page on which any text has room, and one line more with numbers of 64 bits.
 abbrev pub pageRoom : ℕ

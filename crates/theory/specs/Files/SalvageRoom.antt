@@ -14,7 +14,7 @@ use Rattle.meaning.specs.Left.{shortRows}
 use Rattle.meaning.specs.Block.{Input, headStates, stateBlocks, demanded}
 use Rattle.meaning.specs.Text.{bytesOf}
 use Rattle.meaning.specs.Report.{boundsText, lineText}
-use Rattle.meaning.specs.Salvage.{Opened, leftChain, leftIn, PlaceIn, pairText, lostText, shortText, Salvaged, salvageRoom}
+use Rattle.meaning.specs.Salvage.{Opened, leftChain, leftIn, PlaceIn, pairText, lostText, shortText, Salvaged, boundsRoom, lostRoom, shortRoom, salvageRoom}
 use Rattle.theory.specs.Numbers.Sum.{below}
 use Rattle.theory.specs.Numbers.Join.{join-length, join-past}
 use Rattle.theory.specs.Numbers.Decimal.{digits}
@@ -36,7 +36,7 @@ module _ {f : Input} {v : ℕ → ℕ} (opened : Opened f v) where
   kept-line : (b : ℕ) → v b ≡ 0 → ltb 0 (v b) ≡ false
   kept-line b z = le-ltb 0 (v b) (omega arith)
 
-  few-lost : (b : ℕ) → b ≤ demanded f → length (lostText v b) ≤ 11 * 66
+  few-lost : (b : ℕ) → b ≤ demanded f → length (lostText v b) ≤ lostRoom
   few-lost b h =
       join-length (λ a. ltb 0 (v a)) (λ a. pairText (bytesOf "lost ") a (v a)) (1 + stateBlocks f) 11 b 66 (omega (arith, limits .few-edges))
       (λ a l. kept-line a (opened .none a (inl (omega arith))))
@@ -47,7 +47,7 @@ module _ {f : Input} {v : ℕ → ℕ} (opened : Opened f v) where
   lost-past b h =
       join-past (λ a. ltb 0 (v a)) (λ a. pairText (bytesOf "lost ") a (v a)) (demanded f) b h (λ a l. kept-line a (opened .none a (inr l)))
 
-  pub lost-room : (b : ℕ) → length (lostText v b) ≤ 11 * 66
+  pub lost-room : (b : ℕ) → length (lostText v b) ≤ lostRoom
   lost-room b =
       ⊎-elim
       (λ (l : demanded f < b). rw (lost-past b (omega arith)) (few-lost (demanded f) (omega arith)))
@@ -61,7 +61,7 @@ short-room c i h small =
     (λ j l. absurd (omega arith))
     (λ j l. pair-short (bytesOf "short ") 1 9 j (missing c j) (omega arith) (omega (arith, small j l)))
 
-pub left-short : (l : Lent) → WellFormed shortRows l → (i : ℕ) → i ≤ l .chain .states → length (shortText (l .chain) i) ≤ 20 * mostStates
+pub left-short : (l : Lent) → WellFormed shortRows l → (i : ℕ) → i ≤ l .chain .states → length (shortText (l .chain) i) ≤ shortRoom
 left-short l formed i h =
     let few = few-states shortRows l formed in
     omega (arith, short-room (l .chain) i (omega arith) (λ j m. omega (arith, denominator-small shortRows l formed j (omega arith))))
@@ -82,5 +82,5 @@ salvage-room f t (Salvaged.whole accepted formed a work o e) = rw e (omega (arit
 salvage-room f t (Salvaged.left-refused v opened lost number place at r i e) = rw e (omega (arith, refusal-line number at (place-near opened r i)))
 salvage-room f t (Salvaged.left v opened lost formed a work o e) =
     rw e
-    (three-short (lineText (bytesOf "bounds ") (boundsText a)) (lostText v (demanded f)) (shortText (leftChain f v) (headStates f)) 51 (11 * 66)
-    (20 * mostStates) (bounds-line a (left-small o)) (lost-room opened (demanded f)) (left-short (leftIn f v) formed (headStates f) (omega arith)))
+    (three-short (lineText (bytesOf "bounds ") (boundsText a)) (lostText v (demanded f)) (shortText (leftChain f v) (headStates f)) boundsRoom lostRoom
+    shortRoom (bounds-line a (left-small o)) (lost-room opened (demanded f)) (left-short (leftIn f v) formed (headStates f) (omega arith)))
