@@ -1,6 +1,7 @@
 # make report prints the report of a chain file, make steps its step list, make within its chance within so many steps, make check what is said of a
-# table of its chances; make reorder writes it with the chosen order; make plan prints the chance that a job loses all its copies; make test runs the
-# gate; make memory runs a sample of it under valgrind; make bench times; make fmt lays every file of Rattle out.
+# table of its chances, make salvage what is left of it where it is damaged; make reorder writes it with the chosen order; make plan prints the chance
+# that a job loses all its copies; make test runs the gate; make memory runs a sample of it under valgrind; make bench times; make fmt lays every file
+# of Rattle out.
 CHAIN ?= examples/address.chain
 STEPS ?= 3
 SHARES ?= examples/address.shares
@@ -9,7 +10,7 @@ LOSS ?= 1
 REBUILD ?= 20
 FINISH ?= 100
 
-.PHONY: report steps reorder within check plan test memory fmt bench
+.PHONY: report steps reorder within check salvage plan test memory fmt bench
 
 report: target/bin/nightchance
 	@tests/x86-64 run target/bin/nightchance <"$(CHAIN)"
@@ -27,6 +28,9 @@ within: target/bin/nightwithin
 check: target/bin/checkshares
 	@mkdir -p target/check && cp "$(SHARES)" target/check/shares
 	@cat "$(CHAIN)" | (cd target/check && ../../tests/x86-64 run ../bin/checkshares)
+
+salvage: target/bin/salvage
+	@tests/x86-64 run target/bin/salvage <"$(CHAIN)"
 
 plan: target/bin/plancopies
 	@tests/x86-64 run target/bin/plancopies $(COPIES) $(LOSS) $(REBUILD) $(FINISH)

@@ -161,6 +161,24 @@ def retries():
     return chain_file(rows, goals={2}, paid=minutes)
 
 
+def damaged():
+    """A copy wanders among twelve stores, in thousandths. A store archives it 700 times, loses it 14 times, and hands it on to each of the eleven
+    others 26 times. Then a bad controller filled 96 of the zeros behind the last edge with FF.
+
+    0 archived: the goal, 1 lost, 2 to 13 the stores, of which 2 has it first
+
+    Chance 50/51, but the check of the last of three blocks of edges is wrong, and the file is refused. It held the rows of 12 and 13 and a part of
+    that of 11; from what is left salvage says two fractions that hold the chance.
+    """
+    stores = range(2, 14)
+    rows = [{0: 1}, {1: 1}]
+    rows += [{0: 700, 1: 14, **{other: 26 for other in stores if other != store}} for store in stores]
+    whole = chain_file(rows, goals={0}, start=2)
+    begin, end = len(whole) - 160, len(whole) - 64
+    assert not any(whole[begin:end])
+    return whole[:begin] + b"\xff" * (end - begin) + whole[end:]
+
+
 def address_shares():
     """The table of the chances at every state of the address chain: the denominator, then a numerator
     for each state, in four bytes each. A colleague's solver would send such a one.
@@ -173,7 +191,7 @@ def main():
         sys.stdout.buffer.write(copies(*map(int, sys.argv[1:])))
         return
     here = Path(__file__).resolve().parent
-    for make in (address, dice, long, gateway, backup, copies, retries):
+    for make in (address, dice, long, gateway, backup, copies, retries, damaged):
         (here / f"{make.__name__}.chain").write_bytes(make())
     (here / "address.shares").write_bytes(address_shares())
 

@@ -52,6 +52,21 @@ impl Chain {
         }
     }
 
+    /// The sum of each row's weights; every edge names states.
+    pub fn row_sums(&self) -> Vec<u64> {
+        let mut sums = vec![0; self.states()];
+        for edge in &self.edges {
+            sums[usize::from(edge.from)] += u64::from(edge.weight);
+        }
+        sums
+    }
+
+    /// What each row lacks of its denominator, which no row exceeds: nothing, unless edges were lost.
+    pub fn missing(&self) -> Vec<u64> {
+        let rows = self.denominators.iter().zip(self.row_sums());
+        rows.map(|(&denominator, sum)| u64::from(denominator) - sum).collect()
+    }
+
     /// Whether the start is a goal.
     pub fn starts_at_goal(&self) -> bool {
         self.goals[self.start()]

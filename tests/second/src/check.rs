@@ -2,7 +2,7 @@
 //! and what `checkshares` must print.
 
 use crate::chain::{Chain, M, MOST_STATES};
-use crate::equations;
+use crate::figures;
 use crate::file;
 use crate::fraction::{gcd, Fraction};
 use crate::live::Reach;
@@ -60,14 +60,7 @@ impl Table {
 /// The chance at a state, whether the chain's own start reaches it or not.
 fn share(chain: &Chain, state: usize) -> Option<Fraction> {
     let from = Chain { start: state as u8, ..chain.clone() };
-    let reach = Reach::of(&from);
-    if from.goals[state] {
-        return Some(Fraction::ONE);
-    }
-    if !reach.to_goal[state] {
-        return Some(Fraction::ZERO);
-    }
-    equations::chance(&from, &reach).fraction()
+    figures::true_chance(&from, &Reach::of(&from))
 }
 
 /// Whether a state's goal value, zero or equation is broken.

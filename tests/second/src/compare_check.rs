@@ -6,10 +6,11 @@ use crate::check::{self, Said, Table};
 use crate::compare;
 use crate::file;
 use crate::live::Reach;
+use crate::met::Met;
 use crate::product::{self, Checked};
 use crate::programs;
 use crate::random::Random;
-use crate::tally::{Asked, Case, Met, Tally};
+use crate::tally::{Asked, Case, Tally};
 
 /// Of chains with more states a right table is worked out only now and then.
 const FEW_STATES: usize = 10;

@@ -4,13 +4,14 @@ use crate::choice::{self, Choice};
 use crate::compare::{held, AROUND};
 use crate::compare_steps;
 use crate::file;
+use crate::met::Met;
 use crate::product::{self, Listing, Ordered};
 use crate::programs;
 use crate::random::Random;
 use crate::refusal::Refusal;
 use crate::report;
 use crate::step_list;
-use crate::tally::{Case, Met, Tally};
+use crate::tally::{Case, Tally};
 
 /// The bytes of a number of the list.
 const NUMBER: usize = 8;

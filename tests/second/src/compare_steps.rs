@@ -2,13 +2,14 @@
 
 use crate::compare::{self, held, AROUND};
 use crate::line::Line;
+use crate::met::Met;
 use crate::product::{self, Listing, Stepped};
 use crate::programs;
 use crate::random::Random;
 use crate::refusal::Refusal;
 use crate::step_list::{self, StepList};
 use crate::steps::StepRecord;
-use crate::tally::{Asked, Case, Met, Tally};
+use crate::tally::{Asked, Case, Tally};
 
 /// The bytes of a record: four numbers of 8.
 const RECORD: usize = 32;

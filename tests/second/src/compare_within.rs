@@ -5,10 +5,11 @@ use crate::compare;
 use crate::figures;
 use crate::file;
 use crate::live::Reach;
+use crate::met::Met;
 use crate::product::{self, Reached};
 use crate::programs;
 use crate::random::Random;
-use crate::tally::{Asked, Case, Met, Tally};
+use crate::tally::{Asked, Case, Tally};
 use crate::within::{self, MOST_STEPS, PARTS};
 
 /// Up to so many steps the true chance is worked out too: its numbers grow with each.

@@ -52,7 +52,7 @@ pub fn request(random: &mut Random, damage: Damage) -> Request {
 }
 
 /// A chain to damage: of any family, and at times of two blocks of states or many of edges.
-fn base(random: &mut Random) -> Chain {
+pub fn base(random: &mut Random) -> Chain {
     if random.once_in(4) {
         many_blocks(random)
     } else {

@@ -13,17 +13,24 @@ pub struct Solution {
     remainders: [u64; PRIMES.len()],
 }
 
-/// The chance of a chain whose start is live.
+/// The chance of a chain whose start is live. Where edges were lost, that of the chain in which
+/// nothing of what is missing leads to a goal.
 pub fn chance(chain: &Chain, reach: &Reach) -> Solution {
     // Denominator times x of the state equals the sum of weight times x of the target; x is 1 on
     // goals and 0 on states with no path to a goal.
-    solve(chain, reach, |state| {
-        let to_goals = chain
-            .edges
-            .iter()
-            .filter(|edge| usize::from(edge.from) == state && chain.goals[usize::from(edge.to)]);
-        to_goals.map(|edge| u64::from(edge.weight)).sum()
-    })
+    solve(chain, reach, |state| to_goals(chain, state))
+}
+
+/// The same where all that is missing leads to a goal.
+pub fn chance_at_most(chain: &Chain, reach: &Reach) -> Solution {
+    let missing = chain.missing();
+    solve(chain, reach, |state| to_goals(chain, state) + missing[state])
+}
+
+/// The weight from a state to goals.
+fn to_goals(chain: &Chain, state: usize) -> u64 {
+    let row = chain.edges.iter().filter(|edge| usize::from(edge.from) == state);
+    row.filter(|edge| chain.goals[usize::from(edge.to)]).map(|edge| u64::from(edge.weight)).sum()
 }
 
 /// The expected reward of a chain whose start is live and whose reward is not infinite.

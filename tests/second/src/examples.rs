@@ -6,6 +6,10 @@ pub type Example = (&'static str, &'static [u8], &'static [&'static str], &'stat
 
 const GATEWAY: &[u8] = include_bytes!("../../../examples/gateway.chain");
 
+/// The example that is no chain file any more, and what is saved of it.
+pub const DAMAGED: &[u8] = include_bytes!("../../../examples/damaged.chain");
+pub const DAMAGED_TEXT: &str = include_str!("../../../examples/damaged.stdout");
+
 pub const EXAMPLES: [Example; 7] = [
     (
         "address.chain",

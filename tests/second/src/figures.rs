@@ -18,6 +18,11 @@ pub fn chance(chain: &Chain, reach: &Reach) -> Result<Fraction, Refusal> {
     Ok(equations::chance(chain, reach).fraction().expect("a chance whose steps fit is at most M"))
 }
 
+/// The chance by the equations alone, whatever the order, where neither of its numbers is above M.
+pub fn true_chance(chain: &Chain, reach: &Reach) -> Option<Fraction> {
+    known_chance(chain, reach).or_else(|| equations::chance(chain, reach).fraction())
+}
+
 /// The expected reward, None where it is infinite, or refusal 12.
 pub fn reward(chain: &Chain, reach: &Reach) -> Result<Option<Fraction>, Refusal> {
     if chain.starts_at_goal() {

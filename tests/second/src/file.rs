@@ -36,8 +36,25 @@ fn edge_record(edge: &Edge) -> [u8; RECORD] {
     [edge.from, edge.to, r[0], r[1], w[0], w[1], w[2], w[3]]
 }
 
+/// A chain file whose head and states are in order.
+pub struct Opened {
+    /// The chain, as yet without edges.
+    pub chain: Chain,
+    /// For each block of edges in turn its edges, or the refusal that it gives.
+    pub edges: Vec<Result<Vec<Edge>, Refusal>>,
+}
+
 /// The tables that a chain file holds, or the refusal 20 to 24 that it gives.
 pub fn read(file: &[u8]) -> Result<Chain, Refusal> {
+    let Opened { mut chain, edges } = open(file)?;
+    for block in edges {
+        chain.edges.extend(block?);
+    }
+    Ok(chain)
+}
+
+/// What a chain file holds, or the refusal 20 to 24 that its head or its states give.
+pub fn open(file: &[u8]) -> Result<Opened, Refusal> {
     if file.is_empty() || !file.len().is_multiple_of(block::LENGTH) {
         return Err(Refusal { number: 20, place: 0 });
     }
@@ -49,8 +66,8 @@ pub fn read(file: &[u8]) -> Result<Chain, Refusal> {
     let head_fits = (1..=MOST_STATES).contains(&n)
         && (1..=MOST_EDGES).contains(&edge_count)
         && head[4..] == [0; 4];
-    let state_blocks = n.div_ceil(RECORDS);
-    if !head_fits || blocks.len() != 1 + state_blocks + edge_count.div_ceil(RECORDS) {
+    let first_edges = 1 + n.div_ceil(RECORDS);
+    if !head_fits || blocks.len() != first_edges + edge_count.div_ceil(RECORDS) {
         return Err(Refusal { number: 24, place: 0 });
     }
 
@@ -62,30 +79,41 @@ pub fn read(file: &[u8]) -> Result<Chain, Refusal> {
         order: Vec::new(),
         edges: Vec::new(),
     };
-    for (place, bytes) in blocks.iter().enumerate().skip(1) {
-        if place <= state_blocks {
-            let rest = n - chain.states();
-            for record in records(bytes, place, version, block::STATES, rest.min(RECORDS))? {
-                if record[6] > 1 {
-                    return Err(Refusal { number: 24, place });
-                }
-                chain.denominators.push(four_bytes(record, 0));
-                chain.rewards.push(two_bytes(record, 4));
-                chain.goals.push(record[6] == 1);
-                chain.order.push(record[7]);
-            }
-        } else {
-            let rest = edge_count - chain.edges.len();
-            for record in records(bytes, place, version, block::EDGES, rest.min(RECORDS))? {
-                let (weight, reward) = (four_bytes(record, 4), two_bytes(record, 2));
-                if version == 1 && reward != 0 {
-                    return Err(Refusal { number: 24, place });
-                }
-                chain.edges.push(Edge { from: record[0], to: record[1], weight, reward });
-            }
-        }
+    for (place, bytes) in blocks.iter().enumerate().take(first_edges).skip(1) {
+        let count = (n - chain.states()).min(RECORDS);
+        read_states(&mut chain, &records(bytes, place, version, block::STATES, count)?, place)?;
     }
-    Ok(chain)
+    let edges = (first_edges..blocks.len()).map(|place| {
+        let count = (edge_count - (place - first_edges) * RECORDS).min(RECORDS);
+        read_edges(&records(blocks[place], place, version, block::EDGES, count)?, place, version)
+    });
+    Ok(Opened { chain, edges: edges.collect() })
+}
+
+/// Takes the states of the block at `place`.
+fn read_states(chain: &mut Chain, records: &[&[u8]], place: usize) -> Result<(), Refusal> {
+    for record in records {
+        if record[6] > 1 {
+            return Err(Refusal { number: 24, place });
+        }
+        chain.denominators.push(four_bytes(record, 0));
+        chain.rewards.push(two_bytes(record, 4));
+        chain.goals.push(record[6] == 1);
+        chain.order.push(record[7]);
+    }
+    Ok(())
+}
+
+/// The edges of the block at `place`.
+fn read_edges(records: &[&[u8]], place: usize, version: u8) -> Result<Vec<Edge>, Refusal> {
+    let edge = |record: &&[u8]| {
+        let (weight, reward) = (four_bytes(record, 4), two_bytes(record, 2));
+        if version == 1 && reward != 0 {
+            return Err(Refusal { number: 24, place });
+        }
+        Ok(Edge { from: record[0], to: record[1], weight, reward })
+    };
+    records.iter().map(edge).collect()
 }
 
 /// The records of the block at `place`, which must carry block 0's version, be of this kind and have

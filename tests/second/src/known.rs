@@ -5,6 +5,7 @@ use crate::chain::MOST_STATES;
 use crate::compare;
 use crate::compare_check;
 use crate::compare_file;
+use crate::compare_salvage;
 use crate::compare_steps;
 use crate::compare_within;
 use crate::damage::Request;
@@ -14,6 +15,7 @@ use crate::file;
 use crate::plan::{self, Plan};
 use crate::tally::{Asked, Case, Tally};
 use crate::worked;
+use crate::worked_salvage;
 use crate::worked_steps;
 
 /// The chains worked by hand and the examples: all the product's answers, and the lines that
@@ -29,6 +31,7 @@ pub fn answers(tally: &mut Tally) {
             compare_file::orders(tally, case, &file, worked.chain.states());
             compare_file::within(tally, case, &file);
             compare_check::tables(tally, case, &worked.chain, &file);
+            compare_salvage::program(tally, case, &file);
         }
     }
     for (place, (family, chain, text)) in worked_steps::all().into_iter().enumerate() {
@@ -38,6 +41,9 @@ pub fn answers(tally: &mut Tally) {
             compare_steps::text(tally, case, &file, text);
             compare_file::lists(tally, case, &file, chain.states());
         }
+    }
+    for (place, (family, file, text)) in worked_salvage::all().into_iter().enumerate() {
+        compare_salvage::text(tally, Case { family, seed: place as u64 }, &file, text);
     }
     for (family, file, lines, text) in EXAMPLES {
         let case = Case { family, seed: 0 };
@@ -77,6 +83,7 @@ fn far_too_long(tally: &mut Tally) {
     compare_within::program(tally, case, &["3".to_string()], &file);
     compare_check::entry(tally, case, &file, &[]);
     compare_check::program(tally, case, &file, None);
+    compare_salvage::program(tally, case, &file);
     let request = Request { file, mode: EXACT, answer_length: ANSWER };
     compare::entry(tally, case, &request, Asked::EntryOnDamage);
 }

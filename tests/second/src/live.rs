@@ -1,4 +1,7 @@
 //! Which states matter: a search forward from the start and one backward from the goals.
+//!
+//! Where edges were lost, what a row lacks is Unknown, which counts as a goal for a path to one
+//! (document 02, request 10): the search backward begins at the rows that fall short too.
 
 use crate::chain::Chain;
 
@@ -6,9 +9,9 @@ use crate::chain::Chain;
 pub struct Reach {
     /// Reached from the start without passing a goal, in no or more steps.
     pub reached: Vec<bool>,
-    /// Has a path to a goal.
+    /// Has a path to a goal, or to Unknown.
     pub to_goal: Vec<bool>,
-    /// Live: no goal, reached, and with a path to a goal.
+    /// Live: no goal, reached, and with such a path.
     pub live: Vec<bool>,
 }
 
@@ -25,9 +28,10 @@ impl Reach {
             edges.map(|edge| usize::from(edge.from)).collect()
         };
         let n = chain.states();
-        let goals = (0..n).filter(|&state| chain.goals[state]).collect();
+        let missing = chain.missing();
+        let ends = (0..n).filter(|&state| chain.goals[state] || missing[state] > 0).collect();
         let reached = search(n, vec![chain.start()], forward);
-        let to_goal = search(n, goals, backward);
+        let to_goal = search(n, ends, backward);
         let live = (0..n).map(|i| !chain.goals[i] && reached[i] && to_goal[i]).collect();
         Reach { reached, to_goal, live }
     }

@@ -1,9 +1,9 @@
 //! A second implementation of documents 01 and 02, compared with the product.
 //!
 //! It makes chains and damaged requests from fixed seeds, calls the C entries of the product's static
-//! library on all of them and its programs `nightchance`, `nightsteps`, `reorder`, `nightwithin` and
-//! `checkshares` on a part, runs its program `plancopies` on plans, and compares every answer with its own. Its last line is
-//! `second: N passed, 0 failed`, where N counts comparisons.
+//! library on all of them and its programs `nightchance`, `nightsteps`, `reorder`, `nightwithin`,
+//! `checkshares` and `salvage` on a part, runs its program `plancopies` on plans, and compares every
+//! answer with its own. Its last line is `second: N passed, 0 failed`, where N counts comparisons.
 //!
 //! `cargo run --release` compares, with the word `sample` on a small part of it; `cargo test` tries
 //! this implementation alone on the chains that are worked by hand. The product is sought
@@ -17,10 +17,12 @@ mod compare;
 mod compare_check;
 mod compare_choice;
 mod compare_file;
+mod compare_salvage;
 mod compare_steps;
 mod compare_within;
 mod damage;
 mod damage_check;
+mod damage_edges;
 mod damage_head;
 mod damage_lent;
 mod damage_tables;
@@ -35,6 +37,7 @@ mod generate;
 mod known;
 mod line;
 mod live;
+mod met;
 mod modular;
 mod natural;
 mod plan;
@@ -43,6 +46,7 @@ mod programs;
 mod random;
 mod refusal;
 mod report;
+mod salvage;
 mod sharp;
 mod step_list;
 mod steps;
@@ -51,6 +55,8 @@ mod tally;
 mod within;
 mod work;
 mod worked;
+mod worked_refused;
+mod worked_salvage;
 mod worked_steps;
 
 use std::env;
@@ -71,6 +77,7 @@ fn main() -> ExitCode {
         programs::REORDER,
         programs::NIGHTWITHIN,
         programs::CHECKSHARES,
+        programs::SALVAGE,
         programs::PLANCOPIES,
     ];
     for program in programs.map(programs::program).into_iter().chain([product::driver()]) {

@@ -18,6 +18,8 @@ pub fn below_root(path: &str) -> PathBuf {
 pub const NIGHTCHANCE: &str = "nightchance";
 pub const NIGHTSTEPS: &str = "nightsteps";
 pub const REORDER: &str = "reorder";
+/// The program that reads a damaged one too.
+pub const SALVAGE: &str = "salvage";
 /// The program that is given a number of steps too.
 pub const NIGHTWITHIN: &str = "nightwithin";
 /// The program that is given a table in its working folder too.

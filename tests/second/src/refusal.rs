@@ -29,7 +29,16 @@ const RULES: [(u32, Place); 8] = [
 
 /// The refusal that the tables of a chain give, if any.
 pub fn of_tables(chain: &Chain) -> Option<Refusal> {
-    RULES.iter().find_map(|&(number, first_place)| {
+    least(chain, RULES)
+}
+
+/// The same of a chain that edges were lost from: its rows may fall short.
+pub fn of_left(chain: &Chain) -> Option<Refusal> {
+    least(chain, RULES.map(|rule| if rule.0 == 9 { (9, row_sum_exceeds as Place) } else { rule }))
+}
+
+fn least(chain: &Chain, rules: [(u32, Place); 8]) -> Option<Refusal> {
+    rules.iter().find_map(|&(number, first_place)| {
         first_place(chain).map(|place| Refusal { number, place })
     })
 }
@@ -61,11 +70,17 @@ fn pair_given_before(chain: &Chain) -> Option<usize> {
 }
 
 fn row_sum_differs(chain: &Chain) -> Option<usize> {
-    let mut sums = vec![0u64; chain.states()];
-    for edge in &chain.edges {
-        sums[usize::from(edge.from)] += u64::from(edge.weight);
-    }
-    (0..chain.states()).find(|&state| sums[state] != u64::from(chain.denominators[state]))
+    first_row(chain, |sum, denominator| sum != denominator)
+}
+
+fn row_sum_exceeds(chain: &Chain) -> Option<usize> {
+    first_row(chain, |sum, denominator| sum > denominator)
+}
+
+/// The first row whose sum is wrong beside its denominator.
+fn first_row(chain: &Chain, wrong: fn(u64, u64) -> bool) -> Option<usize> {
+    let mut rows = chain.row_sums().into_iter().zip(&chain.denominators);
+    rows.position(|(sum, &denominator)| wrong(sum, u64::from(denominator)))
 }
 
 fn order_entry_wrong(chain: &Chain) -> Option<usize> {

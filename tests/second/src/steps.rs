@@ -119,7 +119,7 @@ impl Row {
 }
 
 /// What the start's row says after the last step: the bounds, which are one fraction where nothing
-/// was rounded.
+/// was rounded or lost.
 pub struct LastRow {
     pub lower: Fraction,
     pub upper: Fraction,
@@ -193,6 +193,8 @@ fn first_row(chain: &Chain, reach: &Reach, figure: Figure, state: usize) -> Row 
             row.reward += u128::from(edge.weight) * u128::from(edge.reward);
         }
     }
+    // Nothing, unless edges were lost.
+    row.unknown = u128::from(chain.denominators[state]) - row.total();
     if figure == Figure::Reward {
         row.reward += u128::from(chain.rewards[state]) * row.total();
     }

@@ -1,5 +1,6 @@
 //! Counts checks and tells of the first that fail.
 
+use crate::met::{Met, MET};
 use std::collections::{BTreeMap, HashSet};
 use std::hash::{DefaultHasher, Hash, Hasher};
 use std::ops::RangeInclusive;
@@ -22,70 +23,11 @@ pub enum Asked {
     WithinText,
     Check,
     CheckText,
+    SalvageText,
 }
 
 /// The columns of the table.
-const ASKED: usize = 11;
-
-/// What a call of the step list's entry, of the one that chooses an order, of the one within so many
-/// steps, of the check of a table, `nightsteps` or `reorder` met; each is a line after the table.
-#[derive(Clone, Copy)]
-pub enum Met {
-    Through,
-    NoStep,
-    StoppedLater,
-    StoppedAtOnce,
-    TooShort,
-    Exact,
-    Longer,
-    Divided,
-    PrintedLater,
-    OrderWithSum,
-    OrderWithTwelve,
-    OrderLengthWrong,
-    OrderRefused,
-    Rewritten,
-    NotRewritten,
-    Point,
-    Narrow,
-    Wide,
-    Between,
-    Near,
-    Right,
-    GoalValue,
-    Zero,
-    Equation,
-    Unreached,
-}
-
-/// Each kind in words, and how often a run meets it at least.
-const MET: [(&str, u64); 25] = [
-    ("step lists of answers", 5_000),
-    ("step lists of answers with no step", 300),
-    ("step lists that end in 12 after some steps", 2_000),
-    ("step lists that end in 12 at the first step", 300),
-    ("step lists in too little room", 2_000),
-    ("step lists in room for n records", 2_000),
-    ("step lists in more room", 2_000),
-    ("step lists with a divisor above 1", 2_000),
-    ("step lists printed that end in 12 after some steps", 500),
-    ("chosen orders whose sum is the step list's", 2_000),
-    ("chosen orders that end in 12 all the same", 300),
-    ("lists for an order of another length", 2_000),
-    ("orders refused by the file or the chain", 2_000),
-    ("files written with the chosen order", 500),
-    ("files refused by reorder", 300),
-    ("answers whose edges span no place and whose products reach the limit", 30),
-    ("answers whose edges span 1 to 3 places", 1_000),
-    ("answers whose edges span more", 1_000),
-    ("chances within so many steps between none and all", 2_000),
-    ("chances within one step or more beside the true ones", 2_000),
-    ("tables of more than one state that are right", 1_000),
-    ("tables whose first fault is a goal's value", 300),
-    ("tables whose first fault is a zero", 300),
-    ("tables whose first fault is an equation", 1_000),
-    ("tables whose first fault is that of a state that the start does not reach", 100),
-];
+const ASKED: usize = 12;
 
 /// The numbers that a file's bytes, a mode and an answer's length can give; 0 is an answer. 11 needs
 /// a reward above what two bytes hold; 12 comes from the exact mode alone.
@@ -94,14 +36,20 @@ const GIVEN: [RangeInclusive<u32>; 3] = [0..=10, 12..=12, 20..=24];
 const NOT_REPORTED: [u32; 2] = [1, 2];
 /// Those that need a mode, which the step list does not have.
 const NOT_LISTED: [u32; 1] = [1];
-/// Those that the writer can give.
-const WRITTEN: RangeInclusive<u32> = 0..=11;
-/// Those that a file's bytes and a number of steps can give: the order is not looked at.
+/// For each other column the numbers that it can give, and what is asked there in words.
+const COVERED: [(Asked, &[RangeInclusive<u32>], &str); 7] = [
+    (Asked::Writer, &[0..=11], "call of the writer"),
+    (Asked::Within, &WITHIN, "call within so many steps"),
+    (Asked::WithinText, &WITHIN, "text of nightwithin"),
+    (Asked::Check, &CHECKED, "check of a table"),
+    (Asked::CheckText, &CHECKED, "text of checkshares"),
+    (Asked::SalvageText, &[0..=0, 3..=10, 20..=24], "text of salvage"),
+    (Asked::Planner, &[0..=0, 12..=12, 30..=31], "plan"),
+];
+/// Within so many steps the order is not looked at.
 const WITHIN: [RangeInclusive<u32>; 4] = [0..=0, 3..=9, 20..=24, 32..=32];
-/// Those that a file's bytes and a table's can give.
+/// Nor is it for a table.
 const CHECKED: [RangeInclusive<u32>; 5] = [0..=0, 2..=9, 20..=24, 33..=33, 34..=34];
-/// Those that the planner can give.
-const PLANNED: [u32; 4] = [0, 12, 30, 31];
 /// How many different chains a run has at least, and how many that fit in different orders.
 const CHAINS: usize = 20_000;
 const REORDERED: u64 = 300;
@@ -120,8 +68,8 @@ pub struct Tally {
     told: Vec<String>,
     /// How often each number was expected, by `Asked`; 0 is an answer.
     numbers: BTreeMap<u32, [u64; ASKED]>,
-    /// How often each kind was met, by `Met`.
-    met: [u64; MET.len()],
+    /// How often each kind was met, by its place in `MET`.
+    met: BTreeMap<usize, u64>,
     /// The generated chains, each by a hash of its file, so that none counts twice.
     chains: HashSet<u64>,
     /// Chains whose chance fits in two different orders or more.
@@ -176,7 +124,12 @@ impl Tally {
 
     /// Counts a kind where it was met.
     pub fn meet(&mut self, kind: Met, met: bool) {
-        self.met[kind as usize] += u64::from(met);
+        *self.met.entry(kind as usize).or_default() += u64::from(met);
+    }
+
+    /// How often the kind at this place of `MET` was met.
+    fn met(&self, place: usize) -> u64 {
+        self.met.get(&place).copied().unwrap_or(0)
     }
 
     /// Fails for each number that nothing expected, because a pass says nothing about it, and where
@@ -200,28 +153,15 @@ impl Tally {
                 self.cover(lists > 0, || format!("no call for a step list expects {number}"));
             }
         }
-        for number in WRITTEN {
-            let writes = self.expected(Asked::Writer, number);
-            self.cover(writes > 0, || format!("no call of the writer expects {number}"));
+        for (asked, numbers, words) in COVERED {
+            for number in numbers.iter().cloned().flatten() {
+                let expected = self.expected(asked, number);
+                self.cover(expected > 0, || format!("no {words} expects {number}"));
+            }
         }
-        for ((kind, least), met) in MET.into_iter().zip(self.met) {
+        for (place, (kind, least)) in MET.into_iter().enumerate() {
+            let met = self.met(place);
             self.cover(met >= least, || format!("only {met} {kind}"));
-        }
-        for number in WITHIN.into_iter().flatten() {
-            let [calls, texts] =
-                [Asked::Within, Asked::WithinText].map(|asked| self.expected(asked, number));
-            self.cover(calls > 0, || format!("no call within so many steps expects {number}"));
-            self.cover(texts > 0, || format!("no text of nightwithin expects {number}"));
-        }
-        for number in CHECKED.into_iter().flatten() {
-            let [calls, texts] =
-                [Asked::Check, Asked::CheckText].map(|asked| self.expected(asked, number));
-            self.cover(calls > 0, || format!("no check of a table expects {number}"));
-            self.cover(texts > 0, || format!("no text of checkshares expects {number}"));
-        }
-        for number in PLANNED {
-            let plans = self.expected(Asked::Planner, number);
-            self.cover(plans > 0, || format!("no plan expects {number}"));
         }
         let (chains, reordered) = (self.chains.len(), self.reordered);
         self.cover(chains >= CHAINS, || format!("only {chains} chains differ"));
@@ -252,8 +192,8 @@ impl Tally {
         for (mine, theirs) in self.rewards.iter_mut().zip(other.rewards) {
             *mine += theirs;
         }
-        for (mine, theirs) in self.met.iter_mut().zip(other.met) {
-            *mine += theirs;
+        for (place, theirs) in other.met {
+            *self.met.entry(place).or_default() += theirs;
         }
         self.chains.extend(other.chains);
         self.reordered += other.reordered;
@@ -265,21 +205,21 @@ impl Tally {
         for failure in &self.told {
             println!("{failure}");
         }
-        println!("number   entry on chains   entry on damage   reports   writer   steps   printed   plans   within   printed   check   printed");
+        println!("number   entry on chains   entry on damage   reports   writer   steps   printed   plans   within   printed   check   printed   salvage");
         for (number, row) in &self.numbers {
-            let [chains, damage, reports, writes, lists, texts, plans, within, lines, checks, words] =
+            let [chains, damage, reports, writes, lists, texts, plans, within, lines, checks, words, saved] =
                 row;
             println!(
                 "{number:6}   {chains:15}   {damage:15}   {reports:7}   {writes:6}   \
-                 {lists:5}   {texts:7}   {plans:5}   {within:6}   {lines:7}   {checks:5}   {words:7}"
+                 {lists:5}   {texts:7}   {plans:5}   {within:6}   {lines:7}   {checks:5}   {words:7}   {saved:7}"
             );
         }
         let [fractions, infinite, refused] = self.rewards;
         println!("different generated chains: {}", self.chains.len());
         println!("chains that fit in two orders or more: {}", self.reordered);
         println!("bounds whose fractions differ: {}", self.open_bounds);
-        for ((kind, _), met) in MET.iter().zip(self.met) {
-            println!("{kind}: {met}");
+        for (place, (kind, _)) in MET.iter().enumerate() {
+            println!("{kind}: {}", self.met(place));
         }
         println!("rewards: {fractions} fractions, {infinite} infinite, {refused} refused");
         println!("second: {} passed, {} failed", self.passed, self.failed);

@@ -6,9 +6,11 @@ use crate::compare;
 use crate::compare_check;
 use crate::compare_choice;
 use crate::compare_file;
+use crate::compare_salvage;
 use crate::compare_steps;
 use crate::compare_within;
 use crate::damage::{self, DAMAGES, RECORDS_WRONG};
+use crate::damage_edges::{self, LOSSES};
 use crate::damage_lent::{self, LENT_DAMAGES};
 use crate::file;
 use crate::generate::{self, FAMILIES};
@@ -31,8 +33,9 @@ const ORDERED: u64 = 400;
 const DAMAGED: u64 = 2_000 * DAMAGES.len() as u64;
 const LENT: u64 = 500 * LENT_DAMAGES.len() as u64;
 const GROWN: u64 = 600;
+const LOST: u64 = 450 * LOSSES.len() as u64;
 const PLANS: u64 = 120 * plan::COPIES;
-const UNITS: u64 = CHAINS + ORDERED + DAMAGED + LENT + GROWN + PLANS;
+const UNITS: u64 = CHAINS + ORDERED + DAMAGED + LENT + GROWN + LOST + PLANS;
 
 /// How many orders each chain of the ordered part is given.
 const ORDERS: usize = 8;
@@ -80,8 +83,10 @@ fn worker(next: &AtomicU64, once_in: u64) -> Tally {
             one_damage(&mut tally, seed, place, with_report);
         } else if place < CHAINS + ORDERED + DAMAGED + LENT {
             one_writing(&mut tally, seed, place);
-        } else if place < UNITS - PLANS {
+        } else if place < UNITS - PLANS - LOST {
             one_grown(&mut tally, seed);
+        } else if place < UNITS - PLANS {
+            one_salvage(&mut tally, seed, place);
         } else {
             one_plan(&mut tally, seed, place);
         }
@@ -110,6 +115,7 @@ fn one_chain(tally: &mut Tally, seed: u64, place: u64, with_report: bool) {
         compare_choice::program(tally, case, &file);
         compare_within::program(tally, case, &words(&mut random), &file);
         compare_check::program(tally, case, &file, Some(&table));
+        compare_salvage::program(tally, case, &file);
     }
 }
 
@@ -162,6 +168,7 @@ fn one_damage(tally: &mut Tally, seed: u64, place: u64, with_report: bool) {
         compare_choice::program(tally, case, &request.file);
         compare_within::program(tally, case, &words(&mut random), &request.file);
         compare_check::program(tally, case, &request.file, Some(&table));
+        compare_salvage::program(tally, case, &request.file);
     }
 }
 
@@ -187,6 +194,17 @@ fn one_grown(tally: &mut Tally, seed: u64) {
     compare_file::lists(tally, case, &file, chain.states());
     compare_steps::program(tally, case, &file);
     compare_file::orders(tally, case, &file, chain.states());
+}
+
+/// The file of a chain that lost blocks of edges, and that chain's own chance.
+fn one_salvage(tally: &mut Tally, seed: u64, place: u64) {
+    let loss = LOSSES[(place % LOSSES.len() as u64) as usize];
+    let case = Case { family: loss.0, seed };
+    let mut random = Random::new(seed);
+    let chain = damage_edges::chain(&mut random);
+    let file = (loss.1)(&mut random, chain.clone());
+    compare_salvage::program(tally, case, &file);
+    compare_salvage::completed(tally, case, &file, &chain);
 }
 
 /// The words of a number of steps: at times none, or one that says no number.
