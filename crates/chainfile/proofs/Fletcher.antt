@@ -1,6 +1,6 @@
 -- Fletcher's two sums in one pass, with one remainder at the end.
 use Prim.Native.Nat.{ℕ, zero, suc, _+_, _*_, _%_, _≤_, _<_}
-use mathlib.Core.Path.{_≡_, sym, ap, _∙_}
+use mathlib.Core.Path.{_≡_, refl, sym, ap, subst₃, _∙_}
 use native.Mathlib.Nat.{mod-eq-of-lt, mod-add-mod, add-mod, mod-lt}
 use native.Mathlib.Numerals.{add-one}
 use native.Mathlib.Omega.{arith}
@@ -38,6 +38,14 @@ module _ {m s : ℕ} {f : ℕ → ℕ} {count : ℕ} where
     where
       next : (first + b) % m ≡ firstSum m s f (i + 1)
       next = sym (mod-add-mod first m b) ∙ rw (add-one, g .first-is, e)
+
+  -- k bytes that are 0.
+  pub rest : {i first second : ℕ} → Summed m s f count i first second → count ≤ end → (k : ℕ) → i + k ≤ count → ((j : ℕ) → i ≤ j → f j ≡ 0)
+      → Summed m s f count (i + k) first (second + first * k)
+  rest {i} {first} {second} g l zero h z = subst₃ (Summed m s f count) (omega arith) refl (omega arith) g
+  rest {i} {first} {second} g l (suc k) h z =
+      subst₃ (Summed m s f count) (omega arith) (omega arith) (omega arith)
+      (more (rest g l k (omega arith) z) (omega arith) l (sym (z (i + k) (omega arith))) (omega arith))
 
   pub all : {i first second : ℕ} → Summed m s f count i first second → count ≤ i
       → (first % m ≡ firstSum m s f count) × (second % m ≡ secondSum m s f count)

@@ -1,5 +1,6 @@
 pub mod Law
 pub mod Digits
+pub mod Cut
 pub mod Fletcher
 pub mod Content
 pub mod Tested

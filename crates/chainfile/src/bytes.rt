@@ -1,14 +1,14 @@
 // Bytes and numbers of a file. A byte that is not kept counts as 0.
 ghost use mathlib.Core.Path.{_≡_};
-ghost use Prim.Native.Nat.{_*_, _^_, _≤_, _<_};
-ghost use lib.ListN.{getD};
+ghost use Prim.Native.Nat.{_*_, _^_, _≤_, _<_, min};
+ghost use lib.ListN.{length, getD};
 ghost use Rattle.meaning.specs.Block.{numberAt, fourByteNumber};
 ghost use Rattle.meaning.specs.File.{NonZero};
 ghost use Rattle.meaning.specs.Number.{decides, sumTo};
 ghost use Rattle.chainfile.specs.Input.{input};
 use crate::layout;
 
-fn wide(x: u8) -> u64
+pub(crate) fn wide(x: u8) -> u64
     ensures { λ r. ⌜ (r ≡ x) × (r < 256) ⌝ }
 {
     x as u64
@@ -60,16 +60,39 @@ pub fn four_byte_number(bytes: &[u8], i: usize) -> u64
     number(bytes, layout::QUAD * i, layout::QUAD)
 }
 
+// What is kept up to byte `high` ends here: there, or where all that is kept ends.
+pub(crate) fn end(kept: &[u8], high: usize) -> usize
+    ensures { λ r. ⌜ r ≡ min high (length (now (kept .entry))) ⌝ }
+{
+    if kept.len() < high {
+        return kept.len();
+    }
+    high
+}
+
+// Some byte is not 0. All are looked at, whatever the first ones are, so that the compiler can take many at once.
+fn some_written(bytes: &[u8]) -> bool
+    ensures { λ r. let all = now (bytes .entry) in ⌜ decides (NonZero (input all 0) 0 (length all)) r ⌝ }
+{
+    let mut all = 0;
+    let mut i = 0;
+    while i < bytes.len() {
+        all |= bytes[i];
+        i += 1;
+    }
+    if all != 0 {
+        return true;
+    }
+    false
+}
+
 // A byte from `low` on and before `high` is not 0.
 pub(crate) fn written(kept: &[u8], low: usize, high: usize) -> bool
     ensures { λ r. ⌜ decides (NonZero (input (now (kept .entry)) 0) low high) r ⌝ }
 {
-    let mut at = low;
-    while at < high {
-        if byte(kept, at) != 0 {
-            return true;
-        }
-        at += 1;
+    let e = end(kept, high);
+    if e < low {
+        return false;
     }
-    false
+    some_written(&kept[low..e])
 }

@@ -48,9 +48,9 @@ fn block_start(kept: &[u8], b: usize) -> usize
 }
 
 // Of all bytes of a block that are checked, modulo `modulus`, both begun at `begin`. They are so few that neither sum wraps: one remainder at
-// the end does for all of them.
+// the end does for all of them. Of those that are not kept each adds 0 to the first sum, and so the first sum to the second.
 fn fletcher(block: &[u8], modulus: u64, begin: u64) -> Sums
-    requires { ⌜ (0 < modulus) × (modulus < 65536) × (begin < modulus) ⌝ }
+    requires { ⌜ (0 < modulus) × (modulus < 65536) × (begin < modulus) × (length (now block) ≤ checkedBytes) ⌝ }
     ensures { λ r.
         let f = input (now (block .entry)) 0 in
         ⌜ (r .first ≡ firstSum modulus begin (byte f) checkedBytes) × (r .second ≡ secondSum modulus begin (byte f) checkedBytes) ⌝ }
@@ -58,11 +58,13 @@ fn fletcher(block: &[u8], modulus: u64, begin: u64) -> Sums
     let mut first = begin;
     let mut second = begin;
     let mut i = 0;
-    while i < layout::CHECKED {
-        first += bytes::byte(block, i);
+    while i < block.len() {
+        first += bytes::wide(block[i]);
         second += first;
         i += 1;
     }
+    let left = (layout::CHECKED - block.len()) as u64;
+    second += first * left;
     Sums {
         first: first % modulus,
         second: second % modulus,
@@ -80,5 +82,6 @@ pub fn check(kept: &[u8], b: usize, version: u64) -> Sums
 {
     let rule = rule_of(version);
     let at = block_start(kept, b);
-    fletcher(&kept[at..], rule.modulus, rule.begin)
+    let e = bytes::end(kept, at + layout::CHECKED);
+    fletcher(&kept[at..e], rule.modulus, rule.begin)
 }
