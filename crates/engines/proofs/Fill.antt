@@ -4,8 +4,8 @@ use mathlib.Core.Path.{_≡_, refl, sym, ap, _∙_}
 use mathlib.Core.Logic.{⊎-elim}
 use mathlib.Core.List.{List}
 use native.Mathlib.Omega.{arith}
-use native.Mathlib.Nat.{mod-eq-of-lt, pow-succ'}
-use lib.Pow.{mod-mod-pow, low}
+use native.Mathlib.Nat.{mod-eq-of-lt, mul-le-mul-left, pow-succ'}
+use lib.Pow.{mod-mod-pow, pow-mono, low}
 use lib.Count.{ones, onesIn, ones-cat}
 use lib.Dec.{ltb}
 use lib.ListN.{length, getD, set, length-set}
@@ -170,3 +170,35 @@ module _ {c : ℕ → ℕ} {l : List ℕ} where
             (λ (d : q ≡ k → ⊥). there q d ∙ f .rest q (omega (arith, count-suc c j)))
             (same q k);
       }
+
+-- The columns from j to n are done, the last one first: each of them has its bit in a set, which begins at column j.
+pub record Marked (c : ℕ → ℕ) (n j targets : ℕ) : Type 0 where
+  pub soFar : j ≤ n
+  pub marks : targets * 2 ^ j + targetsTo c j ≡ targetsTo c n
+
+doubled : (t b x : ℕ) → (t * 2 + b) * x ≡ t * (2 * x) + b * x
+doubled t b x = omega arith
+
+module _ {c : ℕ → ℕ} {n : ℕ} where
+  pub marked-none : Marked c n n 0
+  marked-none = record { soFar = omega arith; marks = omega arith }
+
+  module _ {j targets : ℕ} (g : Marked c n (suc j) targets) where
+    raised : targets * 2 ^ suc j ≡ targets * (2 * 2 ^ j)
+    raised = ap (λ z. targets * z) (pow-succ' 2 j)
+
+    pub marked-more : {b : ℕ} → b ≡ only (ltb 0 (c j)) 1 → Marked c n j (targets * 2 + b)
+    marked-more {b} e =
+        let one : b * 2 ^ j ≡ only (ltb 0 (c j)) (2 ^ j) =
+        weighed (c j)
+        (λ z. ap (λ y. y * 2 ^ j) (e ∙ only-none (c j) 1 z) ∙ omega (arith, only-none (c j) (2 ^ j) z))
+        (λ z. ap (λ y. y * 2 ^ j) (e ∙ only-some (c j) 1 z) ∙ omega (arith, only-some (c j) (2 ^ j) z)) in
+        record { soFar = omega (arith, g .soFar); marks = omega (arith, doubled targets b (2 ^ j), raised, one, g .marks, targets-suc c j) }
+
+    -- There is room for one bit more.
+    pub marked-small : targets * 2 < 2 ^ n
+    marked-small = omega (arith, g .marks, targets-lt c n, raised, mul-le-mul-left targets (mul-le-mul-left 2 (pow-mono {i = 0} {j = j} (omega arith))))
+
+  pub marked-all : {j targets : ℕ} → Marked c n j targets → j ≤ 0 → targets ≡ targetsTo c n
+  unfolding sumTo
+  marked-all {j} {targets} g h = let z : j ≡ 0 = omega arith in omega (arith, g .marks, ap (λ i. targets * 2 ^ i) z, ap (targetsTo c) z)

@@ -5,6 +5,7 @@ use mathlib.Core.Logic.{⊎-elim}
 use mathlib.Core.Bool.{Bool, true}
 use mathlib.Core.List.{List}
 use native.Mathlib.Omega.{arith}
+use lib.Count.{ones}
 use lib.ListN.{length, getD, set, take, replicate, length-set, length-replicate, List·getD-eq-default}
 use lib.Seq.{ext-getD, getD-set-same, getD-set-other, getD-take, length-take-le}
 use borrow.Author.Tests.{ne-eqb}
@@ -20,6 +21,8 @@ use Rattle.engines.specs.Filled.{Columns, blend, targetsTo, Filled}
 use Rattle.engines.specs.Row.{Summable, Became}
 use Rattle.engines.specs.First.{Packable, PackedFrom, Unfinished}
 use Rattle.engines.proofs.Loop.{zeros}
+use Rattle.engines.proofs.Places.{place-most}
+use Rattle.engines.proofs.Fill.{weighed, count-ones, count-place, bit-some}
 use Rattle.engines.proofs.Along.{blend-none}
 use Rattle.engines.proofs.Unpacked.{unpacked-length, unpacked-weight, by-column, goal-stands, trap-stands, unknown-stands, reward-stands}
 use Rattle.engines.proofs.Merging.{whole-weight, whole-front, whole-packed}
@@ -89,13 +92,44 @@ module _ {live : ℕ} {p : List ℕ} (h : Packable live p) (x : List ℕ) (copy 
   copied-past : (j : ℕ) → n ≤ j → getD x j 0 ≡ 0
   copied-past j l = copy j ∙ List·getD-eq-default (take n p) 0 (omega (arith, length-take-le n p (omega arith)))
 
-  pub copied-columns : Columns live x
+  copied-columns : Columns live x
   copied-columns =
       record {
         fits = λ j.
             ⊎-elim (λ (l : j < n). omega (arith, copied-at j l, h .fits j l)) (λ (l : n ≤ j). omega (arith, copied-past j l)) (below j n);
         none = λ j z. ⊎-elim (λ (l : j < n). copied-at j l ∙ h .outside j l z) (copied-past j) (below j n);
       }
+
+  -- Only the columns that hold a weight are gone over: all.
+  module _ {all : ℕ} (e : all ≡ targetsTo (cell (take n p)) (length (take n p))) where
+    long : length (take n p) ≡ n
+    long = length-take-le n p (omega arith)
+
+    pub occupied-columns : Columns all x
+    occupied-columns =
+        record {
+          fits = copied-columns .fits;
+          none = λ j z.
+              ⊎-elim
+              (λ (l : j < n).
+              copy j
+              ∙ weighed (cell (take n p) j) (λ b. b)
+              (λ b. absurd (omega (arith, z, ap (λ s. bit s j) e, bit-some (cell (take n p)) (length (take n p)) j (omega (arith, long)) b))))
+              (copied-past j)
+              (below j n);
+        }
+
+    pub occupied-room : weightsAt + ones all ≤ length p
+    occupied-room =
+        let m = length (take n p) in
+        omega (
+          arith,
+          h .room,
+          ap ones e,
+          count-ones (cell (take n p)) m,
+          count-place (cell (take n p)) live (λ i z. sym (copy i) ∙ copied-columns .none i z) m,
+          place-most live m,
+        )
 
   abbrev columns : ℕ → ℕ
   columns = blend (width mostStates) 1 0 x (replicate (width mostStates) 0)

@@ -1,20 +1,22 @@
 // The first rows, made from the chain: the weights are gathered by columns, what is missing is Unknown, then each live row is packed and settled.
 ghost use mathlib.Core.Path.{_≡_};
-ghost use Prim.Native.Nat.{_<_, _≤_};
+ghost use Prim.Native.Nat.{ℕ, _<_, _≤_};
 ghost use lib.Dec.{eqb};
 ghost use lib.ListN.{length};
 ghost use Rattle.meaning.specs.Number.{bit};
 ghost use Rattle.meaning.specs.Chain.{mostStates};
-ghost use Rattle.meaning.specs.Row.{width};
+ghost use Rattle.meaning.specs.Row.{cell, width};
 ghost use Rattle.meaning.specs.Refusal.{workSize};
 ghost use Rattle.meaning.specs.Step.{first, unknown};
 ghost use Rattle.engines.specs.Packed.{statesOf};
+ghost use Rattle.engines.specs.Filled.{targetsTo};
 ghost use Rattle.engines.specs.Row.{Became};
 ghost use Rattle.engines.specs.Table.{partAt, Placed, Renewed};
 ghost use Rattle.survey.specs.Sets.{chainOf, setsOf};
 ghost use Rattle.engines.specs.First.{Packable, PackedFrom, finished, finishedDivisor, Unfinished, finishedAt, Finishable, Makeable};
 ghost use Rattle.engines.specs.Pay.{pays};
 ghost use Rattle.engines.specs.Turn.{Made};
+use crate::bits::some;
 use crate::gather::TRAP_BEHIND;
 use crate::gather::UNKNOWN_BEHIND;
 use crate::gather::add_missing;
@@ -35,12 +37,27 @@ use chain::Chain;
 use chain::set::holds;
 use chain::table::at;
 
-// Packs a row that was gathered by columns in its own part, with what it earns. Its weights are to states of the set live.
-fn pack(part: &mut [u64], live: u64, earns: u64)
-    requires { ⌜ Packable live (now part) ⌝ }
+// The set of the columns that hold a weight, from the last one down, so that no column's bit has to be shifted there.
+fn occupied(columns: &[u64]) -> u64
+    requires { ⌜ length (now columns) ≤ mostStates ⌝ }
+    ensures { λ r. let c = now (columns .entry) in ⌜ r ≡ targetsTo (cell c) (length c) ⌝ }
+{
+    let mut targets = 0;
+    let mut j = columns.len();
+    while 0 < j {
+        j -= 1;
+        targets = targets * 2 + some(columns[j]) as u64;
+    }
+    targets
+}
+
+// Packs a row that was gathered by columns in its own part, with what it earns. Its weights are to states of some set, for which there is room.
+fn pack(part: &mut [u64], earns: u64)
+    requires { ⌜ ((live : ℕ) × Packable live (now part)) ⌝ }
     ensures { λ _. ⌜ PackedFrom earns (now (part .entry)) (now (part .exit)) ⌝ }
 {
     let n = part.len() - Chain::BESIDE;
+    let all = occupied(&part[..n]);
     let x = load(&part[..n]);
     let goal = part[n];
     let trap = part[n + TRAP_BEHIND];
@@ -51,20 +68,20 @@ fn pack(part: &mut [u64], live: u64, earns: u64)
     part[TRAP] = trap;
     part[UNKNOWN] = unknown;
     let none = [0u64; Chain::WIDTH];
-    let t = weights(part, live, &x, &none, Chain::WIDTH, 1, 0);
+    let t = weights(part, all, &x, &none, Chain::WIDTH, 1, 0);
     part[0] = t;
 }
 
 // Packs the gathered row of a live state with what it earns, and settles that. Nothing was gathered for another state.
-fn finish(part: &mut [u64], alive: bool, live: u64, earns: u64, rounding: bool) -> Settled
-    requires { ⌜ Unfinished rounding (statesOf (now part)) alive live earns (now part) ⌝ }
+fn finish(part: &mut [u64], alive: bool, earns: u64, rounding: bool) -> Settled
+    requires { ⌜ ((live : ℕ) × Unfinished rounding (statesOf (now part)) alive live earns (now part)) ⌝ }
     ensures { λ r.
         let z = now (part .entry) in
         let n = statesOf z in
         ⌜ Became rounding n (finished rounding n alive earns z) (finishedDivisor n alive earns z) (now (part .exit)) r ⌝ }
 {
     if alive {
-        pack(part, live, earns);
+        pack(part, earns);
         return settle(part, rounding);
     }
     Settled {
@@ -92,7 +109,7 @@ fn finish_row(
 {
     let a = row_start(n, i);
     let e = a + n + Chain::BESIDE;
-    finish(&mut work[a..e], holds(live, i), live, earns, rounding)
+    finish(&mut work[a..e], holds(live, i), earns, rounding)
 }
 
 // Finishes each row with what its state earns, up to the first that does not fit. Answers whether all fit; no record is of a first row, so the

@@ -10,7 +10,7 @@ finish-requires c κs =
     let a = s .args in
     let h = s .pre in
     let w = a .work .now in
-    rw (lent (a .n) (a .i) _ (b .row-start .ensures .0) w, states-row (a .n) w (h .0) (a .i) (h .2), c .holds .ensures) (h .3)
+    (a .live, rw (lent (a .n) (a .i) _ (b .row-start .ensures .0) w, states-row (a .n) w (h .0) (a .i) (h .2), c .holds .ensures) (h .3))
 
 returns : tie.Need-returns
 returns c =

@@ -1,28 +1,36 @@
 use Prim.Native.Nat.{_≤_}
 use mathlib.Core.Path.{_≡_, refl, sym, _∙_}
 use native.Mathlib.Omega.{arith}
-use lib.ListN.{length, length-set}
+use lib.ListN.{length, take, length-set}
 use lib.Seq.{length-take-le}
 use borrow.Author.Needs.{needs}
 use Rattle.engines.specs.Packed.{weightsAt, statesOf}
-use Rattle.engines.proofs.Packing.{fronted, none-columns, copied-columns, packed-from}
+use Rattle.engines.proofs.Packing.{fronted, none-columns, occupied-columns, occupied-room, packed-from}
 use Rattle.engines.proofs.first.pack.Statement.{statement}
 use Rattle.engines.proofs.first.pack.Tie as tie
 
 sub-n : tie.Need-sub-n
-sub-n c = let h = c .before .pre in omega (arith, h .room)
+sub-n c = let h = c .before .pre .1 in omega (arith, h .room)
+
+-- The columns of the states are as many.
+taken : (c : tie.Start) → let p = c .args .part .now in length (take (statesOf p) p) ≡ statesOf p
+taken c = length-take-le (statesOf (c .args .part .now)) (c .args .part .now) (omega arith)
+
+slice-aggregate-occupied : tie.Need-slice-aggregate-occupied
+slice-aggregate-occupied c = sym (taken (c .before .before))
+
+occupied-requires : tie.Need-occupied-requires
+occupied-requires c κs = omega (arith, c .before .before .pre .1 .few, taken (c .before .before))
 
 slice-aggregate-load : tie.Need-slice-aggregate-load
-slice-aggregate-load c = sym (length-take-le _ (c .before .before .args .part .now) (omega arith))
+slice-aggregate-load c = sym (taken (c .before .before .before .before))
 
 load-requires : tie.Need-load-requires
-load-requires c κs =
-    let s = c .before .before in
-    omega (arith, s .pre .few, length-take-le (statesOf (s .args .part .now)) (s .args .part .now) (omega arith))
+load-requires c κs = omega (arith, c .before .before .before .before .pre .1 .few, taken (c .before .before .before .before))
 
 -- The part has room for all numbers before the weights.
 room : (c : tie.After-clear) → weightsAt ≤ length (c .clear .last .0)
-room c = omega (arith, c .clear .kept .0, c .before .before .before .before .before .before .before .before .pre .room)
+room c = omega (arith, c .clear .kept .0, c .before .before .before .before .before .before .before .before .before .before .pre .1 .room)
 
 slice-write-part-2 : tie.Need-slice-write-part-2
 slice-write-part-2 c = simp length-set (omega (arith, room (c .before .before)))
@@ -37,10 +45,18 @@ weights-requires : tie.Need-weights-requires
 weights-requires c κs =
     let k = c .before .before .before .before .before in
     let d = k .before .before .before .before .before in
-    let s = d .before .before .before in
-    let h = s .pre in
+    let o = d .before .before in
+    let s = o .before .before .before in
+    let h = s .pre .1 in
     let a = fronted (s .args .earns) (s .args .part .now) (k .clear .ensures) (omega (arith, h .room)) in
-    (omega (arith, a .len, h .room), omega arith, omega arith, copied-columns h _ (d .load .ensures), none-columns _, a .past)
+    let copy = d .load .ensures in (
+      omega (arith, a .len, occupied-room h (d .load .result) copy (o .occupied .ensures)),
+      omega arith,
+      omega arith,
+      occupied-columns h (d .load .result) copy (o .occupied .ensures),
+      none-columns _,
+      a .past,
+    )
 
 -- The part is as long as it was.
 long : (c : tie.After-weights) → length (c .weights .last .0) ≡ length (c .before .before .before .before .before .before .clear .last .0)
@@ -61,8 +77,8 @@ returns c =
     let w = c .before .before in
     let k = w .before .before .before .before .before .before in
     let d = k .before .before .before .before .before in
-    let s = d .before .before .before in
-    let h = s .pre in
+    let s = d .before .before .before .before .before in
+    let h = s .pre .1 in
     let a = fronted (s .args .earns) (s .args .part .now) (k .clear .ensures) (omega (arith, h .room)) in
     packed-from h (d .load .result) (d .load .ensures) a (w .weights .ensures) refl
 
@@ -71,6 +87,9 @@ pack-spec =
     tie.close
     (tie.spec
     sub-n
+    (λ c. search needs)
+    slice-aggregate-occupied
+    occupied-requires
     (λ c. search needs)
     slice-aggregate-load
     load-requires
