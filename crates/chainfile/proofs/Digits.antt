@@ -1,5 +1,5 @@
 -- A number that is read byte by byte, the least byte first.
-use Prim.Native.Nat.{ℕ, _+_, _*_, _^_, _≤_, _<_}
+use Prim.Native.Nat.{ℕ, zero, suc, _+_, _*_, _^_, _≤_, _<_}
 use mathlib.Core.Path.{_≡_, refl, sym, ap, _∙_}
 use mathlib.Core.List.{List}
 use lib.ListN.{length, getD, List·getD-eq-default}
@@ -50,3 +50,8 @@ past bytes at width h =
 
 pub power : (width : ℕ) → 0 < 256 ^ width
 power width = pow-le-pow-right {n = 256} (omega arith) {i = 0} {j = width} (omega arith)
+
+-- What counts nothing may be left out.
+pub stays : (f : ℕ → ℕ) (n k : ℕ) → ((j : ℕ) → n ≤ j → f j ≡ 0) → sumTo f n ≡ sumTo f (n + k)
+stays f n zero h = let e : n ≡ n + zero = omega arith in ap (sumTo f) e
+stays f n (suc k) h = omega (arith, stays f n k h, sum-next f (n + k) (n + suc k) (omega arith), h (n + k) (omega arith))

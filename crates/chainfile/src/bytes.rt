@@ -23,23 +23,25 @@ pub fn byte(kept: &[u8], at: usize) -> u64
     0
 }
 
-// The number in the first `width` bytes, little-endian.
-fn first_number(bytes: &[u8], width: usize) -> u64
-    requires { ⌜ width ≤ 4 ⌝ }
-    ensures { λ r. ⌜ (r ≡ sumTo (λ k. getD (now (bytes .entry)) k 0 * 256 ^ k) width) × (r < 256 ^ width) ⌝ }
+// The number in a few bytes, little-endian.
+fn whole_number(bytes: &[u8]) -> u64
+    requires { ⌜ length (now bytes) ≤ 4 ⌝ }
+    ensures { λ r.
+        let b = now (bytes .entry) in
+        ⌜ (r ≡ sumTo (λ k. getD b k 0 * 256 ^ k) (length b)) × (r < 256 ^ length b) ⌝ }
 {
     let mut number = 0;
     let mut unit = 1;
     let mut i = 0;
-    while i < width {
-        number += byte(bytes, i) * unit;
+    while i < bytes.len() {
+        number += wide(bytes[i]) * unit;
         unit *= 256;
         i += 1;
     }
     number
 }
 
-// The number in `width` bytes from byte `at` on. What is kept is cut there once, so that its bytes are not tested against the whole each.
+// The number in `width` bytes from byte `at` on. Where all of them are kept, the compiler sees how many they are, and reads them at once.
 pub(crate) fn number(kept: &[u8], at: usize, width: usize) -> u64
     requires { ⌜ width ≤ 4 ⌝ }
     ensures { λ r. ⌜ (r ≡ numberAt (input (now (kept .entry)) 0) at width) × (r < 256 ^ width) ⌝ }
@@ -47,7 +49,10 @@ pub(crate) fn number(kept: &[u8], at: usize, width: usize) -> u64
     if kept.len() < at {
         return 0;
     }
-    first_number(&kept[at..], width)
+    if kept.len() - at < width {
+        return whole_number(&kept[at..]);
+    }
+    whole_number(&kept[at..at + width])
 }
 
 // Number i of a row of numbers of 4 bytes.
