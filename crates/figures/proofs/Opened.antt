@@ -58,11 +58,11 @@ Fits f edges = Accepted f → edgeSize * headEdges f ≤ length edges
 pub largest : (f : Input) → Fits f (replicate (edgeSize * mostEdges) 0)
 largest f w = omega (arith, length-replicate {A = ℕ} (edgeSize * mostEdges) 0, bounded f (w .blocks 0 (omega arith)))
 
--- A file of four blocks has a head, a block of states or more, and so two of edges at most.
-pub small : (f : Input) → inputLength f ≤ 4 * blockSize → Fits f (replicate (edgeSize * (2 * fullBlock)) 0)
+-- A file of eight blocks has a head, a block of states or more, and so six of edges at most.
+pub small : (f : Input) → inputLength f ≤ 8 * blockSize → Fits f (replicate (edgeSize * (6 * fullBlock)) 0)
 small f h w =
     let total : inputLength f ≡ blockSize * demanded f = stable _ _ (w .total) in
-    omega (arith, total, length-replicate {A = ℕ} (edgeSize * (2 * fullBlock)) 0, bounded f (w .blocks 0 (omega arith)))
+    omega (arith, total, length-replicate {A = ℕ} (edgeSize * (6 * fullBlock)) 0, bounded f (w .blocks 0 (omega arith)))
 
 pub room : (f : Input) (edges : List ℕ) → Fits f edges → Accepted f → Narrow f (made edges) → ⊥
 room f edges fits w s =

@@ -35,13 +35,13 @@ pub enum Question {
     Report,
 }
 
-// The bytes of the longest file of four blocks, and the edge table that it may need: beside a head and states it has two blocks of edges at most.
-const SHORT: usize = 4 * layout::BLOCK;
+// The bytes of the longest file of eight blocks, and the edge table that it may need: beside a head and states it has six blocks of edges at most.
+const SHORT: usize = 8 * layout::BLOCK;
 
-const FEW: usize = edge::SIZE * (2 * layout::FULL);
+const FEW: usize = edge::SIZE * (6 * layout::FULL);
 
 fn long(length: usize, more: u64) -> bool
-    ensures { λ r. ⌜ decides (4 * blockSize < length + more) r ⌝ }
+    ensures { λ r. ⌜ decides (8 * blockSize < length + more) r ⌝ }
 {
     if SHORT < length {
         return true;

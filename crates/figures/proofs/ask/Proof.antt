@@ -18,7 +18,7 @@ asked-requires-2 : tie.Need-asked-requires-2
 asked-requires-2 c κs =
     let e = c .before in
     let g = f (e .before .before .before) in
-    let short : 4 * blockSize < inputLength g → ⊥ = fails (4 * blockSize < inputLength g) (e .before .long .ensures) (e .if1 .left) in
+    let short : 8 * blockSize < inputLength g → ⊥ = fails (8 * blockSize < inputLength g) (e .before .long .ensures) (e .if1 .left) in
     small g (omega arith)
 
 pub ask-spec : {M : Type 1} → statement M
