@@ -97,7 +97,10 @@ extern "C" {
  */
 #define EGORSTREAM_NO_FIT UINT32_C(12)
 
-/* The file is damaged or is no chain file: fetch or write it again. */
+/*
+ * The file is damaged or is no chain file: fetch or write it again. Where only blocks of edges
+ * are damaged, the program salvage still gives bounds.
+ */
 
 /* The file is empty, or its length is no multiple of 512. */
 #define EGORSTREAM_FILE_LENGTH_WRONG UINT32_C(20)
@@ -144,7 +147,7 @@ extern "C" {
  *
  * The mode is tested first, then the answer's length, then the file, then the chain.
  *
- * Its tables are its own and lie on the stack, some 175,000 bytes: give a thread that calls it a
+ * Its tables are its own and lie on the stack, some 190,000 bytes: give a thread that calls it a
  * stack of 256 KiB or more. It keeps nothing between calls, so threads may call it at the same time.
  */
 uint32_t egorstream_chance(const uint8_t *file, size_t file_length, uint32_t mode,
