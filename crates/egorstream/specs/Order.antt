@@ -1,6 +1,5 @@
 -- What the face of the chosen order for C answers.
 use Prim.Native.Nat.{_+_, _≤_}
-use mathlib.Core.List.{[]}
 use Rattle.meaning.specs.Chain.{mostStates, mostEdges}
 use Rattle.meaning.specs.Choice.{Choice}
 use Rattle.choice.specs.declared.Choice.{Choice as Chosen}

@@ -5,7 +5,7 @@ ghost use lib.Dec.{eqb};
 ghost use lib.ListN.{length};
 ghost use Rattle.meaning.specs.Number.{bit};
 ghost use Rattle.meaning.specs.Chain.{mostStates};
-ghost use Rattle.meaning.specs.Row.{cell, width};
+ghost use Rattle.meaning.specs.Row.{cell};
 ghost use Rattle.meaning.specs.Refusal.{workSize};
 ghost use Rattle.meaning.specs.Step.{first, unknown};
 ghost use Rattle.engines.specs.Packed.{statesOf};

@@ -88,7 +88,8 @@ fn asked(kept: &[u8], more: u64, question: Question, edges: &mut [u64]) -> Figur
     }
 }
 
-// Opens it with tables of its own. To make the largest edge table zero costs as much as the rest of a short file's call, so that it gets a small one.
+// Opens it with tables of its own. To make the largest edge table zero would cost more than the rest of a short file's call, so that it gets a small
+// one.
 pub fn ask(kept: &[u8], more: u64, question: Question) -> Figures
     ensures { λ r. ⌜ FiguresOutcome (input (now (kept .entry)) more) question r ⌝ }
 {

@@ -14,7 +14,7 @@ pub data Count (P : ℕ → Type 0) : ℕ → ℕ → Type 0 where
   one : {n k : ℕ} → P n → Count P n k → Count P (suc n) (suc k)
   skip : {n k : ℕ} → (P n → ⊥) → Count P n k → Count P (suc n) k
 
--- What a survey answers: the two sets, whether the goal may be missed, and how many states are goals and how many are live.
+-- What a survey answers: the two sets, whether a state is reached that has no path to an end, and how many states are goals and how many are live.
 pub record Survey : Type 0 where
   pub number : ℕ
   pub place : ℕ

@@ -16,6 +16,7 @@ mod records;
 mod text;
 
 pub use lines::ANSWER_ROOM;
+pub use lines::BOUNDS_LINE;
 pub use lines::FACE_ROOM;
 pub use lines::REPORT_ROOM;
 pub use lines::STEPS_ROOM;

@@ -21,7 +21,7 @@ const COUNT_LINES: usize = (7 + 2 + 1) + (6 + 4 + 1) + (6 + 2 + 1) + (5 + 2 + 1)
 
 const ANSWER_LINE: usize = 7 + FRACTION + 1;
 
-const BOUNDS_LINE: usize = 7 + FRACTION + 1 + FRACTION + 1;
+pub const BOUNDS_LINE: usize = 7 + FRACTION + 1 + FRACTION + 1;
 
 // What stands in the line of an exact figure, whatever its numbers are: a number of 64 bits has 20 digits.
 const ANSWER: usize = 8 + 10 + 4 + 20;

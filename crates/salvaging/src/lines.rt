@@ -8,15 +8,12 @@ ghost use Rattle.salvaging.specs.Lines.{boundsLine, boundsWidth, numberT
 use chain::Chain;
 use chain::fraction::Fraction;
 use chainfile::layout;
+use report::BOUNDS_LINE;
 use report::pieces::DIGITS;
 use report::pieces::named;
 use report::pieces::put;
 
-// Each line at its longest, and how many lines there are: a file has so many edge blocks.
-const FRACTION: usize = 10 + 1 + 10;
-
-const BOUNDS_LINE: usize = 7 + FRACTION + 1 + FRACTION + 1;
-
+// Each line at its longest, that of the bounds as in the report, and how many lines there are: a file has so many edge blocks.
 const LOST_LINE: usize = 5 + 2 + 1 + 2 + 1;
 
 const SHORT_LINE: usize = 6 + 2 + 1 + 10 + 1;

@@ -122,7 +122,7 @@ module _ (l : Lent) (k : Sets) (right : Right (l .chain) k) where
             )
       ]
 
--- The three entries, the first for its companion too; the sets need be right only where the input is well formed.
+-- The chance, for its companion too, the expected reward and the bounds; the sets need be right only where the input is well formed.
 module _ (l : Lent) (k : Sets) where
   unfoldable pub chance-computed : (x : Entry) → x .order ≡ true → x .short ≡ false → (WellFormed x l → Right (l .chain) k)
       → Computed x l refusal (Stopped (earns plain l) exact l) (ChanceFigure l)

@@ -109,7 +109,7 @@ module _ (x : Entry) (l : Lent) (formed : WellFormed x l) (whole : x .short ≡ 
           (expected-one (formed-fine x l formed whole) (start-in x l formed) sure (exact-reward c k (l .order) ready (earns x l) alive sure _ _ r) h)
           (reduced-small _ _ _ _ some last-reward last-outside r)
 
--- The three entries.
+-- The chance and the expected reward.
 chance-figure : (l : Lent) → WellFormed plain l → ((number place : ℕ) → Stopped (earns plain l) exact l number place → ⊥) → (p q : ℕ) → Chance (l .chain) p q → Small p q
 chance-figure l formed none p q h = go (right-exists (l .chain) (goals-in plain l formed) (from-in plain l formed))
   where
