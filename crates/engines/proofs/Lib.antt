@@ -15,6 +15,7 @@ pub mod Settling
 pub mod Shifts
 pub mod Tables
 pub mod Removal
+pub mod PassingOver
 pub mod Spare
 pub mod Noting
 pub mod Turns

@@ -1,16 +1,17 @@
 -- A table of packed rows in one list, part after part.
 use mathlib.Core.Path.{_≡_}
+use mathlib.Core.Logic.{_⊎_}
 use mathlib.Core.Bool.{Bool, true, false}
 use mathlib.Core.List.{List}
 use Prim.Native.Nat.{ℕ, _*_, _≤_, _<_}
 use lib.ListN.{length, take, drop}
-use Rattle.meaning.specs.Number.{tabFrom}
+use Rattle.meaning.specs.Number.{tabFrom, bit}
 use Rattle.meaning.specs.Chain.{mostStates}
 use Rattle.meaning.specs.Row.{Row, cell, width, exact}
 use Rattle.meaning.specs.Refusal.{workSize}
 use Rattle.meaning.specs.Step.{Table, row}
 use Rattle.meaning.specs.Stop.{Large}
-use Rattle.engines.specs.Packed.{unpacked, Packed}
+use Rattle.engines.specs.Packed.{targetsOf, unpacked, Packed}
 use Rattle.engines.specs.Row.{Fit, Tested}
 use Rattle.engines.specs.declared.row.Settled.{Settled}
 
@@ -56,6 +57,16 @@ pub record Placed (b : Bool) (n : ℕ) (w : List ℕ) (i : ℕ) (r : Row) (taken
   pub put : Put n w i r v
   pub tested : Tested b n r (answer .fits)
   pub told : answer .divisor ≡ taken
+
+-- The removal of s changes row k: it is that of s, or has a weight to s.
+abbrev pub Changing : ℕ → ℕ → List ℕ → ℕ → Type 0
+Changing n s w k = (k ≡ s) ⊎ (bit (targetsOf (partAt n w k)) s ≡ 1)
+
+-- It changes no row from i on and before j.
+pub record PassedOver (n s : ℕ) (w : List ℕ) (i j : ℕ) : Type 0 where
+  pub onward : i ≤ j
+  pub inside : j ≤ n
+  pub same : (k : ℕ) → i ≤ k → k < j → Changing n s w k → ⊥
 
 -- In v each row k of w has become g k, is packed, and fits; or some g k does not.
 pub record Renewed (b : Bool) (g : ℕ → Row) (n : ℕ) (w v : List ℕ) (answer : Bool) : Type 0 where

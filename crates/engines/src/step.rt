@@ -1,18 +1,19 @@
 // A step: one state is removed from the table, one packed row at a time.
 ghost use mathlib.Core.Path.{_≡_};
-ghost use mathlib.Core.Bool.{true};
+ghost use mathlib.Core.Logic.{_⊎_};
+ghost use mathlib.Core.Bool.{true, false};
 ghost use Prim.Native.Nat.{ℕ, _<_, _≤_, max};
 ghost use lib.ListN.{length};
 ghost use lib.Dec.{eqb};
 ghost use Rattle.meaning.specs.Chain.{mostStates, M};
-ghost use Rattle.meaning.specs.Number.{largest};
+ghost use Rattle.meaning.specs.Number.{largest, bit, decides};
 ghost use Rattle.meaning.specs.Row.{width, divisor, settled};
 ghost use Rattle.meaning.specs.Refusal.{workSize};
 ghost use Rattle.meaning.specs.Step.{combined, renewed, outside, removed};
 ghost use Rattle.meaning.specs.Steps.{takenOut, largestTaken};
-ghost use Rattle.engines.specs.Packed.{statesOf, unpacked, Packed, Room};
+ghost use Rattle.engines.specs.Packed.{targetsOf, statesOf, unpacked, Packed, Room};
 ghost use Rattle.engines.specs.Row.{Fit, Removable, Became};
-ghost use Rattle.engines.specs.Table.{partAt, rowAt, tableOf, Placed, Renewed, Fitting};
+ghost use Rattle.engines.specs.Table.{partAt, rowAt, tableOf, Placed, Changing, PassedOver, Renewed, Fitting};
 ghost use Rattle.engines.specs.Turn.{Made};
 use crate::merge::replace;
 use crate::part::end;
@@ -48,7 +49,7 @@ fn change(
     settle(part, rounding)
 }
 
-// A row once s is removed: the row of s itself where `own` holds. Of a row with no weight to s only the targets are read.
+// A row that changes, once s is removed: the row of s itself where `own` holds, else one with a weight to s.
 fn renew(
     part: &mut [u64],
     own: bool,
@@ -59,7 +60,8 @@ fn renew(
     rounding: bool,
 ) -> Settled
     requires { let n = statesOf (now part) in
-        ⌜ (n ≤ mostStates) × Removable rounding n s d (now pivot) (now y) × Packed n (now part) × Fit rounding n (unpacked n (now part)) × Room (length (now part)) (now part) (now pivot) ⌝ }
+        ⌜ (n ≤ mostStates) × Removable rounding n s d (now pivot) (now y) × Packed n (now part) × Fit rounding n (unpacked n (now part)) × Room (length (now part)) (now part) (now pivot)
+        × (own ≡ false → bit (targetsOf (now part)) s ≡ 1) ⌝ }
     ensures { λ r.
         let z = now (part .entry) in
         let n = statesOf z in
@@ -68,12 +70,6 @@ fn renew(
 {
     if own {
         clear(part);
-        return Settled {
-            fits: true,
-            divisor: 1,
-        };
-    }
-    if !holds(part[0], s) {
         return Settled {
             fits: true,
             divisor: 1,
@@ -96,7 +92,7 @@ fn renew_row(
     requires { let w = now work in
         let z = partAt n w i in
         ⌜ (workSize n ≤ length w) × (n ≤ mostStates) × (i < n) × Removable rounding n s d (now pivot) (now y) × Packed n z
-        × Fit rounding n (rowAt n w i) × Room (width n) z (now pivot) ⌝ }
+        × Fit rounding n (rowAt n w i) × Room (width n) z (now pivot) × Changing n s w i ⌝ }
     ensures { λ r.
         let w = now (work .entry) in
         let p = unpacked n (now (pivot .entry)) in
@@ -128,7 +124,33 @@ fn larger(a: u64, b: u64) -> u64
     if a < b { b } else { a }
 }
 
-// Renews each row, up to the first that does not fit.
+// Whether the removal of s changes the row of state i, which has these targets: it is that of s, or has a weight to s.
+fn changes(targets: u64, i: usize, s: usize) -> bool
+    ensures { λ r. ⌜ decides ((i ≡ s) ⊎ (bit targets s ≡ 1)) r ⌝ }
+{
+    if i == s {
+        return true;
+    }
+    holds(targets, s)
+}
+
+// The first row from row i on that the removal of s changes, n where there is none. Most rows are passed over here, with a look at their targets.
+fn next(work: &[u64], n: usize, s: usize, i: usize) -> usize
+    requires { ⌜ (workSize n ≤ length (now work)) × (n ≤ mostStates) × (i ≤ n) ⌝ }
+    ensures { λ r. let w = now (work .entry) in ⌜ PassedOver n s w i r × (r < n → Changing n s w r) ⌝ }
+{
+    let mut k = i;
+    while k < n {
+        let a = row_start(n, k);
+        if changes(work[a], k, s) {
+            return k;
+        }
+        k += 1;
+    }
+    k
+}
+
+// Renews each row that changes, up to the first that does not fit.
 fn renew_all(
     work: &mut [u64],
     n: usize,
@@ -146,14 +168,14 @@ fn renew_all(
         × (r .fits ≡ true → r .divisor ≡ largest (λ k. takenOut s d p (eqb k s) (rowAt n w k)) n) ⌝ }
 {
     let mut divisor = 1;
-    let mut i = 0;
+    let mut i = next(work, n, s, 0);
     while i < n {
         let r = renew_row(work, i, n, s, d, pivot, y, rounding);
         if !r.fits {
             return r;
         }
         divisor = larger(divisor, r.divisor);
-        i += 1;
+        i = next(work, n, s, i + 1);
     }
     Settled {
         fits: true,

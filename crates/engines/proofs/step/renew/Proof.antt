@@ -1,13 +1,11 @@
-use Prim.Native.Nat.{_<_}
 use mathlib.Core.Path.{_≡_, sym, ap, _∙_}
 use native.Mathlib.Omega.{arith}
 use lib.ListN.{replicate}
 use borrow.Author.Needs.{needs}
-use borrow.Author.Tests.{not-true, not-false, eqb-true, eqb-false}
 use Rattle.meaning.specs.Row.{cell, width}
 use Rattle.engines.specs.Packed.{statesOf, unpacked}
 use Rattle.engines.proofs.Laws.{packed-bit, packed-none, unpacked-none}
-use Rattle.engines.proofs.Rows.{renewed-own, renewed-none, renewed-some, taken-own, taken-none, taken-some, tested-fit, became, noRow-fit}
+use Rattle.engines.proofs.Rows.{renewed-own, renewed-some, taken-own, taken-some, tested-fit, became, noRow-fit}
 use Rattle.engines.proofs.step.renew.Statement.{statement}
 use Rattle.engines.proofs.step.renew.Tie as tie
 
@@ -28,43 +26,21 @@ returns c =
     (rw (unpacked-none n) (tested-fit (noRow-fit (a .rounding) n)))
     (sym (taken-own (a .s) (a .d) p r (a .own) (y .if1 .taken))))
 
--- Whether the row has a weight to s: its targets say so.
-none-there : (c : tie.Then2) → let a = c .before .before .before .before .before .args in cell (unpacked (statesOf (a .part .now)) (a .part .now)) (a .s) ≡ 0
-none-there c =
-    let t = c .before .before .before .before .before in
-    let a = t .args in
-    let h = t .pre in
-    let d = eqb-false _ _ (sym (c .before .holds .ensures) ∙ not-true _ (c .if2 .taken)) in
-    let z : 0 < cell (unpacked (statesOf (a .part .now)) (a .part .now)) (a .s) → ⊥ = λ l. d (packed-bit (h .2) (a .s) (h .1 .state) .1 l) in
-    omega arith
-
-some-there : (c : tie.Else2) → let a = c .before .before .before .before .before .args in cell (unpacked (statesOf (a .part .now)) (a .part .now)) (a .s) ≡ 0 → ⊥
+-- The row has a weight to s: its targets say so.
+some-there : (c : tie.Else1) → let a = c .before .before .args in cell (unpacked (statesOf (a .part .now)) (a .part .now)) (a .s) ≡ 0 → ⊥
 some-there c e =
-    let t = c .before .before .before .before .before in
+    let t = c .before .before in
     let h = t .pre in
-    omega (arith, packed-bit (h .2) (t .args .s) (h .1 .state) .0 (eqb-true _ _ (sym (c .before .holds .ensures) ∙ not-false _ (c .if2 .left))))
+    omega (arith, packed-bit (h .2) (t .args .s) (h .1 .state) .0 (h .5 (c .if1 .left)))
 
 returns-2 : tie.Need-returns-2
 returns-2 c =
-    let y = c .before .before .before in
-    let t = y .before .before in
-    let a = t .args in
-    let h = t .pre in
-    let n = statesOf (a .part .now) in
-    let p = unpacked n (a .pivot .now) in
-    let r = unpacked n (a .part .now) in
-    became (sym (renewed-none (a .rounding) n (a .s) (a .d) p r (a .own) (y .if1 .left) (none-there c))) (h .2) (tested-fit (h .3))
-    (sym (taken-none (a .s) (a .d) p r (a .own) (y .if1 .left) (none-there c)))
-
-returns-3 : tie.Need-returns-3
-returns-3 c =
-    let z = c .before .before .before .before in
-    let y = z .before .before .before in
+    let y = c .before .before .before .before in
     let a = y .before .before .args in
     let n = statesOf (a .part .now) in
     let p = unpacked n (a .pivot .now) in
     let r = unpacked n (a .part .now) in
-    rw (renewed-some (a .rounding) n (a .s) (a .d) p r (a .own) (y .if1 .left) (some-there z), taken-some (a .s) (a .d) p r (a .own) (y .if1 .left) (some-there z))
+    rw (renewed-some (a .rounding) n (a .s) (a .d) p r (a .own) (y .if1 .left) (some-there y), taken-some (a .s) (a .d) p r (a .own) (y .if1 .left) (some-there y))
     (c .before .before .change .ensures)
 
 pub renew-spec : {M : Type 1} → statement M
@@ -74,9 +50,6 @@ renew-spec =
     (λ c κs. search needs)
     (λ c. search needs)
     returns
-    (λ c. search needs)
-    (λ c. search needs)
-    returns-2
     (λ c κs. search needs)
     (λ c. search needs)
-    returns-3)
+    returns-2)

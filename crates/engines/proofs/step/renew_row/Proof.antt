@@ -1,4 +1,7 @@
+use mathlib.Core.Path.{_≡_}
+use mathlib.Core.Logic.{⊎-elim}
 use borrow.Author.Needs.{needs}
+use borrow.Author.Tests.{eqb-false}
 use Rattle.engines.proofs.Tables.{lent, row-placed, length-row, states-row}
 use Rattle.engines.proofs.step.renew_row.Statement.{statement}
 use Rattle.engines.proofs.step.renew_row.Tie as tie
@@ -11,7 +14,7 @@ renew-requires c κs =
     let h = s .pre in
     let w = a .work .now in
     rw (lent (a .n) (a .i) _ (b .row-start .ensures .0) w, states-row (a .n) w (h .0) (a .i) (h .2))
-    (h .1, h .3, h .4, h .5, rw (length-row (a .n) w (h .0) (a .i) (h .2)) (h .6))
+    (h .1, h .3, h .4, h .5, rw (length-row (a .n) w (h .0) (a .i) (h .2)) (h .6), λ o. ⊎-elim (λ (e : a .i ≡ a .s). absurd (eqb-false _ _ o e)) (λ t. t) (h .7))
 
 returns : tie.Need-returns
 returns c =
