@@ -9,8 +9,8 @@ use native.Mathlib.Numerals.{add-one}
 use native.Mathlib.Decide.{decLt}
 use native.Mathlib.Omega.{arith}
 use lib.Dec.{eqb}
-use lib.ListN.{length, getD, take, drop, set, replicate, length-set, length-append, length-drop, length-replicate, getD-replicate, List·getD-append}
-use lib.Seq.{drop-at, getD-set-same, getD-set-other, take-set-le, take-set-lt, drop-set-lt, drop-set-add}
+use lib.ListN.{length, getD, take, drop, set, replicate, length-set, length-append, length-drop, length-replicate, getD-replicate, take-append-drop, List·getD-append}
+use lib.Seq.{length-take-le, getD-take, ext-getD, drop-at, getD-set-same, getD-set-other, take-set-le, take-set-lt, drop-set-lt, drop-set-add}
 use borrow.Author.Tests.{eq-eqb, ne-eqb}
 use Rattle.meaning.specs.Number.{sumTo, only, bit}
 use Rattle.meaning.specs.Chain.{M, edgeCount, from, to, weight, carried, flow, rowSum}
@@ -18,7 +18,7 @@ use Rattle.meaning.specs.Row.{Row, cell, width}
 use Rattle.meaning.specs.Refusal.{workSize}
 use Rattle.meaning.specs.Step.{Sets}
 use Rattle.theory.specs.Numbers.Sum.{same, sum-le, sum-next, sum-up}
-use Rattle.engines.specs.Table.{partAt, Kept}
+use Rattle.engines.specs.Table.{partAt, Blank, Kept}
 use Rattle.engines.specs.Gather.{columnOf, share, Changed, Added, Held, Addable}
 use Rattle.engines.proofs.Tables.{kept-same, kept-more, row-end, row-cell, length-row}
 
@@ -50,6 +50,16 @@ module _ (n : ℕ) (w : List ℕ) (i : ℕ) (b : i < n) (j : ℕ) (h : j < width
         here = ap (take (width n)) (drop-set-add (i * width n) w j x) ∙ take-set-lt (width n) (drop (i * width n) w) j x h;
         other = changed-other x;
       }
+
+-- A table whose numbers are all 0 is zero already.
+pub blank-zeros : (m : ℕ) (w : List ℕ) → m ≤ length w → Blank w → w ≡ replicate m 0 ++ drop m w
+blank-zeros m w h z =
+    let l : length (take m w) ≡ m = length-take-le m w h in
+    let r : length {A = ℕ} (replicate m 0) ≡ m = length-replicate m 0 in
+    let e : take m w ≡ replicate m 0 =
+    ext-getD 0 (take m w) (replicate m 0) (l ∙ sym r)
+    (λ q b. let c : q < m = omega (arith, l) in getD-take m w q 0 c ∙ z q ∙ sym (getD-replicate m q 0 0 c)) in
+    sym (take-append-drop m w) ∙ ap (λ (x : List ℕ). x ++ drop m w) e
 
 -- The work table w once its table is zero.
 module _ (n : ℕ) (w v : List ℕ) (room : workSize n ≤ length w) (e : v ≡ replicate (workSize n) 0 ++ drop (workSize n) w) where

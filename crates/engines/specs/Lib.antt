@@ -12,4 +12,5 @@ pub mod Pay
 pub mod Gather
 pub mod First
 pub mod Run
+pub mod Own
 pub mod Trace

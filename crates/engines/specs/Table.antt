@@ -4,7 +4,7 @@ use mathlib.Core.Logic.{_⊎_}
 use mathlib.Core.Bool.{Bool, true, false}
 use mathlib.Core.List.{List}
 use Prim.Native.Nat.{ℕ, _*_, _≤_, _<_}
-use lib.ListN.{length, take, drop}
+use lib.ListN.{length, getD, take, drop}
 use Rattle.meaning.specs.Number.{tabFrom, bit}
 use Rattle.meaning.specs.Chain.{mostStates}
 use Rattle.meaning.specs.Row.{Row, cell, width, exact}
@@ -14,6 +14,10 @@ use Rattle.meaning.specs.Stop.{Large}
 use Rattle.engines.specs.Packed.{targetsOf, unpacked, Packed}
 use Rattle.engines.specs.Row.{Fit, Tested}
 use Rattle.engines.specs.declared.row.Settled.{Settled}
+
+-- All numbers of a table are 0.
+abbrev pub Blank : List ℕ → Type 0
+Blank w = (q : ℕ) → getD w q 0 ≡ 0
 
 -- The numbers of row i of the table in w: its own part, and the row that this stands for.
 unfoldable pub partAt : ℕ → List ℕ → ℕ → List ℕ

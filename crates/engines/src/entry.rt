@@ -13,6 +13,8 @@ ghost use Rattle.engines.specs.Answer.{toldChance, toldBounds};
 ghost use Rattle.engines.specs.Log.{Logged};
 ghost use Rattle.engines.specs.Run.{entered, chanceOf};
 ghost use Rattle.engines.specs.Trace.{Traced};
+ghost use Rattle.engines.specs.Own.{ours, Found, Left};
+ghost use Rattle.engines.specs.Table.{Blank};
 ghost use Rattle.engines.specs.Told.{Rewarded};
 use crate::answer::Bounds;
 use crate::answer::Chance;
@@ -29,7 +31,7 @@ use chain::Chain;
 use chain::fraction::Fraction;
 
 // What the chance and the bounds are read off: these entries are lent no rewards. Of a step list only the length counts here; the caller gives n
-// where none is lent.
+// where none is lent. What is told of the work table holds of a lent one.
 fn unpaid(
     c: Chain,
     denominators: &[u64],
@@ -38,14 +40,15 @@ fn unpaid(
     work: &mut [u64],
     rounding: bool,
     short: bool,
+    own: bool,
     list: usize,
     log: &mut [u64],
 ) -> Course
-    requires { ⌜ Logged (now log) [] × (short ≡ true → rounding ≡ rounds) ⌝ }
+    requires { ⌜ Logged (now log) [] × (short ≡ true → rounding ≡ rounds) × (own ≡ true → Blank (now work)) ⌝ }
     ensures { λ r.
         let l = lent c (now (denominators .entry)) (now (edges .entry)) (now (order .entry)) [] (now (work .entry)) in
         ⌜ ((t : Bool) (k : ℕ) → counted t k (c .states) list
-        → entered (eliminating false t short) rounding (withList k l) (now (work .exit)) (now (log .exit)) r) ⌝ }
+        → Left own (now (work .exit)) (λ w. entered (eliminating false t short) rounding (withList k l) w (now (log .exit)) r)) ⌝ }
 {
     match look(c, denominators, edges, order, work, list, short) {
         Looked::Refused { number, place } => Course::Stops { number, place },
@@ -56,6 +59,7 @@ fn unpaid(
                 rounding,
                 paid: false,
                 short,
+                own,
             };
             let none = [0u64; 0];
             run(e, denominators, edges, order, &none, work, log)
@@ -78,6 +82,35 @@ fn chance_of(course: Course) -> Chance
     }
 }
 
+// The chance of reaching a goal, in lowest terms, with a work table that may be the entry's own.
+fn exactly(
+    c: Chain,
+    denominators: &[u64],
+    edges: &[u64],
+    order: &[u64],
+    work: &mut [u64],
+    own: bool,
+) -> Chance
+    requires { ⌜ (own ≡ true → Blank (now work)) ⌝ }
+    ensures { λ r.
+        let l = lent c (now (denominators .entry)) (now (edges .entry)) (now (order .entry)) [] (now (work .entry)) in
+        ⌜ Left own (now (work .exit)) (ChanceOutcome l (toldChance r)) ⌝ }
+{
+    let mut none = [0u64; 0];
+    chance_of(unpaid(
+        c,
+        denominators,
+        edges,
+        order,
+        work,
+        false,
+        false,
+        own,
+        c.states,
+        &mut none,
+    ))
+}
+
 // The chance of reaching a goal, in lowest terms.
 pub fn chance(
     c: Chain,
@@ -90,21 +123,20 @@ pub fn chance(
         let l = lent c (now (denominators .entry)) (now (edges .entry)) (now (order .entry)) [] (now (work .entry)) in
         ⌜ ChanceOutcome l (toldChance r) (now (work .exit)) ⌝ }
 {
-    let mut none = [0u64; 0];
-    chance_of(unpaid(
-        c,
-        denominators,
-        edges,
-        order,
-        work,
-        false,
-        false,
-        c.states,
-        &mut none,
-    ))
+    exactly(c, denominators, edges, order, work, false)
 }
 
-// The same with a step list by value, for a caller who has room for so many records.
+// The same with a work table of its own, which is made zero once and then thrown away.
+pub fn chance_alone(c: Chain, denominators: &[u64], edges: &[u64], order: &[u64]) -> Chance
+    ensures { λ r.
+        let l = ours c (now (denominators .entry)) (now (edges .entry)) (now (order .entry)) [] in
+        ⌜ Found (ChanceOutcome l) (toldChance r) ⌝ }
+{
+    let mut work = [0u64; Chain::WORK];
+    exactly(c, denominators, edges, order, &mut work, true)
+}
+
+// The chance with a step list by value, for a caller who has room for so many records.
 pub fn trace(
     c: Chain,
     denominators: &[u64],
@@ -124,6 +156,7 @@ pub fn trace(
         edges,
         order,
         work,
+        false,
         false,
         false,
         list,
@@ -162,6 +195,7 @@ pub fn reward(
         rounding: false,
         paid: true,
         short: false,
+        own: false,
     };
     let mut none = [0u64; 0];
     match run(e, denominators, edges, order, rewards, work, &mut none) {
@@ -175,7 +209,7 @@ pub fn reward(
     }
 }
 
-// The bounds of a chain whose rows may fall short or not.
+// The bounds of a chain whose rows may fall short or not, with a work table that may be the entry's own.
 fn between(
     c: Chain,
     denominators: &[u64],
@@ -183,10 +217,12 @@ fn between(
     order: &[u64],
     work: &mut [u64],
     short: bool,
+    own: bool,
 ) -> Bounds
+    requires { ⌜ (own ≡ true → Blank (now work)) ⌝ }
     ensures { λ r.
         let l = lent c (now (denominators .entry)) (now (edges .entry)) (now (order .entry)) [] (now (work .entry)) in
-        ⌜ BoundsOutcomeOf (eliminating false false short) l (toldBounds r) (now (work .exit)) ⌝ }
+        ⌜ Left own (now (work .exit)) (BoundsOutcomeOf (eliminating false false short) l (toldBounds r)) ⌝ }
 {
     let mut none = [0u64; 0];
     match unpaid(
@@ -197,6 +233,7 @@ fn between(
         work,
         true,
         short,
+        own,
         c.states,
         &mut none,
     ) {
@@ -225,10 +262,20 @@ pub fn bounds(
         let l = lent c (now (denominators .entry)) (now (edges .entry)) (now (order .entry)) [] (now (work .entry)) in
         ⌜ BoundsOutcome l (toldBounds r) (now (work .exit)) ⌝ }
 {
-    between(c, denominators, edges, order, work, false)
+    between(c, denominators, edges, order, work, false, false)
 }
 
-// The same of a chain where edges are lost: rows may fall short, and their missing weight goes to Unknown.
+// The same with a work table of its own, which is made zero once and then thrown away.
+pub fn bounds_alone(c: Chain, denominators: &[u64], edges: &[u64], order: &[u64]) -> Bounds
+    ensures { λ r.
+        let l = ours c (now (denominators .entry)) (now (edges .entry)) (now (order .entry)) [] in
+        ⌜ Found (BoundsOutcome l) (toldBounds r) ⌝ }
+{
+    let mut work = [0u64; Chain::WORK];
+    between(c, denominators, edges, order, &mut work, false, true)
+}
+
+// The bounds of a chain where edges are lost: rows may fall short, and their missing weight goes to Unknown.
 pub fn bounds_left(
     c: Chain,
     denominators: &[u64],
@@ -240,5 +287,5 @@ pub fn bounds_left(
         let l = lent c (now (denominators .entry)) (now (edges .entry)) (now (order .entry)) [] (now (work .entry)) in
         ⌜ LeftOutcome l (toldBounds r) (now (work .exit)) ⌝ }
 {
-    between(c, denominators, edges, order, work, true)
+    between(c, denominators, edges, order, work, true, false)
 }

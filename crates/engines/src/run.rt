@@ -1,5 +1,6 @@
 // The elimination, from the first rows to the start's row.
 ghost use mathlib.Core.Path.{_≡_};
+ghost use mathlib.Core.Bool.{true, false};
 ghost use mathlib.Core.List.{[]};
 ghost use Prim.Native.Nat.{_≤_, _<_};
 ghost use Rattle.meaning.specs.Chain.{mostStates};
@@ -7,7 +8,7 @@ ghost use Rattle.meaning.specs.Outcome.{cleared};
 ghost use Rattle.chain.specs.Lent.{lent};
 ghost use Rattle.engines.specs.Packed.{statesOf, unpacked, Packed};
 ghost use Rattle.engines.specs.Row.{Fit};
-ghost use Rattle.engines.specs.Table.{rowAt, Kept, Fitting};
+ghost use Rattle.engines.specs.Table.{rowAt, Blank, Kept, Fitting};
 ghost use Rattle.survey.specs.Sets.{setsOf};
 ghost use Rattle.engines.specs.Pay.{pays};
 ghost use Rattle.engines.specs.Log.{Logged};
@@ -19,19 +20,21 @@ use crate::part::UNKNOWN;
 use crate::step::outside;
 use crate::walk::Walk;
 use crate::walk::eliminate;
-use crate::work::clear_work;
+use crate::work::leave;
 use crate::work::row_start;
 use chain::Chain;
 use chain::set::holds;
 use survey::Sets;
 
-// An elimination: its chain with its sets, whether rows are rounded, whether a turn earns anything, and whether rows may fall short.
+// An elimination: its chain with its sets, whether rows are rounded, whether a turn earns anything, whether rows may fall short, and whether the work
+// table is the entry's own: then it is zero at first, and nobody reads it afterwards.
 pub(crate) struct Elimination {
     pub chain: Chain,
     pub sets: Sets,
     pub rounding: bool,
     pub paid: bool,
     pub short: bool,
+    pub own: bool,
 }
 
 // What the elimination comes to: what the start's row holds at the end, with its D; or what stops it.
@@ -99,7 +102,7 @@ fn follow(
     log: &mut [u64],
 ) -> Course
     requires { let l = lent (e .chain) (now denominators) (now edges) (now order) (now rewards) (now work) in
-        ⌜ Begun (e .rounding) (e .paid) (e .short) l (setsOf (e .sets)) × Logged (now log) [] ⌝ }
+        ⌜ Begun (e .rounding) (e .paid) (e .short) l (setsOf (e .sets)) × Logged (now log) [] × (e .own ≡ true → Blank (now work)) ⌝ }
     ensures { λ r.
         let l = lent (e .chain) (now (denominators .entry)) (now (edges .entry)) (now (order .entry)) (now (rewards .entry)) (now (work .entry)) in
         let pay = pays (e .paid) (l .chain) (l .rewards) in
@@ -132,7 +135,7 @@ fn follow(
     last_of(work, c.states, c.start, e.rounding)
 }
 
-// The elimination, after which the work table is zero.
+// The elimination, after which a lent work table is zero.
 pub(crate) fn run(
     e: Elimination,
     denominators: &[u64],
@@ -143,15 +146,15 @@ pub(crate) fn run(
     log: &mut [u64],
 ) -> Course
     requires { let l = lent (e .chain) (now denominators) (now edges) (now order) (now rewards) (now work) in
-        ⌜ Begun (e .rounding) (e .paid) (e .short) l (setsOf (e .sets)) × Logged (now log) [] ⌝ }
+        ⌜ Begun (e .rounding) (e .paid) (e .short) l (setsOf (e .sets)) × Logged (now log) [] × (e .own ≡ true → Blank (now work)) ⌝ }
     ensures { λ r.
         let l = lent (e .chain) (now (denominators .entry)) (now (edges .entry)) (now (order .entry)) (now (rewards .entry)) (now (work .entry)) in
         let pay = pays (e .paid) (l .chain) (l .rewards) in
-        ⌜ (now (work .exit) ≡ cleared l) × runs pay (e .short) (e .rounding) l r
+        ⌜ (e .own ≡ false → now (work .exit) ≡ cleared l) × runs pay (e .short) (e .rounding) l r
         × Logged (now (log .exit)) (recordsRun pay (e .short) (e .rounding) l (setsOf (e .sets)) (finishedIn (e .chain .states) r)) ⌝ }
 {
     let r = follow(e, denominators, edges, order, rewards, work, log);
     let c = e.chain;
-    clear_work(work, c.states);
+    leave(work, c.states, e.own);
     r
 }

@@ -1,6 +1,6 @@
 -- From what the reader refuses, or the chance entry's companion answers, to the step list of a file.
 use Prim.Native.Nat.{ℕ}
-use mathlib.Core.Path.{_≡_, refl, ap, subst, _∙_}
+use mathlib.Core.Path.{_≡_, ap, subst, _∙_}
 use mathlib.Core.List.{List, []}
 use native.Mathlib.Omega.{arith}
 use lib.ListN.{getD, replicate}
@@ -8,7 +8,7 @@ use Rattle.meaning.specs.Number.{tabFrom}
 use Rattle.meaning.specs.Refusal.{withList}
 use Rattle.meaning.specs.Outcome.{refusal}
 use Rattle.meaning.specs.Block.{Input}
-use Rattle.meaning.specs.File.{FileRefused, plainIn}
+use Rattle.meaning.specs.File.{FileRefused}
 use Rattle.meaning.specs.FileSteps.{file-refused, asked}
 use Rattle.chain.specs.declared.Chain.{Chain}
 use Rattle.engines.specs.Answer.{toldChance}
@@ -16,7 +16,8 @@ use Rattle.engines.specs.Log.{logSize}
 use Rattle.engines.specs.Trace.{recordIn, recordsIn, Traced}
 use Rattle.engines.specs.declared.answer.Trace.{Trace}
 use Rattle.theory.specs.Numbers.Tab.{getD-zeros}
-use Rattle.figures.specs.Found.{ours, Found, Holds}
+use Rattle.engines.specs.Own.{ours, Found}
+use Rattle.figures.specs.Found.{Holds}
 use Rattle.figures.specs.Traced.{FileTraced}
 use Rattle.figures.proofs.Outcomes.{unpaid}
 

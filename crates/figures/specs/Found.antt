@@ -3,29 +3,19 @@ use Prim.Native.Nat.{ℕ}
 use mathlib.Core.Bool.{false}
 use mathlib.Core.Path.{_≡_}
 use mathlib.Core.List.{List, []}
-use lib.ListN.{replicate}
-use Rattle.meaning.specs.Chain.{mostStates, edgeCount}
-use Rattle.meaning.specs.Refusal.{Lent, workSize}
+use Rattle.meaning.specs.Chain.{edgeCount}
+use Rattle.meaning.specs.Refusal.{Lent}
 use Rattle.meaning.specs.Survey.{Survey, SurveyOutcome}
 use Rattle.meaning.specs.Outcome.{ChanceOutcome, RewardOutcome, BoundsOutcome}
 use Rattle.meaning.specs.Block.{Input}
 use Rattle.meaning.specs.File.{FileRefused, Accepted, plainIn, paidIn, bareIn}
 use Rattle.chain.specs.declared.Chain.{Chain}
-use Rattle.chain.specs.Lent.{lent}
+use Rattle.engines.specs.Own.{ours, Found}
 use Rattle.figures.specs.Told.{toldAnswer, toldLimits, figures, noCounts, noAnswer, noLimits}
 use Rattle.figures.specs.declared.answer.Counts.{Counts}
 use Rattle.figures.specs.declared.answer.Figures.{Figures}
 use Rattle.figures.specs.declared.Question.{Question}
 use Rattle.figures.specs.declared.Question.the-variants.{Chance, Bounds, Report}
-
--- What is lent where the work table is the library's own, and holds zeros.
-abbrev pub ours : Chain → List ℕ → List ℕ → List ℕ → List ℕ → Lent
-ours c denominators edges order rewards = lent c denominators edges order rewards (replicate (workSize mostStates) 0)
-
--- An entry's outcome, whatever its work table then holds.
-pub record Found {A : Type 0} (Outcome : A → List ℕ → Type 0) (a : A) : Type 0 where
-  pub work : List ℕ
-  pub outcome : Outcome a work
 
 -- The counts of a chain: of one that the survey refuses it counts no goals and no live states.
 pub record Counted (l : Lent) (r : Counts) : Type 0 where

@@ -8,9 +8,10 @@ ghost use Rattle.meaning.specs.Outcome.{refusal, ChanceOutcome, RewardOutcome, 
 ghost use Rattle.chain.specs.Lent.{lent};
 ghost use Rattle.engines.specs.Answer.{toldChance};
 ghost use Rattle.engines.specs.Log.{logSize};
+ghost use Rattle.engines.specs.Own.{ours, Found};
 ghost use Rattle.engines.specs.Trace.{Traced};
 ghost use Rattle.figures.specs.Told.{toldAnswer, toldLimits};
-ghost use Rattle.figures.specs.Found.{ours, Found, Counted, Holds, ReportAsked, AskedOf};
+ghost use Rattle.figures.specs.Found.{Counted, Holds, ReportAsked, AskedOf};
 use crate::Question;
 use crate::answer::Answer;
 use crate::answer::Counts;
@@ -28,8 +29,7 @@ fn chance(c: Chain, denominators: &[u64], edges: &[u64], order: &[u64]) -> Answe
         let l = ours c (now (denominators .entry)) (now (edges .entry)) (now (order .entry)) [] in
         ⌜ Found (ChanceOutcome l) (toldAnswer r) ⌝ }
 {
-    let mut work = [0u64; Chain::WORK];
-    Answer::of_chance(entry::chance(c, denominators, edges, order, &mut work))
+    Answer::of_chance(entry::chance_alone(c, denominators, edges, order))
 }
 
 fn reward(c: Chain, denominators: &[u64], edges: &[u64], order: &[u64], rewards: &[u64]) -> Answer
@@ -46,8 +46,7 @@ fn bounds(c: Chain, denominators: &[u64], edges: &[u64], order: &[u64]) -> Limit
         let l = ours c (now (denominators .entry)) (now (edges .entry)) (now (order .entry)) [] in
         ⌜ Found (BoundsOutcome l) (toldLimits r) ⌝ }
 {
-    let mut work = [0u64; Chain::WORK];
-    Limits::of_bounds(entry::bounds(c, denominators, edges, order, &mut work))
+    Limits::of_bounds(entry::bounds_alone(c, denominators, edges, order))
 }
 
 fn counts(c: Chain, denominators: &[u64], edges: &[u64]) -> Counts

@@ -19,26 +19,33 @@ abbrev short : tie.After-unpaid → Bool
 short c = c .before .before .before .before .before .before .before .args .short
 
 unpaid-requires : tie.Need-unpaid-requires
-unpaid-requires c κs = (inl refl, λ _. refl)
+unpaid-requires c κs = (inl refl, λ _. refl, c .before .before .before .before .before .before .pre)
 
 add-new : tie.Need-add-new
 add-new c =
     let goal = c .before .before .before in
     let at = goal .before .before .before .before .before in
-    omega (arith, bounds-sum (short at) (l at) _ _ (goal .goal .given .1) (at .unpaid .ensures false 0 (refl, refl)))
+    omega (arith, bounds-sum (short at) (l at) _ _ (goal .goal .given .1) (at .unpaid .ensures false 0 (refl, refl) .outcome))
 
 returns : tie.Need-returns
 returns c =
     let goal = c .before .before .before .before .before in
     let at = goal .before .before .before .before .before in
-    answers-bounds (short at) (l at) _ _ (goal .goal .given .1) (at .unpaid .ensures false 0 (refl, refl))
-    (reduced-of (c .before .before .before .new .ensures) (c .before .before .reduce .ensures)) (reduced-of (c .before .new2 .ensures) (c .reduce2 .ensures))
+    let z = at .unpaid .ensures false 0 (refl, refl) in
+    record {
+      work = z .work;
+      outcome =
+          answers-bounds (short at) (l at) _ _ (goal .goal .given .1) (z .outcome)
+          (reduced-of (c .before .before .before .new .ensures) (c .before .before .reduce .ensures)) (reduced-of (c .before .new2 .ensures) (c .reduce2 .ensures));
+      lent = z .lent;
+    }
 
 returns-2 : tie.Need-returns-2
 returns-2 c =
     let number = c .before in
     let at = number .before .before .before .before .before in
-    refuses-bounds (short at) (l at) _ _ (number .number .given .1) (at .unpaid .ensures false 0 (refl, refl))
+    let z = at .unpaid .ensures false 0 (refl, refl) in
+    record { work = z .work; outcome = refuses-bounds (short at) (l at) _ _ (number .number .given .1) (z .outcome); lent = z .lent }
 
 pub between-spec : {M : Type 1} → statement M
 between-spec =

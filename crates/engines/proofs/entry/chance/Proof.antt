@@ -1,23 +1,11 @@
 use mathlib.Core.Path.{refl}
-use mathlib.Core.Logic.{inl}
-use mathlib.Core.Bool.{false}
-use mathlib.Core.List.{[]}
 use borrow.Author.Needs.{needs}
-use Rattle.meaning.specs.Refusal.{plain}
-use Rattle.chain.specs.Lent.{lent}
-use Rattle.engines.proofs.Outcomes.{outcome-chance}
+use Rattle.engines.proofs.Rows.{apart}
 use Rattle.engines.proofs.entry.chance.Statement.{statement}
 use Rattle.engines.proofs.entry.chance.Tie as tie
 
-unpaid-requires : tie.Need-unpaid-requires
-unpaid-requires c κs = (inl refl, λ e. e)
-
 returns : tie.Need-returns
-returns c =
-    let at = c .before .before .before .before in
-    let a = at .before .before .before .before .before .before .before .args in
-    let l = lent (a .c) (a .denominators .now) (a .edges .now) (a .order .now) [] (a .work .now) in
-    rw (c .chance-of .ensures) (outcome-chance plain refl refl l _ _ (at .unpaid .result) (at .unpaid .ensures false 0 (refl, refl)))
+returns c = let z = c .before .before .exactly .ensures in rw (z .lent refl) at (z .outcome)
 
 pub chance-spec : {M : Type 1} → statement M
-chance-spec = tie.close (tie.spec (λ c. search needs) unpaid-requires (λ c κs. search needs) (λ c. search needs) returns)
+chance-spec = tie.close (tie.spec (λ c κs e. absurd (apart e)) (λ c. search needs) returns)

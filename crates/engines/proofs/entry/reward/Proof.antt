@@ -9,6 +9,7 @@ use Rattle.chain.specs.Lent.{lent}
 use Rattle.theory.specs.Numbers.Decide.{holds, fails}
 use Rattle.theory.specs.Rows.Settle.{one-engine}
 use Rattle.theory.specs.Outcomes.Formed.{few-states, room}
+use Rattle.engines.proofs.Rows.{apart}
 use Rattle.engines.proofs.Looked.{refused-by, clear, begun}
 use Rattle.engines.proofs.Outcomes.{reduced-of, refuses-reward, misses-reward, answers-reward, stops-reward}
 use Rattle.engines.proofs.entry.reward.Statement.{statement}
@@ -46,7 +47,7 @@ run-requires c κs =
     let sets = c .before .before .before .before in
     let m = l (sets .before .before) in
     let f = clear {l = m} (sets .before .before .look-paid .ensures) (sets .sets .given .1) in
-    (begun paid m (formed sets) exact _ refl (room paid m (formed sets)) (λ e. one-engine exact refl e) (λ e. e) (f .1 .right), inl refl)
+    (begun paid m (formed sets) exact _ refl (room paid m (formed sets)) (λ e. one-engine exact refl e) (λ e. e) (f .1 .right), inl refl, λ e. absurd (apart e))
 
 sure : (c : tie.Else1) → Missed (l (c .before .before .before .before) .chain) → ⊥
 sure c = fails _ (clear {l = l (c .before .before .before .before)} (c .before .before .before .before .look-paid .ensures) (c .before .before .sets .given .1) .1 .missed) (c .if1 .left)
@@ -57,7 +58,7 @@ returns-3 c =
     let run = reward .before .before .before .before .before in
     let o = run .before .before .before in
     let sets = o .before .before in
-    answers-reward (l (sets .before .before)) (formed sets) (run .run .ensures .0) (sure o) (reward .reward .given .1) (run .run .ensures .1)
+    answers-reward (l (sets .before .before)) (formed sets) (run .run .ensures .0 refl) (sure o) (reward .reward .given .1) (run .run .ensures .1)
     (reduced-of (c .before .new .ensures) (c .reduce .ensures))
 
 returns-4 : tie.Need-returns-4
@@ -66,7 +67,7 @@ returns-4 c =
     let run = number .before .before .before .before .before in
     let o = run .before .before .before in
     let sets = o .before .before in
-    stops-reward (l (sets .before .before)) (formed sets) (run .run .ensures .0) (sure o) (number .number2 .given .1) (run .run .ensures .1)
+    stops-reward (l (sets .before .before)) (formed sets) (run .run .ensures .0 refl) (sure o) (number .number2 .given .1) (run .run .ensures .1)
 
 pub reward-spec : {M : Type 1} → statement M
 reward-spec =

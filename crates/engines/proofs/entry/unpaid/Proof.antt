@@ -1,9 +1,10 @@
-use mathlib.Core.Path.{refl}
+use mathlib.Core.Path.{refl, sym}
 use mathlib.Core.Logic.{inl}
 use mathlib.Core.Bool.{true, false}
 use mathlib.Core.List.{[]}
 use borrow.Author.Needs.{needs}
 use Rattle.meaning.specs.Refusal.{eliminating, Lent, withList}
+use Rattle.meaning.specs.Outcome.{cleared}
 use Rattle.theory.specs.Outcomes.Formed.{room}
 use Rattle.chain.specs.Lent.{lent}
 use Rattle.engines.proofs.Looked.{refused-by, clear, begun, begun-unlisted, ran}
@@ -24,12 +25,17 @@ run-requires c κs =
     let x = eliminating false true (a .args .short) in
     let w = withList m (l at) in
     let f = clear {l = w} (at .look .ensures true m refl) (sets .sets .given .1) in
-    (begun-unlisted m (begun x w (f .0) _ _ refl (room x w (f .0)) (λ _. refl) (a .pre .1) (f .1 .right)), a .pre .0)
+    (begun-unlisted m (begun x w (f .0) _ _ refl (room x w (f .0)) (λ _. refl) (a .pre .1) (f .1 .right)), a .pre .0, a .pre .2)
 
 returns : tie.Need-returns
 returns c t k e =
     let at = c .before .before .before in
-    inl (refused-by {l = withList k (l at)} (at .look .ensures t k e) (c .before .number .given .1), refl, at .before .before .before .before .before .before .before .pre .0)
+    record {
+      work = l at .work;
+      outcome =
+          inl (refused-by {l = withList k (l at)} (at .look .ensures t k e) (c .before .number .given .1), refl, at .before .before .before .before .before .before .before .pre .0);
+      lent = λ _. refl;
+    }
 
 returns-2 : tie.Need-returns-2
 returns-2 c t k e =
@@ -38,7 +44,11 @@ returns-2 c t k e =
     let at = sets .before .before in
     let f = clear {l = withList k (l at)} (at .look .ensures t k e) (sets .sets .given .1) in
     let z = run .run .ensures in
-    ran _ (l at) k (f .0) (z .0) (f .1 .right) (run .run .result) (z .1, z .2)
+    record {
+      work = cleared (l at);
+      outcome = ran _ (l at) k (f .0) refl (f .1 .right) (run .run .result) (z .1, z .2);
+      lent = λ own. sym (z .0 own);
+    }
 
 pub unpaid-spec : {M : Type 1} → statement M
 unpaid-spec =

@@ -17,20 +17,20 @@ abbrev start-of : tie.After-sets → tie.Start
 start-of c = c .before .before .before .before .before .before
 
 earnings-requires : tie.Need-earnings-requires
-earnings-requires c κs = let s = start-of c in (s .pre .paid, s .pre .few)
+earnings-requires c κs = let s = start-of c in (s .pre .0 .paid, s .pre .0 .few)
 
 gather-requires : tie.Need-gather-requires
 gather-requires c κs =
     let s = start-of (c .before .before) in
     let a = s .args in
-    makeable-gatherable (chain s) (k s) (a .e .rounding) (a .e .paid) (a .e .short) (a .rewards .now) (a .work .now) (s .pre)
+    (makeable-gatherable (chain s) (k s) (a .e .rounding) (a .e .paid) (a .e .short) (a .rewards .now) (a .work .now) (s .pre .0), s .pre .1)
 
 add-missing-requires : tie.Need-add-missing-requires
 add-missing-requires c κs =
     let g = c .before .before .before in
     let s = start-of (g .before .before .before) in
     let a = s .args in
-    makeable-completable (chain s) (k s) (a .e .rounding) (a .e .paid) (a .e .short) (a .rewards .now) (a .work .now) (s .pre) (g .gather .ensures)
+    makeable-completable (chain s) (k s) (a .e .rounding) (a .e .paid) (a .e .short) (a .rewards .now) (a .work .now) (s .pre .0) (g .gather .ensures)
 
 finish-all-requires : tie.Need-finish-all-requires
 finish-all-requires c κs =
@@ -39,7 +39,7 @@ finish-all-requires c κs =
     let earnings = g .before .before in
     let s = start-of (earnings .before) in
     let a = s .args in
-    makeable-finishable (chain s) (k s) (a .e .rounding) (a .e .paid) (a .e .short) (a .rewards .now) (a .work .now) (s .pre)
+    makeable-finishable (chain s) (k s) (a .e .rounding) (a .e .paid) (a .e .short) (a .rewards .now) (a .work .now) (s .pre .0)
     (g .gather .ensures) (m .add-missing .ensures) (earnings .earnings .result) (earnings .earnings .ensures)
 
 returns : tie.Need-returns
@@ -50,7 +50,7 @@ returns c =
     let earnings = g .before .before in
     let s = start-of (earnings .before) in
     let a = s .args in
-    first-made (chain s) (k s) (a .e .rounding) (a .e .paid) (a .e .short) (a .rewards .now) (a .work .now) (s .pre)
+    first-made (chain s) (k s) (a .e .rounding) (a .e .paid) (a .e .short) (a .rewards .now) (a .work .now) (s .pre .0)
     (g .gather .ensures) (m .add-missing .ensures) (earnings .earnings .result) (earnings .earnings .ensures)
     (f .finish-all .ensures)
 

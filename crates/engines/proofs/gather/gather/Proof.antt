@@ -11,10 +11,10 @@ use Rattle.engines.proofs.gather.gather.Statement.{statement}
 use Rattle.engines.proofs.gather.gather.Tie as tie
 
 abbrev Inv-loop : tie.InvT-loop
-Inv-loop work₀ n sets edges count e₀ work e = Gathering n (share n (setsOf sets) edges) (edgeCount edges) work₀ e work
+Inv-loop work₀ n sets edges own count e₀ work e = Gathering n (share n (setsOf sets) edges) (edgeCount edges) work₀ e work
 
 abbrev μ-loop : tie.MeasureT-loop
-μ-loop work₀ n sets edges count e₀ work e = count - e
+μ-loop work₀ n sets edges own count e₀ work e = count - e
 
 loop-holds : tie.Need-loop-holds Inv-loop μ-loop
 loop-holds c = gathering-none
@@ -25,8 +25,8 @@ carry-requires c κs =
     let k = p .before in
     let b = k .before .before .before .before .before .before .before in
     let a = b .args in
-    let h = b .pre in
-    let cleared = k .before .before .before .clear-work in
+    let h = b .pre .0 in
+    let cleared = k .before .before .before .prepare in
     let l = rw (k .count .ensures) at (c .before .loop-test .taken) in
     let s = h .sources _ l in
     gathering-addable (a .n) (setsOf (a .sets)) (a .edges .now) _ _ (zeros-at (a .n) (a .work .now) _ (h .room) (cleared .ensures)) _ (p .loop .inv) (h .few)
@@ -41,7 +41,7 @@ loop-again c =
 same-length : tie.Need-same-length Inv-loop μ-loop
 same-length c =
     let p = c .before in
-    p .loop .inv .added .kept .len ∙ p .before .before .before .before .clear-work .kept .0
+    p .loop .inv .added .kept .len ∙ p .before .before .before .before .prepare .kept .0
 
 returns : tie.Need-returns Inv-loop μ-loop
 returns c =
@@ -49,11 +49,11 @@ returns c =
     let k = p .before in
     let s = k .before .before .before .before .before .before .before in
     let a = s .args in
-    let e = k .before .before .before .clear-work .ensures in
+    let e = k .before .before .before .prepare .ensures in
     let z =
-    gathering-held (a .n) (setsOf (a .sets)) (a .edges .now) _ _ (zeros-at (a .n) (a .work .now) _ (s .pre .room) e)
+    gathering-held (a .n) (setsOf (a .sets)) (a .edges .now) _ _ (zeros-at (a .n) (a .work .now) _ (s .pre .0 .room) e)
     (gathering-all (p .loop .inv) (rw (k .count .ensures) at (c .loop-test .left))) in
-    record { kept = kept-more (zeros-kept (a .n) (a .work .now) _ (s .pre .room) e) (z .kept); cells = z .cells }
+    record { kept = kept-more (zeros-kept (a .n) (a .work .now) _ (s .pre .0 .room) e) (z .kept); cells = z .cells }
 
 pub gather-spec : {M : Type 1} → statement M
 gather-spec =

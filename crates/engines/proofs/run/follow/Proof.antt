@@ -85,7 +85,7 @@ alive c =
     (eqb-true _ _ (sym (c .before .holds2 .ensures) ∙ not-false _ (c .if2 .left)))
 
 first-rows-requires : tie.Need-first-rows-requires
-first-rows-requires c κs = begun (start-of (c .before)) .asked
+first-rows-requires c κs = let s = start-of (c .before) in (begun s .asked, s .pre .2)
 
 same-length : tie.Need-same-length
 same-length c = c .before .before .before .first-rows .ensures .kept .len

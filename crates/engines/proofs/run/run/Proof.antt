@@ -6,15 +6,15 @@ use Rattle.engines.proofs.Course.{cleared-kept}
 use Rattle.engines.proofs.run.run.Statement.{statement}
 use Rattle.engines.proofs.run.run.Tie as tie
 
-clear-work-requires : tie.Need-clear-work-requires
-clear-work-requires c κs =
+leave-requires : tie.Need-leave-requires
+leave-requires c κs =
     let follow = c .before .before .before .before .before .before in
     let h = follow .before .before .before .before .before .before .before .before .before .pre .0 .asked in
     let k = follow .follow .ensures .0 .len in
     (omega (arith, h .few), omega (arith, h .room))
 
 same-length : tie.Need-same-length
-same-length c = c .before .before .clear-work .kept .0 ∙ c .before .before .before .before .before .before .before .before .before .follow .ensures .0 .len
+same-length c = c .before .before .leave .kept .0 ∙ c .before .before .before .before .before .before .before .before .before .follow .ensures .0 .len
 
 returns : tie.Need-returns
 returns c =
@@ -22,7 +22,7 @@ returns c =
     let a = follow .before .before .before .before .before .before .before .before .before .args in
     let f = follow .follow .ensures in
     let l = lent (a .e .chain) (a .denominators .now) (a .edges .now) (a .order .now) (a .rewards .now) (a .work .now) in
-    (cleared-kept l (f .0) (c .before .before .clear-work .ensures), f .1, f .2)
+    (λ own. cleared-kept l (f .0) (c .before .before .leave .ensures own), f .1, f .2)
 
 pub run-spec : {M : Type 1} → statement M
-run-spec = tie.close (tie.spec (λ c κs. search needs) clear-work-requires same-length (λ c. search needs) returns)
+run-spec = tie.close (tie.spec (λ c κs. search needs) leave-requires same-length (λ c. search needs) returns)

@@ -4,8 +4,8 @@ use Rattle.figures.proofs.found.bounds.Statement.{statement}
 use Rattle.figures.proofs.found.bounds.Tie as tie
 
 returns : tie.Need-returns
-returns c = found _ (c .of-bounds .ensures) (c .before .before .bounds .ensures)
+returns c = let z = c .before .bounds-alone .ensures in found (z .work) (c .of-bounds .ensures) (z .outcome)
 
 pub bounds-spec : {M : Type 1} → statement M
 bounds-spec =
-    tie.close (tie.spec (λ c. search needs) (λ c κs. search needs) (λ c κs. search needs) returns)
+    tie.close (tie.spec (λ c κs. search needs) (λ c κs. search needs) returns)

@@ -4,8 +4,8 @@ use Rattle.figures.proofs.found.chance.Statement.{statement}
 use Rattle.figures.proofs.found.chance.Tie as tie
 
 returns : tie.Need-returns
-returns c = found _ (c .of-chance .ensures .same) (c .before .before .chance .ensures)
+returns c = let z = c .before .chance-alone .ensures in found (z .work) (c .of-chance .ensures .same) (z .outcome)
 
 pub chance-spec : {M : Type 1} → statement M
 chance-spec =
-    tie.close (tie.spec (λ c. search needs) (λ c κs. search needs) (λ c κs. search needs) returns)
+    tie.close (tie.spec (λ c κs. search needs) (λ c κs. search needs) returns)
