@@ -1,8 +1,10 @@
 // Faults of one table each, looked for from its first number on.
 ghost use mathlib.Core.Path.{_≡_};
+ghost use Prim.Native.Nat.{ℕ, _≤_};
 ghost use lib.ListN.{length};
 ghost use Rattle.look.specs.Least.{least};
 ghost use Rattle.meaning.specs.Number.{decides};
+ghost use Rattle.meaning.specs.Chain.{mostStates};
 ghost use Rattle.meaning.specs.Refusal.{OutOfRange, DenominatorFault, EndFault, WeightFault, Earlier, OrderFault};
 use chain::Chain;
 use chain::edge;
@@ -83,8 +85,8 @@ fn earlier(order: &[u64], p: usize) -> bool
     false
 }
 
-// The first fault of an order of n states.
-pub fn order(n: usize, order: &[u64]) -> Place
+// The first fault of an order of n states, each entry compared with all before it.
+fn first_fault(n: usize, order: &[u64]) -> Place
     ensures { λ r. ⌜ least (OrderFault n (now (order .entry))) r ⌝ }
 {
     let states = n as u64;
@@ -99,4 +101,38 @@ pub fn order(n: usize, order: &[u64]) -> Place
         p += 1;
     }
     Place::Nowhere
+}
+
+// Whether each entry of an order is a state that was not yet seen. Then the order has no fault.
+fn faultless(n: usize, order: &[u64]) -> bool
+    requires { ⌜ n ≤ mostStates ⌝ }
+    ensures { λ r. ⌜ decides ((p : ℕ) → OrderFault n (now (order .entry)) p → ⊥) r ⌝ }
+{
+    let states = n as u64;
+    let mut seen: u64 = 0;
+    let mut k = 0;
+    while k < n {
+        let s = at(order, k);
+        if states <= s {
+            return false;
+        }
+        if (seen >> s) % 2 == 1 {
+            return false;
+        }
+        seen |= 1 << s;
+        k += 1;
+    }
+    true
+}
+
+// The first fault of an order of n states. One pass tells that there is none; only else is each entry compared with all before it.
+pub fn order(n: usize, order: &[u64]) -> Place
+    ensures { λ r. ⌜ least (OrderFault n (now (order .entry))) r ⌝ }
+{
+    if n <= Chain::STATES {
+        if faultless(n, order) {
+            return Place::Nowhere;
+        }
+    }
+    first_fault(n, order)
 }

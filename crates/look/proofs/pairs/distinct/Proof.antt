@@ -1,12 +1,10 @@
-use Prim.Native.Nat.{_-_, _*_, _%_, _^_, _<_}
-use mathlib.Core.Path.{_≡_, _∙_}
+use Prim.Native.Nat.{_-_, _<_}
 use native.Mathlib.Omega.{arith}
-use native.Mathlib.Nat.{mod-eq-of-lt, one-mul}
-use lib.Pow.{pow-lt}
 use Rattle.meaning.specs.Chain.{mostStates, edgeCount}
 use Rattle.meaning.specs.Refusal.{PairFault}
 use Rattle.chain.proofs.Passing.{NoneBelow, pass, done}
 use Rattle.look.proofs.Ends.{from-below, to-below}
+use Rattle.look.proofs.Joined.{one-set}
 use Rattle.look.proofs.Seen.{Seen, none, stood, fresh, more}
 use borrow.Author.Needs.{needs}
 use Rattle.look.proofs.pairs.distinct.Statement.{statement}
@@ -44,10 +42,7 @@ loop-again c =
     let p = c .before .before .from .ensures in
     let q = c .before .to .ensures in
     let h = source (c .before) in
-    let small : 2 ^ c .before .to .result < 18446744073709551616 = pow-lt (target (c .before)) in
-    let one : 1 * 2 ^ c .before .to .result % 18446744073709551616 ≡ 2 ^ c .before .to .result =
-    mod-eq-of-lt {n = 1 * 2 ^ c .before .to .result} {m = 18446744073709551616} (omega arith) ∙ one-mul _ in
-    (pass (at .loop .inv .0) (search needs) (fresh _ _ _ (at .loop .inv .1) _ _ p q h (c .if1 .left)), rw one (more _ _ _ (at .loop .inv .1) _ _ p q h))
+    (pass (at .loop .inv .0) (search needs) (fresh _ _ _ (at .loop .inv .1) _ _ p q h (c .if1 .left)), rw (one-set (c .before .to .result) (target (c .before))) (more _ _ _ (at .loop .inv .1) _ _ p q h))
 
 returns-2 : tie.Need-returns-2 Inv-loop μ-loop
 returns-2 c = done (c .before .loop .inv .0) (search needs) (λ k bad. bad .0)
