@@ -22,7 +22,7 @@ gcdOf-more l zero h g = absurd (omega arith)
 gcdOf-more l (suc j) h g = rw (sub-one, drop-cons l j 0)
 
 -- A divisor of 1 stays 1, whatever stands before it.
-gcd-one : (a : ℕ) → gcd a 1 ≡ 1
+pub gcd-one : (a : ℕ) → gcd a 1 ≡ 1
 gcd-one a = gcd-step a 1 ∙ rw (mod-one a) (gcd-zero 1)
 
 pub gcdOf-one : (j : ℕ) (l : List ℕ) → gcdOf (drop j l) ≡ 1 → gcdOf l ≡ 1

@@ -1,13 +1,17 @@
 // One packed row: its lowest terms, its total, and how it is rounded.
 ghost use mathlib.Core.Path.{_≡_};
 ghost use mathlib.Core.Bool.{true, false};
-ghost use Prim.Native.Nat.{ℕ, _^_, _<_, _≤_};
-ghost use lib.ListN.{length};
+ghost use Prim.Native.Nat.{ℕ, _-_, _^_, _<_, _≤_};
+ghost use lib.ListN.{length, drop};
+ghost use lib.Count.{trailingZeros};
 ghost use Rattle.meaning.specs.Chain.{mostStates, M};
 ghost use Rattle.meaning.specs.Number.{sumTo};
 ghost use Rattle.meaning.specs.Row.{cell, total, reward, gcdOf, divisor, over, lowest, upTo, shiftOf, rounded, bounded, settled};
 ghost use Rattle.engines.specs.Packed.{endOfPart, statesOf, unpacked, Packed};
 ghost use Rattle.engines.specs.Row.{Summable, Tested, Became};
+use crate::bits::alone;
+use crate::bits::lowest;
+use crate::bits::others;
 use crate::merge::squeeze;
 use crate::part::GOAL;
 use crate::part::REWARD;
@@ -22,20 +26,75 @@ pub(crate) struct Settled {
     pub divisor: u64,
 }
 
-// The greatest common divisor of the numbers of a row, 0 where all are 0. Once it is 1 the other numbers are not read.
+// The place behind the last number above 0, and 0 where there is none.
+fn trimmed(row: &[u64]) -> usize
+    ensures { λ r.
+        let l = now (row .entry) in
+        ⌜ (r ≤ length l) × (gcdOf (drop r l) ≡ 0) × (0 < r → 0 < cell l (r - 1)) ⌝ }
+{
+    let mut j = row.len();
+    while 0 < j {
+        if row[j - 1] != 0 {
+            return j;
+        }
+        j -= 1;
+    }
+    0
+}
+
+// The place behind the last number before place e that g does not divide, and 0 where it divides all: up to there g stays the divisor.
+fn undivided(row: &[u64], e: usize, g: u64) -> usize
+    requires { ⌜ (e ≤ length (now row)) × (0 < g) × (g ≡ gcdOf (drop e (now row))) ⌝ }
+    ensures { λ r. ⌜ (r ≤ e) × (g ≡ gcdOf (drop r (now (row .entry)))) ⌝ }
+{
+    let mut j = e;
+    while 0 < j {
+        if row[j - 1] % g != 0 {
+            return j;
+        }
+        j -= 1;
+    }
+    0
+}
+
+// The divisor of a row whose numbers from place e on have the divisor g, a power of two: the lowest bit of g and of the numbers before e, all joined.
+// Where g is 1 they are not read.
+fn lowest_bit(row: &[u64], e: usize, g: u64) -> u64
+    requires { ⌜ (e ≤ length (now row)) × (g ≡ gcdOf (drop e (now row))) × (g ≡ 2 ^ trailingZeros 64 g) ⌝ }
+    ensures { λ r. ⌜ r ≡ gcdOf (now (row .entry)) ⌝ }
+{
+    if g == 1 {
+        return 1;
+    }
+    let mut all = g;
+    let mut i = 0;
+    while i < e {
+        all |= row[i];
+        i += 1;
+    }
+    alone(lowest(all))
+}
+
+// The greatest common divisor of the numbers of a row, 0 where all are 0. Numbers that it divides already are passed over, and once it is a power
+// of two it needs no further division.
 fn common(row: &[u64]) -> u64
     ensures { λ r. ⌜ r ≡ gcdOf (now (row .entry)) ⌝ }
 {
-    let mut g = 0;
-    let mut j = row.len();
-    while 0 < j {
+    let mut j = trimmed(row);
+    if j == 0 {
+        return 0;
+    }
+    j -= 1;
+    let mut g = row[j];
+    while others(g) != 0 {
+        j = undivided(row, j, g);
+        if j == 0 {
+            return g;
+        }
         j -= 1;
         g = gcd(row[j], g);
-        if g == 1 {
-            return 1;
-        }
     }
-    g
+    lowest_bit(row, j, g)
 }
 
 // Divides each number of a row by 2 ^ k.
