@@ -6,12 +6,11 @@ use mathlib.Core.List.{List}
 use native.Mathlib.Omega.{arith}
 use native.Mathlib.Nat.{mod-eq-of-lt, mod-one, mul-le-mul}
 use lib.Count.{ones}
-use lib.Dec.{eqb}
-use lib.ListN.{length, getD, set}
-use lib.Pow.{mod-pow-add, pow-pos}
+use lib.ListN.{getD, set}
+use lib.Pow.{mod-pow-add}
 use borrow.Author.Tests.{eq-eqb, ne-eqb}
 use Rattle.meaning.specs.Chain.{mostStates}
-use Rattle.meaning.specs.Number.{sumTo, choose, bit}
+use Rattle.meaning.specs.Number.{sumTo, bit}
 use Rattle.theory.specs.Numbers.Sum.{same, below, last-or-below}
 use Rattle.engines.specs.Packed.{targetsOf, placeOf, weightsAt, endOfPart, weightOf}
 use Rattle.engines.specs.Filled.{countTo, targetsTo, mixed, Filled, Beside, Closed, Emptied, Merged, Replaceable, Alike}
@@ -24,9 +23,9 @@ use Rattle.engines.proofs.Merging.{merged}
 mod-suc : (t j : ℕ) → t % 2 ^ suc j ≡ bit t j * 2 ^ j + t % 2 ^ j
 mod-suc t j = let e : suc j ≡ 1 + j = omega arith in ap (λ z. t % 2 ^ z) e ∙ mod-pow-add t 1 j
 
--- p is the row, l the numbers of both put together, and u those once the weight to s is gone.
-module _ {s d w : ℕ} {pivot p l u : List ℕ} (h : Replaceable s d pivot p) (a : Alike s d pivot p) (b : Beside d w (endOfPart p) pivot p l)
-    (k : Closed (weightsAt + placeOf (targetsOf p) s) (endOfPart p) l u) where
+-- p is the row, l has the new numbers before the weight to s, and u those behind it too, one place further up.
+module _ {s d w : ℕ} {pivot p l u : List ℕ} (h : Replaceable s d pivot p) (a : Alike s d pivot p)
+    (b : Beside d w (weightsAt + placeOf (targetsOf p) s) pivot p l) (k : Closed d w (weightsAt + placeOf (targetsOf p) s) (endOfPart p) pivot l u) where
   abbrev t : ℕ
   t = targetsOf p
 
@@ -112,14 +111,18 @@ module _ {s d w : ℕ} {pivot p l u : List ℕ} (h : Replaceable s d pivot p) (a
         let e : bit t i ≡ 1 = ⊎-elim (λ (e : bit t i ≡ 1). e) (λ (f : bit t i ≡ 1 → ⊥). absurd (omega (arith, none-there i f))) (same (bit t i) 1) in
         let n : i ≡ s → ⊥ = λ q. omega (arith, ap c q, own-there) in
         let r : placeOf t i < ones t = omega (arith, place-rises t i mostStates l′ e, place-all t mostStates few) in
-        let here : getD l (weightsAt + placeOf t i) 0 ≡ c i = b .new (weightsAt + placeOf t i) (omega arith) (omega arith) ∙ sym (weight-here i e n) in
         ⊎-elim
         (λ (g : i < s).
-        ap (λ q. getD u (weightsAt + q) 0) (before i (omega arith) .0) ∙ k .front (weightsAt + placeOf t i) (omega (arith, place-rises t i s g e)) ∙ here)
+        let v : weightsAt + placeOf t i < weightsAt + placeOf t s = omega (arith, place-rises t i s g e) in
+        ap (λ q. getD u (weightsAt + q) 0) (before i (omega arith) .0) ∙ k .front (weightsAt + placeOf t i) v ∙ b .new (weightsAt + placeOf t i) (omega arith) v ∙ sym (weight-here i e n))
         (λ (g : s ≤ i).
         let g′ : s < i = ⊎-elim (λ (o : s ≡ i). absurd (n (sym o))) (λ (o : s ≡ i → ⊥). omega arith) (same s i) in
         let q : suc (weightsAt + countTo c i) ≡ weightsAt + placeOf t i = omega (arith, behind i g′ .0) in
-        k .moved (weightsAt + countTo c i) (omega (arith, place-rises t s i g′ (a .target))) (omega arith) ∙ ap (λ x. getD l x 0) q ∙ here)
+        let v : weightsAt + placeOf t s ≤ weightsAt + countTo c i = omega (arith, place-rises t s i g′ (a .target)) in
+        k .moved (weightsAt + countTo c i) v (omega arith)
+        ∙ ap (λ x. x * d + w * getD pivot (suc (weightsAt + countTo c i)) 0) (b .past (suc (weightsAt + countTo c i)) (omega arith))
+        ∙ ap (λ x. getD p x 0 * d + w * getD pivot x 0) q
+        ∙ sym (weight-here i e n))
         (below i s)
 
     joined-filled : Filled c z mostStates u
@@ -133,7 +136,7 @@ module _ {s d w : ℕ} {pivot p l u : List ℕ} (h : Replaceable s d pivot p) (a
               (λ (e : suc q ≡ endOfPart p). k .last q e)
               (λ (n : suc q ≡ endOfPart p → ⊥).
               let o : endOfPart p ≤ q = omega (arith, behind mostStates (h .state) .0, place-all t mostStates few) in
-              k .past q o ∙ b .past q o ∙ h .rest q o)
+              k .past q o ∙ b .past q (omega (arith, place-rises t s mostStates (h .state) (a .target), place-all t mostStates few)) ∙ h .rest q o)
               (same (suc q) (endOfPart p));
         }
 

@@ -56,11 +56,11 @@ pub record Beside (d w e : ℕ) (pivot l p : List ℕ) : Type 0 where
   pub new : (q : ℕ) → 0 < q → q < e → getD p q 0 ≡ getD l q 0 * d + w * getD pivot q 0
   pub past : (q : ℕ) → e ≤ q → getD p q 0 ≡ getD l q 0
 
--- The numbers from place a to place e have moved up by one: the first is gone, and the last is 0.
-pub record Closed (a e : ℕ) (l p : List ℕ) : Type 0 where
+-- From place a on, each number before place e is the new row's of the next place, and the last is 0; the others stay.
+pub record Closed (d w a e : ℕ) (pivot l p : List ℕ) : Type 0 where
   pub len : length p ≡ length l
   pub front : (q : ℕ) → q < a → getD p q 0 ≡ getD l q 0
-  pub moved : (q : ℕ) → a ≤ q → suc q < e → getD p q 0 ≡ getD l (suc q) 0
+  pub moved : (q : ℕ) → a ≤ q → suc q < e → getD p q 0 ≡ getD l (suc q) 0 * d + w * getD pivot (suc q) 0
   pub last : (q : ℕ) → suc q ≡ e → getD p q 0 ≡ 0
   pub past : (q : ℕ) → e ≤ q → getD p q 0 ≡ getD l q 0
 

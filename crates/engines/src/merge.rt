@@ -112,14 +112,16 @@ fn merge(
     part[0] = t;
 }
 
-// The numbers from place a to place e move up by one: the first goes, and the last is 0.
-fn close(part: &mut [u64], a: usize, e: usize)
-    requires { ⌜ (a < e) × (e ≤ length (now part)) ⌝ }
-    ensures { λ _. ⌜ Closed a e (now (part .entry)) (now (part .exit)) ⌝ }
+// The numbers of the new row behind place a and before place e, each written one place before the two that it is made from: that of place a goes, and the
+// last is 0.
+fn close(part: &mut [u64], pivot: &[u64; Chain::WIDTH], a: usize, e: usize, d: u64, w: u64)
+    requires { ⌜ (a < e) × (e ≤ length (now part)) × (e ≤ width mostStates) × (d ≤ M) × (w ≤ M)
+        × ((q : ℕ) → a < q → getD (now part) q 0 ≤ M) × Modest (now pivot) ⌝ }
+    ensures { λ _. ⌜ Closed d w a e (now (pivot .entry)) (now (part .entry)) (now (part .exit)) ⌝ }
 {
     let mut q = a;
     while q + 1 < e {
-        part[q] = part[q + 1];
+        part[q] = mix(part[q + 1], d, w, pivot[q + 1]);
         q += 1;
     }
     part[q] = 0;
@@ -134,8 +136,9 @@ fn join(part: &mut [u64], pivot: &[u64; Chain::WIDTH], s: usize, d: u64)
     let w = weight(part, s);
     let e = end(part);
     let targets = part[0];
-    beside(part, pivot, e, d, w);
-    close(part, WEIGHTS + place(targets, s), e);
+    let a = WEIGHTS + place(targets, s);
+    beside(part, pivot, a, d, w);
+    close(part, pivot, a, e, d, w);
     part[0] = targets - alone(s);
 }
 

@@ -1,5 +1,5 @@
-use Prim.Native.Nat.{suc, _+_, _-_, _<_, _≤_}
-use mathlib.Core.Path.{_≡_, sym, ap, _∙_}
+use Prim.Native.Nat.{suc, _+_, _*_, _-_, _<_, _≤_}
+use mathlib.Core.Path.{_≡_, sym, _∙_}
 use native.Mathlib.Omega.{arith}
 use lib.Dec.{ltb}
 use lib.ListN.{getD, length-set}
@@ -12,20 +12,31 @@ use Rattle.engines.proofs.merge.close.Statement.{statement}
 use Rattle.engines.proofs.merge.close.Tie as tie
 
 abbrev Inv-loop : tie.InvT-loop
-Inv-loop part₀ a e q₀ part q = Walked (λ k. choose (ltb k a) (getD part₀ k 0) (getD part₀ (suc k) 0)) part₀ q part × (a ≤ q) × (q < e)
+Inv-loop part₀ pivot a e d w q₀ part q =
+    Walked (λ k. choose (ltb k a) (getD part₀ k 0) (getD part₀ (suc k) 0 * d + w * getD pivot (suc k) 0)) part₀ q part
+    × (a ≤ q) × (q < e)
 
 abbrev μ-loop : tie.MeasureT-loop
-μ-loop part₀ a e q₀ part q = e - q
+μ-loop part₀ pivot a e d w q₀ part q = e - q
 
 loop-holds : tie.Need-loop-holds Inv-loop μ-loop
 loop-holds c = (walk-from _ (omega arith) (λ j h. sym (rw (lt-ltb j _ h))), omega arith, omega arith)
 
+mix-requires : tie.Need-mix-requires Inv-loop μ-loop
+mix-requires c κs =
+    let p = c .before .before .before in
+    let h = p .before .before .pre in
+    let i = p .loop .inv in
+    let q = p .loop .q in
+    (rw (i .0 .old (q + 1) (omega arith)) (h .5 (q + 1) (omega arith)), h .3, h .4, h .6 (q + 1) (omega arith))
+
 loop-again : tie.Need-loop-again Inv-loop μ-loop
 loop-again c =
-    let l = c .before .before .loop in
-    let k = l .inv in
-    let e : suc (l .q) ≡ l .q + 1 = omega arith in
-    (walk-more (k .0) (omega arith) (sym (rw (le-ltb (l .q) _ (k .1)) (ap (λ z. getD (c .before .before .before .args .part .now) z 0) e ∙ sym (k .0 .old (l .q + 1) (omega arith))))), omega arith, omega arith)
+    let p = c .before .before .before .before in
+    let i = p .loop .inv in
+    let q = p .loop .q in
+    let e : suc q ≡ q + 1 = omega arith in
+    (walk-more (i .0) (omega arith) (c .mix .ensures ∙ rw (i .0 .old (q + 1) (omega arith), le-ltb q _ (i .1), e)), omega arith, omega arith)
 
 returns : tie.Need-returns Inv-loop μ-loop
 returns c =
@@ -51,6 +62,10 @@ close-spec =
     (λ c. search needs)
     (λ c. search needs)
     (λ c. search needs)
+    (λ c. search needs)
+    (λ c. search needs)
+    (λ c. search needs)
+    mix-requires
     (λ c. search needs)
     (λ c. search needs)
     (λ c. search needs)
