@@ -65,6 +65,19 @@ module _ (c : ℕ → ℕ) where
       let e : j + suc t ≡ suc (j + t) = omega arith in
       ap (countTo c) e ∙ count-none (j + t) (h t (omega arith)) ∙ count-stays j t (λ i b. h i (omega arith))
 
+  -- There are at most as many as columns, and where there are as many, each column has a weight.
+  pub count-most : (j : ℕ) → countTo c j ≤ j
+  unfolding sumTo
+  count-most zero = omega arith
+  count-most (suc j) = omega (arith, count-most j, count-suc j, only-le (c j) 1)
+
+  pub count-full : (j : ℕ) → countTo c j ≡ j → (i : ℕ) → i < j → 0 < c i
+  count-full zero e i h = absurd (omega arith)
+  count-full (suc j) e i h =
+      last-or-below h
+      (λ (q : i ≡ j). rw q (weighed (c j) (λ z. absurd (omega (arith, count-none j z, count-most j))) (λ w. w)))
+      (λ (b : i < j). count-full j (omega (arith, count-suc j, only-le (c j) 1, count-most j)) i b)
+
   pub count-rises : (i j : ℕ) → i < j → 0 < c i → countTo c i < countTo c j
   count-rises i j h p = omega (arith, sum-up (λ i. only (ltb 0 (c i)) 1) i j h, only-some (c i) 1 p)
 

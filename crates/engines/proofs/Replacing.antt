@@ -1,5 +1,5 @@
 -- A row that is copied and written anew.
-use Prim.Native.Nat.{ℕ, suc, _+_, _-_, _*_, _^_, _≤_, _<_}
+use Prim.Native.Nat.{ℕ, suc, _+_, _*_, _^_, _≤_, _<_}
 use mathlib.Core.Path.{_≡_, refl, sym, _∙_}
 use mathlib.Core.List.{List}
 use native.Mathlib.Omega.{arith}
@@ -9,15 +9,13 @@ use lib.Count.{ones}
 use lib.Dec.{eqb}
 use lib.ListN.{length, getD, replicate, List·getD-eq-default}
 use borrow.Author.Tests.{ne-eqb}
-use borrow.Rule.Slice.PartMut.{midOf, mid-len}
 use Rattle.meaning.specs.Chain.{mostStates}
 use Rattle.meaning.specs.Number.{choose, bit}
 use Rattle.meaning.specs.Row.{Row, cell, width}
 use Rattle.meaning.specs.Step.{combined}
 use Rattle.theory.specs.Numbers.Tab.{tab-of, getD-zeros}
-use Rattle.engines.specs.Packed.{targetsOf, placeOf, weightsAt, endOfPart, weightOf, unpacked, Modest, Spread, Room}
+use Rattle.engines.specs.Packed.{targetsOf, placeOf, weightsAt, weightOf, unpacked, Modest, Spread, Room}
 use Rattle.engines.specs.Filled.{Columns, Merged, Replaced, Squeezable, Squeezed}
-use Rattle.engines.proofs.Middle.{mid-at}
 use Rattle.engines.proofs.Places.{place-rises, place-most}
 use Rattle.engines.proofs.Along.{weight-none, weight-small}
 use Rattle.engines.proofs.Unpacked.{unpacked-length, unpacked-weight}
@@ -76,19 +74,16 @@ squeezed {p} {v} m =
     }
 
 -- A part with no weight of 0 stays.
-pub unsqueezed : (p : List ℕ) {e : ℕ} → Squeezable p → e ≡ endOfPart p
-    → ((q : ℕ) → q < length (midOf weightsAt (e - weightsAt) p) → 0 < getD (midOf weightsAt (e - weightsAt) p) q 0) → Squeezed p p
-unsqueezed p {e} h ee some =
+pub unsqueezed : (p : List ℕ) → Squeezable p → ((i : ℕ) → i < ones (targetsOf p) → 0 < getD p (weightsAt + i) 0) → Squeezed p p
+unsqueezed p h some =
     record {
       packed = λ n l inside.
           record {
             size = l;
             inside = inside;
             some = λ j b.
-                let i : placeOf (targetsOf p) j < ones (targetsOf p) =
-                omega (arith, place-rises (targetsOf p) j (suc j) (omega arith) b, place-most (targetsOf p) (suc j)) in
-                let m : placeOf (targetsOf p) j < length (midOf weightsAt (e - weightsAt) p) = rw (mid-len weightsAt e p (omega (arith, h .room))) (omega arith) in
-                rw (mid-at weightsAt e p (placeOf (targetsOf p) j) (omega arith)) at (some (placeOf (targetsOf p) j) m);
+                some (placeOf (targetsOf p) j)
+                (omega (arith, place-rises (targetsOf p) j (suc j) (omega arith) b, place-most (targetsOf p) (suc j)));
             rest = h .rest;
           };
       row = λ n few. refl;

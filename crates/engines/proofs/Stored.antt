@@ -6,14 +6,15 @@ use mathlib.Core.List.{List}
 use native.Mathlib.Omega.{arith}
 use native.Mathlib.Nat.{zero-div, dvd-antisymm, dvd-zero}
 use lib.Count.{ones}
-use lib.ListN.{length, getD}
+use lib.ListN.{length, getD, set, length-set}
+use lib.Seq.{getD-set-same, getD-set-other}
 use borrow.Rule.Slice.PartMut.{midOf, putMid, mid-len}
 use Rattle.meaning.specs.Number.{sumTo, bit}
-use Rattle.meaning.specs.Row.{cell, total, gcdOf, divisor, over, lowest, rewardColumn}
+use Rattle.meaning.specs.Row.{cell, total, gcdOf, divisor, over, lowest, rewardColumn, unknownColumn}
 use Rattle.theory.specs.Numbers.Sum.{same, below, sum-ext, sum-next, sum-join}
 use Rattle.theory.specs.Numbers.Bits.{set-below}
 use Rattle.theory.specs.Rows.Terms.{gcd-divides, gcd-most, lowest-positive, over-cell, over-length}
-use Rattle.engines.specs.Packed.{targetsOf, rewardAt, goalAt, weightsAt, endOfPart, weightOf, unpacked, Below, Packed}
+use Rattle.engines.specs.Packed.{targetsOf, rewardAt, goalAt, trapAt, unknownAt, weightsAt, endOfPart, weightOf, unpacked, Below, Packed}
 use Rattle.engines.specs.Row.{Summable}
 use Rattle.engines.proofs.Places.{place-sum, place-all, place-rises}
 use Rattle.engines.proofs.Along.{weight-some, weight-none}
@@ -119,28 +120,82 @@ pub record Divided (d : ℕ) (p v : List ℕ) : Type 0 where
   pub targets : targetsOf v ≡ targetsOf p
   pub numbers : (q : ℕ) → 0 < q → getD v q 0 ≡ getD p q 0 / d
 
--- It is divided by dividing what is stored, since zeros follow.
-pub stored-over : (d : ℕ) (p : List ℕ) → endOfPart p ≤ length p → ((q : ℕ) → endOfPart p ≤ q → getD p q 0 ≡ 0)
-    → Divided d p (putMid rewardAt (endOfPart p - rewardAt) p (over d (midOf rewardAt (endOfPart p - rewardAt) p)))
-stored-over d p held rest =
-    let e = endOfPart p in
-    let s = midOf rewardAt (e - rewardAt) p in
-    let l : length (over d s) ≡ e - rewardAt = over-length d s ∙ mid-len rewardAt e p held in
-    record {
-      len = put-length rewardAt e p (over d s) (omega arith) held l;
-      targets = put-before rewardAt e p (over d s) (omega arith) held l 0 (omega arith);
-      numbers = λ q a.
-          ⊎-elim
-          (λ (b : q < e).
-          let i = q - rewardAt in
-          let k : rewardAt + i ≡ q = omega arith in
-          sym (ap (λ z. getD (putMid rewardAt (e - rewardAt) p (over d s)) z 0) k)
-          ∙ put-within rewardAt e p (over d s) (omega arith) held l i (omega arith)
-          ∙ over-cell d s i
-          ∙ ap (λ z. z / d) (mid-at rewardAt e p i (omega arith) ∙ ap (λ z. getD p z 0) k))
-          (λ (b : e ≤ q). put-past rewardAt e p (over d s) (omega arith) held l q b ∙ rest q b ∙ sym (rw (rest q b) (zero-div d)))
-          (below q e);
-    }
+-- The same part with each number from place a on divided by d.
+record From (a d : ℕ) (p v : List ℕ) : Type 0 where
+  len : length v ≡ length p
+  front : (q : ℕ) → q < a → getD v q 0 ≡ getD p q 0
+  numbers : (q : ℕ) → a ≤ q → getD v q 0 ≡ getD p q 0 / d
+
+abbrev from : ℕ → ℕ → List ℕ → List ℕ
+from a d p = putMid a (endOfPart p - a) p (over d (midOf a (endOfPart p - a) p))
+
+-- A part whose weights were lent and have come back as x, with Goal and Trap divided.
+abbrev pub lowered : ℕ → ℕ → List ℕ → List ℕ → List ℕ
+lowered d e p x = set (set (putMid weightsAt (e - weightsAt) p x) goalAt (getD p goalAt 0 / d)) trapAt (getD p trapAt 0 / d)
+
+module _ (d : ℕ) (p : List ℕ) (held : endOfPart p ≤ length p) (rest : (q : ℕ) → endOfPart p ≤ q → getD p q 0 ≡ 0) where
+  -- It is divided by dividing what is stored, since zeros follow.
+  from-over : (a : ℕ) → a ≤ endOfPart p → From a d p (from a d p)
+  from-over a h =
+      let e = endOfPart p in
+      let s = midOf a (e - a) p in
+      let l : length (over d s) ≡ e - a = over-length d s ∙ mid-len a e p held in
+      record {
+        len = put-length a e p (over d s) h held l;
+        front = put-before a e p (over d s) h held l;
+        numbers = λ q b.
+            ⊎-elim
+            (λ (c : q < e).
+            let k : a + (q - a) ≡ q = omega arith in
+            sym (ap (λ z. getD (from a d p) z 0) k)
+            ∙ put-within a e p (over d s) h held l (q - a) (omega arith)
+            ∙ over-cell d s (q - a)
+            ∙ ap (λ z. z / d) (mid-at a e p (q - a) (omega arith) ∙ ap (λ z. getD p z 0) k))
+            (λ (c : e ≤ q). put-past a e p (over d s) h held l q c ∙ rest q c ∙ sym (rw (rest q c) (zero-div d)))
+            (below q e);
+      }
+
+  pub stored-over : Divided d p (from rewardAt d p)
+  stored-over =
+      let m = from-over rewardAt (omega arith) in
+      record { len = m .len; targets = m .front 0 (omega arith); numbers = λ q a. m .numbers q (omega arith) }
+
+  own-over : (v : List ℕ) (i q : ℕ) → i < length v → ((q ≡ i → ⊥) → getD v q 0 ≡ getD p q 0 / d) → getD (set v i (getD p i 0 / d)) q 0 ≡ getD p q 0 / d
+  own-over v i q h f =
+      ⊎-elim
+      (λ (e : q ≡ i). rw e (getD-set-same v i (getD p i 0 / d) 0 h))
+      (λ (n : q ≡ i → ⊥). getD-set-other v i q (getD p i 0 / d) 0 n ∙ f n)
+      (same q i)
+
+  -- So it is by dividing the weights, and each other number but the Reward, which is 0, on its own.
+  pub apart-over : getD p rewardAt 0 ≡ 0
+      → Divided d p (set (lowered d (endOfPart p) p (over d (midOf weightsAt (endOfPart p - weightsAt) p))) unknownAt (getD p unknownAt 0 / d))
+  apart-over z =
+      let m = from-over weightsAt (omega arith) in
+      let y = from weightsAt d p in
+      let y₁ = set y goalAt (getD p goalAt 0 / d) in
+      let y₂ = set y₁ trapAt (getD p trapAt 0 / d) in
+      let l : weightsAt ≤ length y = omega (arith, m .len) in
+      let l₁ : weightsAt ≤ length y₁ = rw (length-set y goalAt (getD p goalAt 0 / d)) l in
+      let l₂ : weightsAt ≤ length y₂ = rw (length-set y₁ trapAt (getD p trapAt 0 / d)) l₁ in
+      record {
+        len = simp length-set (m .len);
+        targets = getD-set-other y₂ unknownAt 0 (getD p unknownAt 0 / d) 0 (λ e. omega arith) ∙ getD-set-other y₁ trapAt 0 (getD p trapAt 0 / d) 0 (λ e. omega arith)
+            ∙ getD-set-other y goalAt 0 (getD p goalAt 0 / d) 0 (λ e. omega arith) ∙ m .front 0 (omega arith);
+        numbers = λ q a.
+            own-over y₂ unknownAt q (omega arith)
+            (λ u.
+            own-over y₁ trapAt q (omega arith)
+            (λ t.
+            own-over y goalAt q (omega arith)
+            (λ g.
+            ⊎-elim
+            (λ (b : q < weightsAt).
+            let e : q ≡ rewardAt = omega arith in
+            rw e (m .front rewardAt (omega arith) ∙ z ∙ sym (rw z (zero-div d))))
+            (λ (b : weightsAt ≤ q). m .numbers q b)
+            (below q weightsAt))));
+      }
 
 module _ {d : ℕ} {p v : List ℕ} (h : Divided d p v) where
   pub divided-end : endOfPart v ≡ endOfPart p
@@ -162,6 +217,35 @@ module _ {d : ℕ} {p v : List ℕ} (h : Divided d p v) where
           held = omega (arith, divided-end, h .len, s .held);
           bound = rw divided-row (omega (arith, over-sum d (unpacked n p) (rewardColumn n), s .bound));
         }
+
+-- The weights as they were lent, divided, are those of the part that is divided.
+module _ {d n : ℕ} {p v : List ℕ} (h : Divided d p v) (s : Summable n p) where
+  abbrev mid : List ℕ
+  mid = midOf weightsAt (endOfPart p - weightsAt) p
+
+  pub weights-length : length mid ≡ ones (targetsOf p)
+  weights-length = mid-len weightsAt (endOfPart p) p (s .held) ∙ omega arith
+
+  pub weight-over : (i : ℕ) → i < ones (targetsOf p) → cell (over d mid) i ≡ getD v (weightsAt + i) 0
+  weight-over i b =
+      over-cell d mid i ∙ ap (λ x. x / d) (mid-at weightsAt (endOfPart p) p i (omega arith)) ∙ sym (h .numbers (weightsAt + i) (omega arith))
+
+  -- And with Goal and Trap they are all columns of it but Unknown and Reward.
+  pub others-over : sumTo (cell (over d mid)) (length mid) + getD p goalAt 0 / d + getD p trapAt 0 / d ≡ sumTo (cell (unpacked n v)) (unknownColumn n)
+  others-over =
+      let m = divided-summable h n s in
+      let f : ℕ → ℕ = λ i. getD v (weightsAt + i) 0 in
+      omega (
+        arith,
+        ap (sumTo (cell (over d mid))) weights-length ∙ sum-ext (cell (over d mid)) f (ones (targetsOf p)) weight-over ∙ ap (λ t. sumTo f (ones t)) (sym (h .targets)),
+        weights-sum n v (m .inside) (m .held),
+        sum-next (cell (unpacked n v)) (n + 1) (n + 2) (omega arith),
+        sum-next (cell (unpacked n v)) n (n + 1) (omega arith),
+        goal-stands n .here v,
+        trap-stands n .here v,
+        h .numbers goalAt (omega arith),
+        h .numbers trapAt (omega arith),
+      )
 
 -- In lowest terms a packed part stays packed: no weight becomes 0.
 pub lowest-packed : {d n : ℕ} {p v : List ℕ} → Divided d p v → d ≡ divisor (unpacked n p) → Packed n p → Packed n v

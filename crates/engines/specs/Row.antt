@@ -5,9 +5,12 @@ use mathlib.Core.Bool.{Bool, true, false}
 use mathlib.Core.List.{List}
 use lib.ListN.{length}
 use Rattle.meaning.specs.Chain.{M}
-use Rattle.meaning.specs.Row.{Row, cell, width, total, reward, exact, rounding}
+use Rattle.meaning.specs.Number.{sumTo}
+use Rattle.meaning.specs.Row.{Row, cell, width, total, reward, over, exact, rounding}
 use Rattle.meaning.specs.Stop.{Large}
 use Rattle.engines.specs.Packed.{endOfPart, unpacked, Below, Packed, Modest, Spread}
+use Rattle.engines.specs.Filled.{countTo}
+use Rattle.engines.specs.declared.row.Lowered.{Lowered}
 use Rattle.engines.specs.declared.row.Settled.{Settled}
 
 -- Each of the first m numbers of the row is at most M.
@@ -40,6 +43,12 @@ pub record Removable (b : Bool) (n s d : ℕ) (pivot y : List ℕ) : Type 0 wher
 pub record Tested (b : Bool) (n : ℕ) (r : Row) (answer : Bool) : Type 0 where
   pub fit : answer ≡ true → Fit b n r
   pub large : answer ≡ false → (b ≡ exact) × Large n r
+
+-- Weights, divided by 2 ^ k, have become v, and the answer is their sum and how many are above 0.
+pub record Shifted (k : ℕ) (l v : List ℕ) (answer : Lowered) : Type 0 where
+  pub each : v ≡ over (2 ^ k) l
+  pub sum : answer .sum ≡ sumTo (cell v) (length l)
+  pub some : answer .some ≡ countTo (cell v) (length l)
 
 -- A packed part has become v, which stands for r, and the answer says whether that fits, and which divisor was taken out.
 pub record Became (b : Bool) (n : ℕ) (r : Row) (taken : ℕ) (v : List ℕ) (answer : Settled) : Type 0 where

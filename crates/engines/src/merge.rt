@@ -1,6 +1,6 @@
 // Packed rows that are written: the row that comes about when a state is removed, and a row without its weights of 0.
 ghost use mathlib.Core.Path.{_≡_};
-ghost use mathlib.Core.Bool.{true, false};
+ghost use mathlib.Core.Bool.{true};
 ghost use Prim.Native.Nat.{ℕ, _+_, _*_, _≤_, _<_};
 ghost use lib.Count.{ones};
 ghost use lib.ListN.{length, getD};
@@ -176,29 +176,11 @@ pub(crate) fn replace(
     merge(part, &x, pivot, y, s, d, w);
 }
 
-// Whether some number is 0.
-fn holed(weights: &[u64]) -> bool
-    ensures { λ r. ⌜ (r ≡ false → (q : ℕ) → q < length (now (weights .entry)) → 0 < getD (now (weights .entry)) q 0) ⌝ }
-{
-    let mut q = 0;
-    while q < weights.len() {
-        if weights[q] == 0 {
-            return true;
-        }
-        q += 1;
-    }
-    false
-}
-
 // Leaves out the targets whose weight has become 0. The row stays.
 pub(crate) fn squeeze(part: &mut [u64])
     requires { ⌜ Squeezable (now part) ⌝ }
     ensures { λ _. ⌜ Squeezed (now (part .entry)) (now (part .exit)) ⌝ }
 {
-    let e = end(part);
-    if !holed(&part[WEIGHTS..e]) {
-        return;
-    }
     let x = spread(part);
     let none = [0u64; Chain::WIDTH];
     merge(part, &x, &none, &none, Chain::WIDTH, 1, 0);

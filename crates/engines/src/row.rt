@@ -2,20 +2,23 @@
 ghost use mathlib.Core.Path.{_≡_};
 ghost use mathlib.Core.Bool.{true, false};
 ghost use Prim.Native.Nat.{ℕ, _-_, _^_, _<_, _≤_};
+ghost use lib.Dec.{ltb};
 ghost use lib.ListN.{length, drop};
 ghost use lib.Count.{trailingZeros};
 ghost use Rattle.meaning.specs.Chain.{mostStates, M};
-ghost use Rattle.meaning.specs.Number.{sumTo};
+ghost use Rattle.meaning.specs.Number.{sumTo, only};
 ghost use Rattle.meaning.specs.Row.{cell, total, reward, gcdOf, divisor, over, lowest, upTo, shiftOf, rounded, bounded, settled};
 ghost use Rattle.engines.specs.Packed.{endOfPart, statesOf, unpacked, Packed};
-ghost use Rattle.engines.specs.Row.{Summable, Tested, Became};
+ghost use Rattle.engines.specs.Row.{Summable, Tested, Shifted, Became};
 use crate::bits::alone;
 use crate::bits::lowest;
 use crate::bits::others;
 use crate::merge::squeeze;
 use crate::part::GOAL;
 use crate::part::REWARD;
+use crate::part::TRAP;
 use crate::part::UNKNOWN;
+use crate::part::WEIGHTS;
 use crate::part::end;
 use chain::Chain;
 use chain::fraction::gcd;
@@ -24,6 +27,12 @@ use chain::fraction::gcd;
 pub(crate) struct Settled {
     pub fits: bool,
     pub divisor: u64,
+}
+
+// What the weights of a row come to once they are divided: their sum, and how many are above 0.
+struct Lowered {
+    sum: u64,
+    some: u64,
 }
 
 // The place behind the last number above 0, and 0 where there is none.
@@ -203,8 +212,34 @@ fn shift(t: u64) -> u64
     k
 }
 
-// Rounds a packed row, whose numbers end at e and whose total is t: the total up, each number but Unknown down, and Unknown takes what the total
-// lacks. A weight that has become 0 is left out.
+// 1 where a weight that fits is above 0, else 0: with no test, so that the compiler can take several at once.
+fn above(x: u64) -> u64
+    requires { ⌜ x ≤ M ⌝ }
+    ensures { λ r. ⌜ r ≡ only (ltb 0 x) 1 ⌝ }
+{
+    (x + Chain::LIMIT) >> 31
+}
+
+// Divides each weight of a row by 2 ^ k, and answers what they come to.
+fn lower_weights(weights: &mut [u64], k: u64) -> Lowered
+    requires { ⌜ (k < 64) × (sumTo (cell (over (2 ^ k) (now weights))) (length (now weights)) ≤ M) ⌝ }
+    ensures { λ r. ⌜ Shifted k (now (weights .entry)) (now (weights .exit)) r ⌝ }
+{
+    let mut sum = 0;
+    let mut some = 0;
+    let mut j = 0;
+    while j < weights.len() {
+        let x = weights[j] >> k;
+        weights[j] = x;
+        sum += x;
+        some += above(x);
+        j += 1;
+    }
+    Lowered { sum, some }
+}
+
+// Rounds a packed row, whose numbers end at e, whose total is t and whose Reward is 0: the total up, each number but Unknown down, and Unknown takes
+// what the total lacks. A weight that has become 0 is left out.
 fn round(part: &mut [u64], e: usize, t: u64)
     requires { let n = statesOf (now part) in
         let r = unpacked n (now part) in
@@ -216,9 +251,16 @@ fn round(part: &mut [u64], e: usize, t: u64)
         ⌜ Packed n v × (unpacked n v ≡ rounded n (unpacked n p)) × (total n (unpacked n v) ≤ M) ⌝ }
 {
     let k = shift(t);
-    lower(&mut part[REWARD..e], k);
-    let q = total(part, e) - part[UNKNOWN];
+    let goal = part[GOAL] >> k;
+    let trap = part[TRAP] >> k;
+    let l = lower_weights(&mut part[WEIGHTS..e], k);
+    let q = l.sum + goal + trap;
+    part[GOAL] = goal;
+    part[TRAP] = trap;
     part[UNKNOWN] = up(t, k) - q;
+    if l.some as usize == e - WEIGHTS {
+        return;
+    }
     squeeze(part);
 }
 

@@ -1,72 +1,69 @@
-use Prim.Native.Nat.{_-_, _^_}
 use mathlib.Core.Path.{_∙_}
+use native.Mathlib.Omega.{arith}
 use lib.ListN.{length-set}
 use borrow.Author.Needs.{needs}
-use borrow.Rule.Slice.PartMut.{putMid}
-use Rattle.engines.specs.Packed.{rewardAt}
-use Rattle.engines.proofs.Stored.{Divided}
-use Rattle.engines.proofs.Settling.{lent-over, divided-total, divided-front, unknown-within, others-within, rounded-squeezable, rounded-squeezed}
+use Rattle.engines.proofs.Settling.{Ready, weights-fit, others-fit, others-within, topped-length, rounded-squeezable, rounded-squeezed, rounded-whole}
 use Rattle.engines.proofs.row.round.Statement.{statement}
 use Rattle.engines.proofs.row.round.Tie as tie
 
--- The part, shifted.
-shifted : (c : tie.After-lower)
-    → let s = c .before .before .before .before in
-    Divided (2 ^ c .before .before .shift .result) (s .args .part .now) (putMid rewardAt (s .args .e - rewardAt) (s .args .part .now) (c .lower .last .0))
-shifted c =
-    let h = c .before .before .before .before .pre in
-    lent-over (h .1) (h .3) (h .2) (c .lower .ensures)
+-- The part that is rounded.
+ready : (c : tie.After-shift) → let a = c .before .before .args in Ready (c .shift .result) (a .e) (a .t) (a .part .now)
+ready c =
+    let h = c .before .before .pre in
+    record { packed = h .1; summable = h .3; ends = h .2; whole = h .4; least = c .shift .ensures .0; unpaid = h .5 }
 
-total-requires : tie.Need-total-requires
-total-requires c κs =
-    let r = c .before .before .before in
-    let h = r .before .before .before .before .pre in
-    divided-total (shifted r) (h .3) (h .2)
+lower-weights-requires : tie.Need-lower-weights-requires
+lower-weights-requires c κs = let r = c .before .before .before in (omega (arith, r .shift .ensures .1), weights-fit (ready r))
 
-slice-read-q : tie.Need-slice-read-q
-slice-read-q c =
-    let r = c .before .before .before .before .before in
-    divided-front (shifted r) (r .before .before .before .before .pre .3)
+add-q : tie.Need-add-q
+add-q c =
+    let z = c .before .before .before in
+    omega (arith, others-fit (ready (z .before .before .before .before)) (z .lower-weights .ensures))
 
-sub-q : tie.Need-sub-q
-sub-q c =
-    let r = c .before .before .before .before .before in
-    let h = r .before .before .before .before .pre in
-    unknown-within (r .before .before .shift .result) (shifted r) (h .1) (h .3) (h .4) (c .before .total .ensures)
+add-q-2 : tie.Need-add-q-2
+add-q-2 c =
+    let z = c .before .before .before in
+    omega (arith, others-fit (ready (z .before .before .before .before)) (z .lower-weights .ensures))
+
+slice-write-part-2 : tie.Need-slice-write-part-2
+slice-write-part-2 c = simp length-set (search needs)
 
 sub-part : tie.Need-sub-part
 sub-part c =
-    let r = c .before .before .before .before .before .before in
-    let h = r .before .before .before .before .pre in
-    others-within (r .before .before .shift .result) (shifted r) (h .1) (h .3) (h .4) (c .before .before .total .ensures) (r .before .before .shift .ensures .0) (c .up .ensures)
+    let z = c .before .before .before .before in
+    others-within (ready (z .before .before .before .before)) (z .lower-weights .ensures) (c .up .ensures)
 
-slice-write-part : tie.Need-slice-write-part
-slice-write-part c =
-    let r = c .before .before .before .before .before .before in
-    divided-front (shifted r) (r .before .before .before .before .pre .3)
-
-squeeze-requires : tie.Need-squeeze-requires
-squeeze-requires c κs =
-    let u = c .before in
-    let r = u .before .before .before .before .before .before in
-    let s = r .before .before .before in
-    let h = s .before .pre in
-    rounded-squeezable (r .before .before .shift .result) (shifted r) (h .1) (h .3) (h .4) (u .before .before .total .ensures) (r .before .before .shift .ensures .0) (u .up .ensures)
-    (s .slice-known .given 0 .fits) (h .5)
-
-same-length : tie.Need-same-length
-same-length c =
-    let z = c .before .before in
-    let r = z .before .before .before .before .before .before .before .before in
-    z .squeeze .kept .0 ∙ simp length-set (shifted r .len)
+slice-write-part-3 : tie.Need-slice-write-part-3
+slice-write-part-3 c = simp length-set (search needs)
 
 returns : tie.Need-returns
 returns c =
-    let z = c .before .before in
-    let u = z .before .before in
-    let r = u .before .before .before .before .before .before in
-    let h = r .before .before .before .before .pre in
-    rounded-squeezed (r .before .before .shift .result) (shifted r) (h .1) (h .3) (h .4) (u .before .before .total .ensures) (r .before .before .shift .ensures .0) (u .up .ensures) (h .0) (z .squeeze .ensures)
+    let u = c .before in
+    let z = u .before .before .before .before in
+    let r = z .before .before .before .before in
+    rounded-whole (ready r) (z .lower-weights .ensures) (u .up .ensures) (r .before .slice-known .given 0 .fits) (r .before .before .pre .0) (c .if1 .taken)
+
+squeeze-requires : tie.Need-squeeze-requires
+squeeze-requires c κs =
+    let u = c .before .before in
+    let z = u .before .before .before .before in
+    let r = z .before .before .before .before in
+    rounded-squeezable (ready r) (z .lower-weights .ensures) (u .up .ensures) (r .before .slice-known .given 0 .fits)
+
+same-length-2 : tie.Need-same-length-2
+same-length-2 c =
+    let q = c .before .before in
+    let u = q .before .before .before in
+    let z = u .before .before .before .before in
+    q .squeeze .kept .0 ∙ topped-length (ready (z .before .before .before .before)) (z .lower-weights .ensures) (u .up .ensures)
+
+returns-2 : tie.Need-returns-2
+returns-2 c =
+    let q = c .before .before in
+    let u = q .before .before .before in
+    let z = u .before .before .before .before in
+    let r = z .before .before .before .before in
+    rounded-squeezed (ready r) (z .lower-weights .ensures) (u .up .ensures) (r .before .before .pre .0) (q .squeeze .ensures)
 
 pub round-spec : {M : Type 1} → statement M
 round-spec =
@@ -76,13 +73,21 @@ round-spec =
     (λ c. search needs)
     (λ c. search needs)
     (λ c. search needs)
-    (λ c κs. search needs)
-    total-requires
-    slice-read-q
-    sub-q
+    (λ c. search needs)
+    (λ c. search needs)
+    (λ c. search needs)
+    (λ c. search needs)
+    lower-weights-requires
+    add-q
+    add-q-2
+    (λ c. search needs)
+    slice-write-part-2
     (λ c κs. search needs)
     sub-part
-    slice-write-part
+    slice-write-part-3
+    (λ c. search needs)
+    (λ c. search needs)
+    returns
     squeeze-requires
-    same-length
-    returns)
+    same-length-2
+    returns-2)
