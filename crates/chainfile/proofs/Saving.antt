@@ -151,9 +151,9 @@ module _ (f : Input) (lost before : List ℕ) where
         )
 
 -- Where nothing is lost, what is left is the file's own.
-pub nothing-lost : (f : Input) (t : Tables) → leftTables f (verdict (replicate mostBlocks 0)) t ≡ filledIn f t
+pub nothing-lost : (f : Input) (t : Tables) → leftTables f (verdict (replicate 0 0)) t ≡ filledIn f t
 nothing-lost f t =
-    let e = kept-all f (verdict (replicate mostBlocks 0)) (getD-zeros mostBlocks) in
+    let e = kept-all f (verdict (replicate 0 0)) (getD-zeros 0) in
     λ i.
     record {
       denominators = filled (denominatorsIn f) (t .denominators);

@@ -88,7 +88,8 @@ pub fn open_file(
             place: 0,
         };
     }
-    let lost = [0u64; layout::BLOCKS];
+    // No block is lost: past the end of a table stands 0.
+    let lost = [0u64; 0];
     fill::tables(kept, &lost, denominators, edges, order, rewards);
     answer(kept)
 }
