@@ -6,8 +6,9 @@ use native.Mathlib.Numerals.{add-one}
 use native.Mathlib.Omega.{arith}
 use mathlib.Core.Bool.{Bool, true, false}
 use lib.Dec.{eqb}
-use Rattle.meaning.specs.Number.{choose}
+use Rattle.meaning.specs.Number.{choose, sumTo}
 use Rattle.meaning.specs.Block.{Input, blockByte, firstSum, secondSum, secondVersion, versionIn, checkedBytes}
+use Rattle.theory.specs.Numbers.Sum.{sum-zero}
 use Rattle.theory.specs.Files.Agree.{sumOf}
 use Rattle.chainfile.specs.Input.{end}
 
@@ -39,13 +40,24 @@ module _ {m s : ℕ} {f : ℕ → ℕ} {count : ℕ} where
       next : (first + b) % m ≡ firstSum m s f (i + 1)
       next = sym (mod-add-mod first m b) ∙ rw (add-one, g .first-is, e)
 
+  -- k bytes more.
+  pub run : {i first second : ℕ} → Summed m s f count i first second → count ≤ end → (k : ℕ) → i + k ≤ count → ((c : ℕ) → c < k → f (i + c) < 256)
+      → let g : ℕ → ℕ = λ c. f (i + c) in Summed m s f count (i + k) (first + sumTo g k) (second + first * k + sumTo (λ c. sumTo g (suc c)) k)
+  unfolding sumTo
+  run {i} {first} {second} g l zero h bytes = subst₃ (Summed m s f count) (omega arith) (omega arith) (omega arith) g
+  run {i} {first} {second} g l (suc k) h bytes =
+      subst₃ (Summed m s f count) (omega arith) (omega arith) (omega arith)
+      (more (run g l k (omega arith) (λ c b. bytes c (omega arith))) (omega arith) l refl (bytes k (omega arith)))
+
   -- k bytes that are 0.
   pub rest : {i first second : ℕ} → Summed m s f count i first second → count ≤ end → (k : ℕ) → i + k ≤ count → ((j : ℕ) → i ≤ j → f j ≡ 0)
       → Summed m s f count (i + k) first (second + first * k)
-  rest {i} {first} {second} g l zero h z = subst₃ (Summed m s f count) (omega arith) refl (omega arith) g
-  rest {i} {first} {second} g l (suc k) h z =
-      subst₃ (Summed m s f count) (omega arith) (omega arith) (omega arith)
-      (more (rest g l k (omega arith) z) (omega arith) l (sym (z (i + k) (omega arith))) (omega arith))
+  rest {i} {first} {second} g l k h z =
+      let nought : (n : ℕ) → sumTo (λ c. f (i + c)) n ≡ 0 = λ n. sum-zero _ n (λ c b. z (i + c) (omega arith)) in
+      subst₃ (Summed m s f count) refl
+      (omega (arith, nought k))
+      (omega (arith, sum-zero (λ c. sumTo (λ d. f (i + d)) (suc c)) k (λ c b. nought (suc c))))
+      (run g l k h (λ c b. omega (arith, z (i + c) (omega arith))))
 
   pub all : {i first second : ℕ} → Summed m s f count i first second → count ≤ i
       → (first % m ≡ firstSum m s f count) × (second % m ≡ secondSum m s f count)

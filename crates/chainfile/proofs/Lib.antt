@@ -5,6 +5,7 @@ pub mod Fletcher
 pub mod Content
 pub mod Tested
 pub mod Filling
+pub mod Columns
 pub mod Flags
 pub mod Saving
 pub mod Opening

@@ -2,3 +2,4 @@ pub mod Input
 pub mod Tells
 pub mod Written
 pub mod Index
+pub mod Columns

@@ -5,8 +5,8 @@ use lib.ListN.{length, getD, List·getD-eq-default}
 use borrow.Author.Needs.{needs}
 use Rattle.meaning.specs.Block.{checkedBytes}
 use Rattle.chainfile.proofs.Fletcher.{Summed, none, more, rest, all}
-use Rattle.chainfile.proofs.sums.fletcher.Statement.{statement}
-use Rattle.chainfile.proofs.sums.fletcher.Tie as tie
+use Rattle.chainfile.proofs.sums.byte_by_byte.Statement.{statement}
+use Rattle.chainfile.proofs.sums.byte_by_byte.Tie as tie
 
 abbrev Inv-loop : tie.InvT-loop
 Inv-loop block modulus begin first₀ second₀ i₀ first second i = (i ≤ length block) × Summed modulus begin (λ j. getD block j 0) checkedBytes i first second
@@ -40,8 +40,8 @@ returns c =
     let bytes = at .before .before .args .block .now in
     all (rest (at .loop .inv .1) (search needs) (checkedBytes - length bytes) (omega arith) (λ j h. List·getD-eq-default bytes 0 (omega arith))) (omega arith)
 
-pub fletcher-spec : {M : Type 1} → statement M
-fletcher-spec =
+pub byte-by-byte-spec : {M : Type 1} → statement M
+byte-by-byte-spec =
     tie.close
     (tie.spec
     Inv-loop
