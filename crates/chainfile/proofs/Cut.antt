@@ -80,3 +80,13 @@ module _ (kept : List ℕ) (high : ℕ) {e : ℕ} (ends : e ≡ min high (length
         clear (j, (omega arith, (omega (arith, cut-length, s .1 .0), λ z. s .1 .1 .1 (sym same ∙ z)))))
         (λ (b : e ≤ s .0). s .1 .1 .1 (past (s .0) b (s .1 .1 .0)))
         (below (s .0) e)
+
+-- So many bytes from `at` on, of which those are cut out that are kept.
+pub cut-from : (kept : List ℕ) (at width : ℕ) {low e : ℕ} → low ≡ min at (length kept) → e ≡ min (at + width) (length kept)
+    → (j : ℕ) → j < width → getD (cut low e kept) j 0 ≡ getD kept (at + j) 0
+cut-from kept at width {low} {e} begins ends j l =
+    cut-at kept (at + width) ends low (omega arith) j (omega arith)
+    ∙ ⊎-elim
+    (λ (b : length kept < at). List·getD-eq-default kept 0 (omega arith) ∙ sym (List·getD-eq-default kept 0 (omega arith)))
+    (λ (b : at ≤ length kept). let same : low ≡ at = omega arith in ap (λ z. getD kept (z + j) 0) same)
+    (below (length kept) at)

@@ -1,5 +1,5 @@
 -- A table that is filled from the front, and the numbers that go into it.
-use Prim.Native.Nat.{ℕ, zero, suc, _+_, _*_, _-_, _/_, _≤_, _<_}
+use Prim.Native.Nat.{ℕ, zero, suc, _+_, _*_, _-_, _/_, _^_, _≤_, _<_, min}
 use mathlib.Core.Path.{_≡_, refl, sym, ap, subst, _∙_}
 use mathlib.Core.Logic.{⊎-elim, inl, inr}
 use mathlib.Core.Bool.{Bool}
@@ -10,13 +10,15 @@ use lib.ListN.{length, getD, set, drop, length-set, length-append, length-drop, 
 use lib.Seq.{ext-getD, getD-set-same, getD-set-other, getD-append-add, getD-drop}
 use borrow.Author.Tests.{eq-eqb, ne-eqb, lt-ltb}
 use Rattle.meaning.specs.Number.{decides, sumTo, tabFrom, filled}
-use Rattle.meaning.specs.Chain.{mostStates, mostEdges, edgeSize, edgeCount, edgeNumber}
-use Rattle.meaning.specs.Block.{Input, byte, numberAt, headStates, headEdges, stateAt, orderByte}
+use Rattle.meaning.specs.Chain.{mostStates, mostEdges, edgeSize, edge, edgeCount, edgeNumber}
+use Rattle.meaning.specs.Block.{Input, byte, numberAt, recordSize, headStates, headEdges, stateAt, orderByte, edgeRewardByte, weightByte}
 use Rattle.meaning.specs.File.{Tables, Short, denominatorsIn, ordersIn}
-use Rattle.theory.specs.Numbers.Sum.{same, below, last-or-below}
+use Rattle.theory.specs.Numbers.Sum.{same, below, last-or-below, sum-ext}
 use Rattle.theory.specs.Numbers.Tab.{tab-at, tab-past, tab-length}
 use Rattle.chain.specs.Edge.{placed}
-use Rattle.chainfile.specs.Tells.{Within, ShortIn, Narrow}
+use Rattle.chainfile.specs.Input.{input}
+use Rattle.chainfile.specs.Tells.{Within, ShortIn, Narrow, edgeFrom}
+use Rattle.chainfile.proofs.Cut.{cut, cut-from}
 
 -- The entries before k are new, the others as they were.
 pub record Filled (f : ℕ → ℕ) (before : List ℕ) (k : ℕ) (table : List ℕ) : Type 0 where
@@ -132,3 +134,20 @@ module _ (f : Input) (t : List ℕ) where
 
   pub orders-are : filled (tabFrom 0 (headStates f) (λ i. numberAt f (stateAt i + orderByte) 1)) t ≡ filled (ordersIn f) t
   orders-are = ap (λ l. filled l t) (tab-same 0 (headStates f) _ _ (λ j. one-byte f (stateAt j + orderByte)))
+
+-- The edge of a record that is cut out.
+module _ (kept : List ℕ) (at : ℕ) {low e : ℕ} (begins : low ≡ min at (length kept)) (ends : e ≡ min (at + recordSize) (length kept)) where
+  record-number : (offset width : ℕ) → offset + width ≤ recordSize
+      → numberAt (input (cut low e kept) 0) offset width ≡ numberAt (input kept 0) (at + offset) width
+  record-number offset width h =
+      let place : (k : ℕ) → at + (offset + k) ≡ at + offset + k = λ k. omega arith in
+      sum-ext _ _ width
+      (λ k l. ap (λ z. z * 256 ^ k) (cut-from kept at recordSize begins ends (offset + k) (omega arith) ∙ ap (λ z. getD kept z 0) (place k)))
+
+  pub cut-edge : edgeFrom (input (cut low e kept) 0) 0 ≡ edgeFrom (input kept 0) at
+  cut-edge =
+      let from = cut-from kept at recordSize begins ends 0 (omega arith) ∙ ap (λ z. getD kept z 0) (add-zero at) in
+      let to = cut-from kept at recordSize begins ends 1 (omega arith) in
+      let weight = record-number weightByte 4 (omega arith) in
+      let reward = record-number edgeRewardByte 2 (omega arith) in
+      λ i. edge (from i) (to i) (weight i) (reward i)

@@ -5,8 +5,8 @@ use mathlib.Core.Logic.{_⊎_}
 use mathlib.Core.Bool.{true, false}
 use mathlib.Core.List.{List}
 use lib.ListN.{length}
-use Rattle.meaning.specs.Chain.{mostStates, mostEdges, edgeSize}
-use Rattle.meaning.specs.Block.{Input, stateBlocks, demanded, headStates, headEdges, flagIn}
+use Rattle.meaning.specs.Chain.{mostStates, mostEdges, edgeSize, edge}
+use Rattle.meaning.specs.Block.{Input, byte, numberAt, stateBlocks, demanded, headStates, headEdges, flagIn, edgeRewardByte, weightByte}
 use Rattle.meaning.specs.File.{
   LengthFault,
   BlockRefused,
@@ -83,6 +83,10 @@ pub record Verdicts (f : Input) (lost : List ℕ) : Type 0 where
   pub size : length lost ≡ mostBlocks
   pub edges : (b : ℕ) → stateBlocks f < b → b < demanded f → LostBy f b (verdict lost b)
   pub others : (b : ℕ) → (b ≤ stateBlocks f) ⊎ (demanded f ≤ b) → verdict lost b ≡ 0
+
+-- The edge whose record begins at this byte.
+abbrev pub edgeFrom : Input → ℕ → List ℕ
+edgeFrom f at = edge (byte f at) (byte f (at + 1)) (numberAt f (at + weightByte) 4) (numberAt f (at + edgeRewardByte) 2)
 
 -- Where edge e is kept it goes to place k of the table, and the next place is the one after it; else nothing goes there.
 pub data EdgeSet (f : Input) (lost : List ℕ) (e k : ℕ) (before after : List ℕ) (next : ℕ) : Type 0 where

@@ -9,7 +9,7 @@ ghost use Rattle.meaning.specs.File.{ShortOf, mostBlocks, edgeIn, goalsIn};
 ghost use Rattle.meaning.specs.Salvage.{keptEdges, keptBefore, leftTables, verdict};
 ghost use Rattle.chain.specs.Edge.{placed};
 ghost use Rattle.chainfile.specs.Input.{input, end};
-ghost use Rattle.chainfile.specs.Tells.{Within, ShortFor, Narrow, EdgeSet, tables};
+ghost use Rattle.chainfile.specs.Tells.{Within, ShortFor, Narrow, edgeFrom, EdgeSet, tables};
 use crate::bytes;
 use crate::head;
 use crate::layout;
@@ -97,17 +97,30 @@ pub(crate) fn goals(kept: &[u8]) -> u64
     goals
 }
 
-// Edge e of the file, set at place k of the table.
+// An edge from the bytes of its record, set at place k of the table.
+fn put_record(bytes: &[u8], table: &mut [u64], k: usize)
+    ensures { λ _. ⌜ now (table .exit) ≡ placed (now (table .entry)) k (edgeFrom (input (now (bytes .entry)) 0) 0) ⌝ }
+{
+    let from = bytes::byte(bytes, layout::FROM);
+    let to = bytes::byte(bytes, layout::TO);
+    let weight = bytes::number(bytes, layout::WEIGHT, layout::QUAD);
+    let reward = bytes::number(bytes, layout::EDGE_REWARD, layout::PAIR);
+    edge::put(table, k, from, to, weight, reward);
+}
+
+// Edge e of the file, set at place k of the table. Where its record is kept whole, the compiler sees that all of its bytes are there.
 fn edge_record(kept: &[u8], first: usize, e: usize, table: &mut [u64], k: usize)
     requires { ⌜ (first ≡ 1 + stateBlocks (input (now kept) 0)) × (first + e / fullBlock < mostBlocks) ⌝ }
     ensures { λ _. ⌜ now (table .exit) ≡ placed (now (table .entry)) k (edgeIn (input (now (kept .entry)) 0) e) ⌝ }
 {
     let at = record_at(first, e);
-    let from = bytes::byte(kept, at + layout::FROM);
-    let to = bytes::byte(kept, at + layout::TO);
-    let weight = bytes::number(kept, at + layout::WEIGHT, layout::QUAD);
-    let reward = bytes::number(kept, at + layout::EDGE_REWARD, layout::PAIR);
-    edge::put(table, k, from, to, weight, reward);
+    let after = at + layout::RECORD;
+    if after <= kept.len() {
+        put_record(&kept[at..after], table, k);
+        return;
+    }
+    let low = bytes::end(kept, at);
+    put_record(&kept[low..], table, k);
 }
 
 // An edge of a lost block is skipped. Answers the place of the next edge.
