@@ -1,6 +1,7 @@
 // The elimination on the rows of a lent table of 64-bit numbers: exact, or with rows rounded where they do not fit.
 pub mod answer;
 mod bits;
+mod divisor;
 pub mod entry;
 mod first;
 mod gather;

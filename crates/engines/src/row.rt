@@ -1,18 +1,15 @@
-// One packed row: its lowest terms, its total, and how it is rounded.
+// One packed row: its total, how it is rounded, and what is kept of it.
 ghost use mathlib.Core.Path.{_≡_};
 ghost use mathlib.Core.Bool.{true, false};
-ghost use Prim.Native.Nat.{ℕ, _-_, _^_, _<_, _≤_};
+ghost use Prim.Native.Nat.{ℕ, _^_, _<_, _≤_};
 ghost use lib.Dec.{ltb};
-ghost use lib.ListN.{length, drop};
-ghost use lib.Count.{trailingZeros};
+ghost use lib.ListN.{length};
 ghost use Rattle.meaning.specs.Chain.{mostStates, M};
 ghost use Rattle.meaning.specs.Number.{sumTo, only};
-ghost use Rattle.meaning.specs.Row.{cell, total, reward, gcdOf, divisor, over, lowest, upTo, shiftOf, rounded, bounded, settled};
+ghost use Rattle.meaning.specs.Row.{cell, total, reward, divisor, over, upTo, shiftOf, rounded, bounded, settled};
 ghost use Rattle.engines.specs.Packed.{endOfPart, statesOf, unpacked, Packed};
 ghost use Rattle.engines.specs.Row.{Summable, Tested, Shifted, Became};
-use crate::bits::alone;
-use crate::bits::lowest;
-use crate::bits::others;
+use crate::divisor::reduce;
 use crate::merge::squeeze;
 use crate::part::GOAL;
 use crate::part::REWARD;
@@ -21,7 +18,6 @@ use crate::part::UNKNOWN;
 use crate::part::WEIGHTS;
 use crate::part::end;
 use chain::Chain;
-use chain::fraction::gcd;
 
 // What became of a new row: whether it fits, and the divisor that was taken out of it. Of a table of rows that all fit it is the largest of these.
 pub(crate) struct Settled {
@@ -33,127 +29,6 @@ pub(crate) struct Settled {
 struct Lowered {
     sum: u64,
     some: u64,
-}
-
-// The place behind the last number above 0, and 0 where there is none.
-fn trimmed(row: &[u64]) -> usize
-    ensures { λ r.
-        let l = now (row .entry) in
-        ⌜ (r ≤ length l) × (gcdOf (drop r l) ≡ 0) × (0 < r → 0 < cell l (r - 1)) ⌝ }
-{
-    let mut j = row.len();
-    while 0 < j {
-        if row[j - 1] != 0 {
-            return j;
-        }
-        j -= 1;
-    }
-    0
-}
-
-// The place behind the last number before place e that g does not divide, and 0 where it divides all: up to there g stays the divisor.
-fn undivided(row: &[u64], e: usize, g: u64) -> usize
-    requires { ⌜ (e ≤ length (now row)) × (0 < g) × (g ≡ gcdOf (drop e (now row))) ⌝ }
-    ensures { λ r. ⌜ (r ≤ e) × (g ≡ gcdOf (drop r (now (row .entry)))) ⌝ }
-{
-    let mut j = e;
-    while 0 < j {
-        if row[j - 1] % g != 0 {
-            return j;
-        }
-        j -= 1;
-    }
-    0
-}
-
-// The divisor of a row whose numbers from place e on have the divisor g, a power of two: the lowest bit of g and of the numbers before e, all joined.
-// Where g is 1 they are not read.
-fn lowest_bit(row: &[u64], e: usize, g: u64) -> u64
-    requires { ⌜ (e ≤ length (now row)) × (g ≡ gcdOf (drop e (now row))) × (g ≡ 2 ^ trailingZeros 64 g) ⌝ }
-    ensures { λ r. ⌜ r ≡ gcdOf (now (row .entry)) ⌝ }
-{
-    if g == 1 {
-        return 1;
-    }
-    let mut all = g;
-    let mut i = 0;
-    while i < e {
-        all |= row[i];
-        i += 1;
-    }
-    alone(lowest(all))
-}
-
-// The greatest common divisor of the numbers of a row, 0 where all are 0. Numbers that it divides already are passed over, and once it is a power
-// of two it needs no further division.
-fn common(row: &[u64]) -> u64
-    ensures { λ r. ⌜ r ≡ gcdOf (now (row .entry)) ⌝ }
-{
-    let mut j = trimmed(row);
-    if j == 0 {
-        return 0;
-    }
-    j -= 1;
-    let mut g = row[j];
-    while others(g) != 0 {
-        j = undivided(row, j, g);
-        if j == 0 {
-            return g;
-        }
-        j -= 1;
-        g = gcd(row[j], g);
-    }
-    lowest_bit(row, j, g)
-}
-
-// Divides each number of a row by 2 ^ k.
-fn lower(row: &mut [u64], k: u64)
-    requires { ⌜ k < 64 ⌝ }
-    ensures { λ _. ⌜ now (row .exit) ≡ over (2 ^ k) (now (row .entry)) ⌝ }
-{
-    let mut j = 0;
-    while j < row.len() {
-        row[j] = row[j] >> k;
-        j += 1;
-    }
-}
-
-// Divides each number of a row, by a division each.
-fn quotients(row: &mut [u64], d: u64)
-    requires { ⌜ 0 < d ⌝ }
-    ensures { λ _. ⌜ now (row .exit) ≡ over d (now (row .entry)) ⌝ }
-{
-    let mut j = 0;
-    while j < row.len() {
-        row[j] = row[j] / d;
-        j += 1;
-    }
-}
-
-// Divides each number of a row, by a shift for the twos of the divisor and by a division only for an odd rest.
-fn divide(row: &mut [u64], d: u64)
-    requires { ⌜ 0 < d ⌝ }
-    ensures { λ _. ⌜ now (row .exit) ≡ over d (now (row .entry)) ⌝ }
-{
-    let k = u64::trailing_zeros(d) as u64;
-    lower(row, k);
-    let q = d >> k;
-    if q == 1 {
-        return;
-    }
-    quotients(row, q);
-}
-
-// Brings a row to lowest terms, and answers the divisor that it took out. A row of zeros stays, and so does a row whose divisor is 1.
-fn reduce(row: &mut [u64]) -> u64
-    ensures { λ r. ⌜ (now (row .exit) ≡ lowest (now (row .entry))) × (r ≡ divisor (now (row .entry))) ⌝ }
-{
-    let g = common(row);
-    if g <= 1 {
-        return 1;
-    }
-    divide(row, g);
-    g
 }
 
 // The sum of some numbers.

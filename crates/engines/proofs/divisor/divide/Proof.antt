@@ -4,8 +4,8 @@ use lib.Count.{trailing-le, trailingZeros}
 use borrow.Author.Needs.{needs}
 use Rattle.theory.specs.Numbers.Twos.{Twos, twos}
 use Rattle.engines.proofs.Lowest.{over-twos, over-even}
-use Rattle.engines.proofs.row.divide.Statement.{statement}
-use Rattle.engines.proofs.row.divide.Tie as tie
+use Rattle.engines.proofs.divisor.divide.Statement.{statement}
+use Rattle.engines.proofs.divisor.divide.Tie as tie
 
 divisor-twos : (c : tie.After-slice-known) → Twos 64 (c .before .args .d) (trailingZeros 64 (c .before .args .d))
 divisor-twos c = twos 64 (c .before .args .d) (omega arith) (omega arith)

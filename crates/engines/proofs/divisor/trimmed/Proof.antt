@@ -6,8 +6,8 @@ use lib.Seq.{drop-length}
 use borrow.Author.Needs.{needs}
 use Rattle.meaning.specs.Row.{gcdOf}
 use Rattle.engines.proofs.Divisors.{gcdOf-first}
-use Rattle.engines.proofs.row.trimmed.Statement.{statement}
-use Rattle.engines.proofs.row.trimmed.Tie as tie
+use Rattle.engines.proofs.divisor.trimmed.Statement.{statement}
+use Rattle.engines.proofs.divisor.trimmed.Tie as tie
 
 abbrev Inv-loop : tie.InvT-loop
 Inv-loop row j₀ j = (j ≤ length row) × (gcdOf (drop j row) ≡ 0)

@@ -5,8 +5,8 @@ use lib.ListN.{drop}
 use borrow.Author.Needs.{needs}
 use Rattle.meaning.specs.Row.{gcdOf}
 use Rattle.engines.proofs.Divisors.{gcdOf-stays}
-use Rattle.engines.proofs.row.undivided.Statement.{statement}
-use Rattle.engines.proofs.row.undivided.Tie as tie
+use Rattle.engines.proofs.divisor.undivided.Statement.{statement}
+use Rattle.engines.proofs.divisor.undivided.Tie as tie
 
 abbrev Inv-loop : tie.InvT-loop
 Inv-loop row e g j₀ j = (j ≤ e) × (g ≡ gcdOf (drop j row))

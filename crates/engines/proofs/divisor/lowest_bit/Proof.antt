@@ -4,8 +4,8 @@ use native.Mathlib.Omega.{arith}
 use borrow.Author.Needs.{needs}
 use Rattle.engines.proofs.Lowest.{gcdOf-one}
 use Rattle.engines.proofs.Divisors.{Joined, joined-none, joined-more, joined-some, joined-all}
-use Rattle.engines.proofs.row.lowest_bit.Statement.{statement}
-use Rattle.engines.proofs.row.lowest_bit.Tie as tie
+use Rattle.engines.proofs.divisor.lowest_bit.Statement.{statement}
+use Rattle.engines.proofs.divisor.lowest_bit.Tie as tie
 
 abbrev Inv-loop : tie.InvT-loop
 Inv-loop row e g all₀ i₀ all i = Joined row e all i

@@ -2,8 +2,8 @@ use native.Mathlib.Omega.{arith}
 use borrow.Author.Needs.{needs}
 use mathlib.Core.Path.{sym}
 use Rattle.engines.proofs.Lowest.{divisor-one, divisor-large, lowest-same, lowest-over}
-use Rattle.engines.proofs.row.reduce.Statement.{statement}
-use Rattle.engines.proofs.row.reduce.Tie as tie
+use Rattle.engines.proofs.divisor.reduce.Statement.{statement}
+use Rattle.engines.proofs.divisor.reduce.Tie as tie
 
 returns : tie.Need-returns
 returns c =

@@ -7,8 +7,8 @@ use Rattle.meaning.specs.Row.{gcdOf}
 use Rattle.theory.specs.Numbers.Gcd.{common-whole}
 use Rattle.engines.proofs.Lowest.{gcdOf-more}
 use Rattle.engines.proofs.Divisors.{gcdOf-first, one-bit}
-use Rattle.engines.proofs.row.common.Statement.{statement}
-use Rattle.engines.proofs.row.common.Tie as tie
+use Rattle.engines.proofs.divisor.common.Statement.{statement}
+use Rattle.engines.proofs.divisor.common.Tie as tie
 
 abbrev Inv-loop : tie.InvT-loop
 Inv-loop row j₀ g₀ j g = (j ≤ length row) × (0 < g) × (g < 2 ^ 64) × (g ≡ gcdOf (drop j row))
