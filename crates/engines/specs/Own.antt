@@ -19,7 +19,7 @@ pub record Found {A : Type 0} (Outcome : A → List ℕ → Type 0) (a : A) : Ty
   pub outcome : Outcome a work
 
 -- What comes out for a work table that may be the entry's own: one that is lent holds afterwards what the outcome says.
-pub record Left (own : Bool) (after : List ℕ) (Outcome : List ℕ → Type 0) : Type 0 where
+pub record Used (own : Bool) (after : List ℕ) (Outcome : List ℕ → Type 0) : Type 0 where
   pub work : List ℕ
   pub outcome : Outcome work
   pub lent : own ≡ false → work ≡ after

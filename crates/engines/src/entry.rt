@@ -13,7 +13,7 @@ ghost use Rattle.engines.specs.Answer.{toldChance, toldBounds};
 ghost use Rattle.engines.specs.Log.{Logged};
 ghost use Rattle.engines.specs.Run.{entered, chanceOf};
 ghost use Rattle.engines.specs.Trace.{Traced};
-ghost use Rattle.engines.specs.Own.{ours, Found, Left};
+ghost use Rattle.engines.specs.Own.{ours, Found, Used};
 ghost use Rattle.engines.specs.Table.{Blank};
 ghost use Rattle.engines.specs.Told.{Rewarded};
 use crate::answer::Bounds;
@@ -48,7 +48,7 @@ fn unpaid(
     ensures { λ r.
         let l = lent c (now (denominators .entry)) (now (edges .entry)) (now (order .entry)) [] (now (work .entry)) in
         ⌜ ((t : Bool) (k : ℕ) → counted t k (c .states) list
-        → Left own (now (work .exit)) (λ w. entered (eliminating false t short) rounding (withList k l) w (now (log .exit)) r)) ⌝ }
+        → Used own (now (work .exit)) (λ w. entered (eliminating false t short) rounding (withList k l) w (now (log .exit)) r)) ⌝ }
 {
     match look(c, denominators, edges, order, work, list, short) {
         Looked::Refused { number, place } => Course::Stops { number, place },
@@ -94,7 +94,7 @@ fn exactly(
     requires { ⌜ (own ≡ true → Blank (now work)) ⌝ }
     ensures { λ r.
         let l = lent c (now (denominators .entry)) (now (edges .entry)) (now (order .entry)) [] (now (work .entry)) in
-        ⌜ Left own (now (work .exit)) (ChanceOutcome l (toldChance r)) ⌝ }
+        ⌜ Used own (now (work .exit)) (ChanceOutcome l (toldChance r)) ⌝ }
 {
     let mut none = [0u64; 0];
     chance_of(unpaid(
@@ -222,7 +222,7 @@ fn between(
     requires { ⌜ (own ≡ true → Blank (now work)) ⌝ }
     ensures { λ r.
         let l = lent c (now (denominators .entry)) (now (edges .entry)) (now (order .entry)) [] (now (work .entry)) in
-        ⌜ Left own (now (work .exit)) (BoundsOutcomeOf (eliminating false false short) l (toldBounds r)) ⌝ }
+        ⌜ Used own (now (work .exit)) (BoundsOutcomeOf (eliminating false false short) l (toldBounds r)) ⌝ }
 {
     let mut none = [0u64; 0];
     match unpaid(
