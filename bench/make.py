@@ -37,12 +37,12 @@ def dense():
 
 
 def write(folder, make):
-    """Writes a chain, and the same chain with an order that is wrong in its last entry.
+    """Writes a chain, and the same chain with an order that is wrong in its first entry.
 
     The second is refused (10) by the last test of all: a call on it reads the file, looks at the chain and does nothing more.
     """
     rows = make() + [{GOAL: 1}, {TRAP: 1}]
-    wrong_order = [*range(STATES - 1), 0]
+    wrong_order = [STATES, *range(1, STATES)]
     (folder / f"{make.__name__}.chain").write_bytes(chain_file(rows, goals={GOAL}))
     (folder / f"{make.__name__}-looked.chain").write_bytes(chain_file(rows, goals={GOAL}, order=wrong_order))
 

@@ -24,7 +24,7 @@ mod-suc : (t j : ℕ) → t % 2 ^ suc j ≡ bit t j * 2 ^ j + t % 2 ^ j
 mod-suc t j = let e : suc j ≡ 1 + j = omega arith in ap (λ z. t % 2 ^ z) e ∙ mod-pow-add t 1 j
 
 -- p is the row, l has the new numbers before the weight to s, and u those behind it too, one place further up.
-module _ {s d w : ℕ} {pivot p l u : List ℕ} (h : Replaceable s d pivot p) (a : Alike s d pivot p)
+module _ {s d w : ℕ} {pivot p l u : List ℕ} (h : Replaceable s d pivot p) (a : Alike d pivot p)
     (b : Beside d w (weightsAt + placeOf (targetsOf p) s) pivot p l) (k : Closed d w (weightsAt + placeOf (targetsOf p) s) (endOfPart p) pivot l u) where
   abbrev t : ℕ
   t = targetsOf p
@@ -78,7 +78,7 @@ module _ {s d w : ℕ} {pivot p l u : List ℕ} (h : Replaceable s d pivot p) (a
       last-or-below z
       (λ (e : s ≡ j).
       let i = before j (omega arith) in
-      let o : bit t j ≡ 1 = ap (bit t) (sym e) ∙ a .target in
+      let o : bit t j ≡ 1 = ap (bit t) (sym e) ∙ h .target in
       let g : c j ≡ 0 = ap c (sym e) ∙ own-there in (
         omega (arith, i .0, count-suc c j, only-none (c j) 1 g, place-suc t j),
         omega (arith, i .1, targets-suc c j, only-none (c j) (2 ^ j) g, mod-suc t j, ap (λ z. z * 2 ^ j) o, ap (λ z. 2 ^ z) e),
@@ -118,7 +118,7 @@ module _ {s d w : ℕ} {pivot p l u : List ℕ} (h : Replaceable s d pivot p) (a
         (λ (g : s ≤ i).
         let g′ : s < i = ⊎-elim (λ (o : s ≡ i). absurd (n (sym o))) (λ (o : s ≡ i → ⊥). omega arith) (same s i) in
         let q : suc (weightsAt + countTo c i) ≡ weightsAt + placeOf t i = omega (arith, behind i g′ .0) in
-        let v : weightsAt + placeOf t s ≤ weightsAt + countTo c i = omega (arith, place-rises t s i g′ (a .target)) in
+        let v : weightsAt + placeOf t s ≤ weightsAt + countTo c i = omega (arith, place-rises t s i g′ (h .target)) in
         k .moved (weightsAt + countTo c i) v (omega arith)
         ∙ ap (λ x. x * d + w * getD pivot (suc (weightsAt + countTo c i)) 0) (b .past (suc (weightsAt + countTo c i)) (omega arith))
         ∙ ap (λ x. getD p x 0 * d + w * getD pivot x 0) q
@@ -136,7 +136,7 @@ module _ {s d w : ℕ} {pivot p l u : List ℕ} (h : Replaceable s d pivot p) (a
               (λ (e : suc q ≡ endOfPart p). k .last q e)
               (λ (n : suc q ≡ endOfPart p → ⊥).
               let o : endOfPart p ≤ q = omega (arith, behind mostStates (h .state) .0, place-all t mostStates few) in
-              k .past q o ∙ b .past q (omega (arith, place-rises t s mostStates (h .state) (a .target), place-all t mostStates few)) ∙ h .rest q o)
+              k .past q o ∙ b .past q (omega (arith, place-rises t s mostStates (h .state) (h .target), place-all t mostStates few)) ∙ h .rest q o)
               (same (suc q) (endOfPart p));
         }
 

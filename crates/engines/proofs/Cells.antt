@@ -18,7 +18,7 @@ use Rattle.meaning.specs.Row.{Row, cell, width}
 use Rattle.meaning.specs.Refusal.{workSize}
 use Rattle.meaning.specs.Step.{Sets}
 use Rattle.theory.specs.Numbers.Sum.{same, sum-le, sum-next, sum-up}
-use Rattle.engines.specs.Table.{partAt, Blank, Kept}
+use Rattle.engines.specs.Table.{partAt, Kept}
 use Rattle.engines.specs.Gather.{columnOf, share, Changed, Added, Held, Addable}
 use Rattle.engines.proofs.Tables.{kept-same, kept-more, row-end, row-cell, length-row}
 
@@ -52,8 +52,8 @@ module _ (n : ℕ) (w : List ℕ) (i : ℕ) (b : i < n) (j : ℕ) (h : j < width
       }
 
 -- A table whose numbers are all 0 is zero already.
-pub blank-zeros : (m : ℕ) (w : List ℕ) → m ≤ length w → Blank w → w ≡ replicate m 0 ++ drop m w
-blank-zeros m w h z =
+pub fresh-zeros : (m : ℕ) (w : List ℕ) → m ≤ length w → ((q : ℕ) → getD w q 0 ≡ 0) → w ≡ replicate m 0 ++ drop m w
+fresh-zeros m w h z =
     let l : length (take m w) ≡ m = length-take-le m w h in
     let r : length {A = ℕ} (replicate m 0) ≡ m = length-replicate m 0 in
     let e : take m w ≡ replicate m 0 =

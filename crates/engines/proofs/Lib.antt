@@ -16,7 +16,7 @@ pub mod Settling
 pub mod Shifts
 pub mod Tables
 pub mod Removal
-pub mod PassingOver
+pub mod Unchanged
 pub mod Spare
 pub mod Noting
 pub mod Turns

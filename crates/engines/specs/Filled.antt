@@ -79,6 +79,7 @@ pub record Merged (s d w : ℕ) (pivot p v : List ℕ) : Type 0 where
 -- A packed row, and a copy of that of s, can be put together: they fit, and the part has room for their targets.
 pub record Replaceable (s d : ℕ) (pivot p : List ℕ) : Type 0 where
   pub state : s < mostStates
+  pub target : bit (targetsOf p) s ≡ 1
   pub divisor : d ≤ M
   pub held : endOfPart p ≤ length p
   pub small : length p ≤ width mostStates
@@ -88,10 +89,9 @@ pub record Replaceable (s d : ℕ) (pivot p : List ℕ) : Type 0 where
   pub own : Modest p
   pub other : Modest pivot
 
--- They have the same targets, s among them, and each weight of p is above 0 and stays so when it is multiplied by d.
-pub record Alike (s d : ℕ) (pivot p : List ℕ) : Type 0 where
+-- They have the same targets, and each weight of p is above 0 and stays so when it is multiplied by d.
+pub record Alike (d : ℕ) (pivot p : List ℕ) : Type 0 where
   pub same : targetsOf p ≡ targetsOf pivot
-  pub target : bit (targetsOf p) s ≡ 1
   pub some : 0 < d
 
 -- p has become v: the packed row once s is removed.

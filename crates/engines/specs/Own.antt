@@ -1,22 +1,25 @@
--- A work table that is the library's own, and holds zeros.
+-- Work tables that no caller lends.
 use mathlib.Core.Path.{_≡_}
-use mathlib.Core.Bool.{Bool, false}
-use mathlib.Core.List.{List}
+use mathlib.Core.Bool.{Bool, true, false}
+use mathlib.Core.List.{List, []}
 use Prim.Native.Nat.{ℕ}
-use lib.ListN.{replicate}
-use Rattle.meaning.specs.Chain.{mostStates}
-use Rattle.meaning.specs.Refusal.{Lent, workSize}
+use lib.ListN.{getD}
+use Rattle.meaning.specs.Refusal.{Lent, ownWork}
 use Rattle.chain.specs.Lent.{lent}
 use Rattle.chain.specs.declared.Chain.{Chain}
 
 -- What is lent where the work table is the library's own, and holds zeros.
 abbrev pub ours : Chain → List ℕ → List ℕ → List ℕ → List ℕ → Lent
-ours c denominators edges order rewards = lent c denominators edges order rewards (replicate (workSize mostStates) 0)
+ours c denominators edges order rewards = ownWork (lent c denominators edges [] [] [] .chain) order rewards
 
 -- An entry's outcome, whatever its work table then holds.
 pub record Found {A : Type 0} (Outcome : A → List ℕ → Type 0) (a : A) : Type 0 where
   pub work : List ℕ
   pub outcome : Outcome a work
+
+-- A table of the entry's own holds zeros.
+abbrev pub Fresh : Bool → List ℕ → Type 0
+Fresh own w = own ≡ true → (q : ℕ) → getD w q 0 ≡ 0
 
 -- What comes out for a work table that may be the entry's own: one that is lent holds afterwards what the outcome says.
 pub record Used (own : Bool) (after : List ℕ) (Outcome : List ℕ → Type 0) : Type 0 where

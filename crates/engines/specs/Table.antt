@@ -4,7 +4,7 @@ use mathlib.Core.Logic.{_⊎_}
 use mathlib.Core.Bool.{Bool, true, false}
 use mathlib.Core.List.{List}
 use Prim.Native.Nat.{ℕ, _*_, _≤_, _<_}
-use lib.ListN.{length, getD, take, drop}
+use lib.ListN.{length, take, drop}
 use Rattle.meaning.specs.Number.{tabFrom, bit}
 use Rattle.meaning.specs.Chain.{mostStates}
 use Rattle.meaning.specs.Row.{Row, cell, width, exact}
@@ -14,10 +14,6 @@ use Rattle.meaning.specs.Stop.{Large}
 use Rattle.engines.specs.Packed.{targetsOf, unpacked, Packed}
 use Rattle.engines.specs.Row.{Fit, Tested}
 use Rattle.engines.specs.declared.row.Settled.{Settled}
-
--- All numbers of a table are 0.
-abbrev pub Blank : List ℕ → Type 0
-Blank w = (q : ℕ) → getD w q 0 ≡ 0
 
 -- The numbers of row i of the table in w: its own part, and the row that this stands for.
 unfoldable pub partAt : ℕ → List ℕ → ℕ → List ℕ
@@ -62,12 +58,16 @@ pub record Placed (b : Bool) (n : ℕ) (w : List ℕ) (i : ℕ) (r : Row) (taken
   pub tested : Tested b n r (answer .fits)
   pub told : answer .divisor ≡ taken
 
--- The removal of s changes row k: it is that of s, or has a weight to s.
+-- The removal of s changes the row of state i, which has these targets: it is that of s, or has a weight to s.
+abbrev pub ChangedBy : ℕ → ℕ → ℕ → Type 0
+ChangedBy s i targets = (i ≡ s) ⊎ (bit targets s ≡ 1)
+
+-- It changes row k of the table in w.
 abbrev pub Changing : ℕ → ℕ → List ℕ → ℕ → Type 0
-Changing n s w k = (k ≡ s) ⊎ (bit (targetsOf (partAt n w k)) s ≡ 1)
+Changing n s w k = ChangedBy s k (targetsOf (partAt n w k))
 
 -- It changes no row from i on and before j.
-pub record PassedOver (n s : ℕ) (w : List ℕ) (i j : ℕ) : Type 0 where
+pub record Unchanged (n s : ℕ) (w : List ℕ) (i j : ℕ) : Type 0 where
   pub onward : i ≤ j
   pub inside : j ≤ n
   pub same : (k : ℕ) → i ≤ k → k < j → Changing n s w k → ⊥

@@ -25,7 +25,7 @@ fn trimmed(row: &[u64]) -> usize
     0
 }
 
-// The place behind the last number before place e that g does not divide, and 0 where it divides all: up to there g stays the divisor.
+// The place behind the last number before place e that g does not divide, and 0 where it divides all: from there on g is still the divisor.
 fn undivided(row: &[u64], e: usize, g: u64) -> usize
     requires { ⌜ (e ≤ length (now row)) × (0 < g) × (g ≡ gcdOf (drop e (now row))) ⌝ }
     ensures { λ r. ⌜ (r ≤ e) × (g ≡ gcdOf (drop r (now (row .entry)))) ⌝ }

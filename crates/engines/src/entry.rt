@@ -13,8 +13,7 @@ ghost use Rattle.engines.specs.Answer.{toldChance, toldBounds};
 ghost use Rattle.engines.specs.Log.{Logged};
 ghost use Rattle.engines.specs.Run.{entered, chanceOf};
 ghost use Rattle.engines.specs.Trace.{Traced};
-ghost use Rattle.engines.specs.Own.{ours, Found, Used};
-ghost use Rattle.engines.specs.Table.{Blank};
+ghost use Rattle.engines.specs.Own.{ours, Found, Fresh, Used};
 ghost use Rattle.engines.specs.Told.{Rewarded};
 use crate::answer::Bounds;
 use crate::answer::Chance;
@@ -44,7 +43,7 @@ fn unpaid(
     list: usize,
     log: &mut [u64],
 ) -> Course
-    requires { ⌜ Logged (now log) [] × (short ≡ true → rounding ≡ rounds) × (own ≡ true → Blank (now work)) ⌝ }
+    requires { ⌜ Logged (now log) [] × (short ≡ true → rounding ≡ rounds) × Fresh own (now work) ⌝ }
     ensures { λ r.
         let l = lent c (now (denominators .entry)) (now (edges .entry)) (now (order .entry)) [] (now (work .entry)) in
         ⌜ ((t : Bool) (k : ℕ) → counted t k (c .states) list
@@ -91,7 +90,7 @@ fn exactly(
     work: &mut [u64],
     own: bool,
 ) -> Chance
-    requires { ⌜ (own ≡ true → Blank (now work)) ⌝ }
+    requires { ⌜ Fresh own (now work) ⌝ }
     ensures { λ r.
         let l = lent c (now (denominators .entry)) (now (edges .entry)) (now (order .entry)) [] (now (work .entry)) in
         ⌜ Used own (now (work .exit)) (ChanceOutcome l (toldChance r)) ⌝ }
@@ -127,7 +126,7 @@ pub fn chance(
 }
 
 // The same with a work table of its own, which is made zero once and then thrown away.
-pub fn chance_alone(c: Chain, denominators: &[u64], edges: &[u64], order: &[u64]) -> Chance
+pub fn chance_unlent(c: Chain, denominators: &[u64], edges: &[u64], order: &[u64]) -> Chance
     ensures { λ r.
         let l = ours c (now (denominators .entry)) (now (edges .entry)) (now (order .entry)) [] in
         ⌜ Found (ChanceOutcome l) (toldChance r) ⌝ }
@@ -219,7 +218,7 @@ fn between(
     short: bool,
     own: bool,
 ) -> Bounds
-    requires { ⌜ (own ≡ true → Blank (now work)) ⌝ }
+    requires { ⌜ Fresh own (now work) ⌝ }
     ensures { λ r.
         let l = lent c (now (denominators .entry)) (now (edges .entry)) (now (order .entry)) [] (now (work .entry)) in
         ⌜ Used own (now (work .exit)) (BoundsOutcomeOf (eliminating false false short) l (toldBounds r)) ⌝ }
@@ -266,7 +265,7 @@ pub fn bounds(
 }
 
 // The same with a work table of its own, which is made zero once and then thrown away.
-pub fn bounds_alone(c: Chain, denominators: &[u64], edges: &[u64], order: &[u64]) -> Bounds
+pub fn bounds_unlent(c: Chain, denominators: &[u64], edges: &[u64], order: &[u64]) -> Bounds
     ensures { λ r.
         let l = ours c (now (denominators .entry)) (now (edges .entry)) (now (order .entry)) [] in
         ⌜ Found (BoundsOutcome l) (toldBounds r) ⌝ }

@@ -1,6 +1,5 @@
 // The first rows, made from the chain: the weights are gathered by columns, what is missing is Unknown, then each live row is packed and settled.
 ghost use mathlib.Core.Path.{_≡_};
-ghost use mathlib.Core.Bool.{true};
 ghost use Prim.Native.Nat.{ℕ, _<_, _≤_};
 ghost use lib.Dec.{eqb};
 ghost use lib.ListN.{length};
@@ -12,7 +11,8 @@ ghost use Rattle.meaning.specs.Step.{first, unknown};
 ghost use Rattle.engines.specs.Packed.{statesOf};
 ghost use Rattle.engines.specs.Filled.{targetsTo};
 ghost use Rattle.engines.specs.Row.{Became};
-ghost use Rattle.engines.specs.Table.{partAt, Blank, Placed, Renewed};
+ghost use Rattle.engines.specs.Table.{partAt, Placed, Renewed};
+ghost use Rattle.engines.specs.Own.{Fresh};
 ghost use Rattle.survey.specs.Sets.{chainOf, setsOf};
 ghost use Rattle.engines.specs.First.{Packable, PackedFrom, finished, finishedDivisor, Unfinished, finishedAt, Finishable, Makeable};
 ghost use Rattle.engines.specs.Pay.{pays};
@@ -141,7 +141,7 @@ pub(crate) fn first_rows(
     rewards: &[u64],
 ) -> bool
     requires { ⌜ Makeable (e .rounding) (e .paid) (e .short) (chainOf (e .chain) (now denominators) (now edges)) (setsOf (e .sets)) (now rewards) (now work)
-        × (e .own ≡ true → Blank (now work)) ⌝ }
+        × Fresh (e .own) (now work) ⌝ }
     ensures { λ r.
         let c = chainOf (e .chain) (now (denominators .entry)) (now (edges .entry)) in
         let t = first (e .rounding) c (setsOf (e .sets)) (pays (e .paid) c (now (rewards .entry))) (unknown (e .short) c) in

@@ -1,7 +1,6 @@
 // The weights of the edges, gathered by columns in one pass, and what is missing from a row. While they are gathered a row's own part has a number
 // for each column: the n states, then Goal in column n and Trap, Unknown and Reward behind it.
 ghost use mathlib.Core.Path.{_≡_};
-ghost use mathlib.Core.Bool.{true};
 ghost use Prim.Native.Nat.{_+_, _<_, _≤_};
 ghost use lib.Dec.{eqb};
 ghost use lib.ListN.{length, getD, set};
@@ -10,11 +9,12 @@ ghost use Rattle.meaning.specs.Chain.{mostStates, M, edgeCount};
 ghost use Rattle.meaning.specs.Row.{cell, width, unknownColumn};
 ghost use Rattle.meaning.specs.Refusal.{workSize};
 ghost use Rattle.meaning.specs.Step.{unknown};
-ghost use Rattle.engines.specs.Table.{partAt, Blank};
+ghost use Rattle.engines.specs.Table.{partAt};
+ghost use Rattle.engines.specs.Own.{Fresh};
 ghost use Rattle.survey.specs.Sets.{chainOf, setsOf};
 ghost use Rattle.engines.specs.Gather.{columnOf, share, lack, Changed, Added, Held, Addable, Gatherable, Completable};
 use crate::run::Elimination;
-use crate::work::prepare;
+use crate::work::clear_lent;
 use crate::work::row_start;
 use chain::edge;
 use chain::set::holds;
@@ -67,12 +67,12 @@ fn carry(work: &mut [u64], n: usize, sets: Sets, edges: &[u64], e: usize)
 
 // Gathers the weights of all edges, in one pass. A table of the entry's own is zero before it.
 pub(crate) fn gather(work: &mut [u64], n: usize, sets: Sets, edges: &[u64], own: bool)
-    requires { ⌜ Gatherable n (now edges) (now work) × (own ≡ true → Blank (now work)) ⌝ }
+    requires { ⌜ Gatherable n (now edges) (now work) × Fresh own (now work) ⌝ }
     ensures { λ _.
         let es = now (edges .entry) in
         ⌜ Held n (λ i j. sumTo (share n (setsOf sets) es i j) (edgeCount es)) (now (work .entry)) (now (work .exit)) ⌝ }
 {
-    prepare(work, n, own);
+    clear_lent(work, n, own);
     let count = edge::count(edges);
     let mut e = 0;
     while e < count {

@@ -1,4 +1,4 @@
-// The elimination on the rows of a lent table of 64-bit numbers: exact, or with rows rounded where they do not fit.
+// The elimination on the rows of a table of 64-bit numbers: exact, or with rows rounded where they do not fit.
 pub mod answer;
 mod bits;
 mod divisor;

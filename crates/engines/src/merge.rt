@@ -5,7 +5,7 @@ ghost use Prim.Native.Nat.{ℕ, _+_, _*_, _≤_, _<_};
 ghost use lib.Count.{ones};
 ghost use lib.ListN.{length, getD};
 ghost use Rattle.meaning.specs.Chain.{mostStates, M};
-ghost use Rattle.meaning.specs.Number.{choose, bit};
+ghost use Rattle.meaning.specs.Number.{choose};
 ghost use Rattle.meaning.specs.Row.{width};
 ghost use Rattle.engines.specs.Packed.{weightsAt, Modest, Spread, Room};
 ghost use Rattle.engines.specs.Filled.{Columns, blend, targetsTo, Filled, Beside, Closed, Merged, Replaceable, Alike, Replaced, Squeezable, Squeezed};
@@ -22,7 +22,6 @@ use crate::part::spread;
 use crate::part::weight;
 use crate::work::clear;
 use chain::Chain;
-use chain::set::holds;
 
 // The product of two numbers of kept rows: each has at most 32 bits, so that the compiler can multiply several at once.
 fn product(a: u64, b: u64) -> u64
@@ -130,7 +129,7 @@ fn close(part: &mut [u64], pivot: &[u64; Chain::WIDTH], a: usize, e: usize, d: u
 // A packed row once s, one of its targets, is removed, where the row of s has the same targets and its D, d, is not 0: then their weights stand side
 // by side, and none becomes 0 but that to s.
 fn join(part: &mut [u64], pivot: &[u64; Chain::WIDTH], s: usize, d: u64)
-    requires { ⌜ Replaceable s d (now pivot) (now part) × Alike s d (now pivot) (now part) ⌝ }
+    requires { ⌜ Replaceable s d (now pivot) (now part) × Alike d (now pivot) (now part) ⌝ }
     ensures { λ _. ⌜ Replaced s d (now (pivot .entry)) (now (part .entry)) (now (part .exit)) ⌝ }
 {
     let w = weight(part, s);
@@ -142,18 +141,14 @@ fn join(part: &mut [u64], pivot: &[u64; Chain::WIDTH], s: usize, d: u64)
     part[0] = targets - alone(s);
 }
 
-// Whether two packed rows have the same targets, s among them, and d is not 0.
-fn alike(old: u64, new: u64, s: usize, d: u64) -> bool
-    requires { ⌜ s < mostStates ⌝ }
-    ensures { λ r. ⌜ (r ≡ true → (old ≡ new) × (bit old s ≡ 1) × (0 < d)) ⌝ }
+// Whether two packed rows have the same targets, and d is not 0.
+fn alike(old: u64, new: u64, d: u64) -> bool
+    ensures { λ r. ⌜ (r ≡ true → (old ≡ new) × (0 < d)) ⌝ }
 {
     if old != new {
         return false;
     }
-    if d == 0 {
-        return false;
-    }
-    holds(old, s)
+    0 < d
 }
 
 // A packed row once s, one of its targets, is removed: pivot is a copy of the row of s, y its weights by state, and d its D.
@@ -167,7 +162,7 @@ pub(crate) fn replace(
     requires { ⌜ Replaceable s d (now pivot) (now part) × Spread (now pivot) (now y) ⌝ }
     ensures { λ _. ⌜ Replaced s d (now (pivot .entry)) (now (part .entry)) (now (part .exit)) ⌝ }
 {
-    if alike(part[0], pivot[0], s, d) {
+    if alike(part[0], pivot[0], d) {
         join(part, pivot, s, d);
         return;
     }

@@ -87,7 +87,7 @@ fn shift(t: u64) -> u64
     k
 }
 
-// 1 where a weight that fits is above 0, else 0: with no test, so that the compiler can take several at once.
+// What `some` of bits says, of a weight that fits: with no test, so that the compiler takes several at once.
 fn above(x: u64) -> u64
     requires { ⌜ x ≤ M ⌝ }
     ensures { λ r. ⌜ r ≡ only (ltb 0 x) 1 ⌝ }

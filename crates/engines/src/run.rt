@@ -1,6 +1,6 @@
 // The elimination, from the first rows to the start's row.
 ghost use mathlib.Core.Path.{_≡_};
-ghost use mathlib.Core.Bool.{true, false};
+ghost use mathlib.Core.Bool.{false};
 ghost use mathlib.Core.List.{[]};
 ghost use Prim.Native.Nat.{_≤_, _<_};
 ghost use Rattle.meaning.specs.Chain.{mostStates};
@@ -8,7 +8,8 @@ ghost use Rattle.meaning.specs.Outcome.{cleared};
 ghost use Rattle.chain.specs.Lent.{lent};
 ghost use Rattle.engines.specs.Packed.{statesOf, unpacked, Packed};
 ghost use Rattle.engines.specs.Row.{Fit};
-ghost use Rattle.engines.specs.Table.{rowAt, Blank, Kept, Fitting};
+ghost use Rattle.engines.specs.Table.{rowAt, Kept, Fitting};
+ghost use Rattle.engines.specs.Own.{Fresh};
 ghost use Rattle.survey.specs.Sets.{setsOf};
 ghost use Rattle.engines.specs.Pay.{pays};
 ghost use Rattle.engines.specs.Log.{Logged};
@@ -20,7 +21,7 @@ use crate::part::UNKNOWN;
 use crate::step::outside;
 use crate::walk::Walk;
 use crate::walk::eliminate;
-use crate::work::leave;
+use crate::work::clear_lent;
 use crate::work::row_start;
 use chain::Chain;
 use chain::set::holds;
@@ -102,7 +103,7 @@ fn follow(
     log: &mut [u64],
 ) -> Course
     requires { let l = lent (e .chain) (now denominators) (now edges) (now order) (now rewards) (now work) in
-        ⌜ Begun (e .rounding) (e .paid) (e .short) l (setsOf (e .sets)) × Logged (now log) [] × (e .own ≡ true → Blank (now work)) ⌝ }
+        ⌜ Begun (e .rounding) (e .paid) (e .short) l (setsOf (e .sets)) × Logged (now log) [] × Fresh (e .own) (now work) ⌝ }
     ensures { λ r.
         let l = lent (e .chain) (now (denominators .entry)) (now (edges .entry)) (now (order .entry)) (now (rewards .entry)) (now (work .entry)) in
         let pay = pays (e .paid) (l .chain) (l .rewards) in
@@ -146,7 +147,7 @@ pub(crate) fn run(
     log: &mut [u64],
 ) -> Course
     requires { let l = lent (e .chain) (now denominators) (now edges) (now order) (now rewards) (now work) in
-        ⌜ Begun (e .rounding) (e .paid) (e .short) l (setsOf (e .sets)) × Logged (now log) [] × (e .own ≡ true → Blank (now work)) ⌝ }
+        ⌜ Begun (e .rounding) (e .paid) (e .short) l (setsOf (e .sets)) × Logged (now log) [] × Fresh (e .own) (now work) ⌝ }
     ensures { λ r.
         let l = lent (e .chain) (now (denominators .entry)) (now (edges .entry)) (now (order .entry)) (now (rewards .entry)) (now (work .entry)) in
         let pay = pays (e .paid) (l .chain) (l .rewards) in
@@ -155,6 +156,6 @@ pub(crate) fn run(
 {
     let r = follow(e, denominators, edges, order, rewards, work, log);
     let c = e.chain;
-    leave(work, c.states, e.own);
+    clear_lent(work, c.states, e.own);
     r
 }

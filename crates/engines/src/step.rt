@@ -1,6 +1,5 @@
 // A step: one state is removed from the table, one packed row at a time.
 ghost use mathlib.Core.Path.{_≡_};
-ghost use mathlib.Core.Logic.{_⊎_};
 ghost use mathlib.Core.Bool.{true, false};
 ghost use Prim.Native.Nat.{ℕ, _<_, _≤_, max};
 ghost use lib.ListN.{length};
@@ -13,7 +12,7 @@ ghost use Rattle.meaning.specs.Step.{combined, renewed, outside, removed};
 ghost use Rattle.meaning.specs.Steps.{takenOut, largestTaken};
 ghost use Rattle.engines.specs.Packed.{targetsOf, statesOf, unpacked, Packed, Room};
 ghost use Rattle.engines.specs.Row.{Fit, Removable, Became};
-ghost use Rattle.engines.specs.Table.{partAt, rowAt, tableOf, Placed, Changing, PassedOver, Renewed, Fitting};
+ghost use Rattle.engines.specs.Table.{partAt, rowAt, tableOf, Placed, ChangedBy, Changing, Unchanged, Renewed, Fitting};
 ghost use Rattle.engines.specs.Turn.{Made};
 use crate::merge::replace;
 use crate::part::end;
@@ -38,7 +37,8 @@ fn change(
     rounding: bool,
 ) -> Settled
     requires { let n = statesOf (now part) in
-        ⌜ (n ≤ mostStates) × Removable rounding n s d (now pivot) (now y) × Packed n (now part) × Fit rounding n (unpacked n (now part)) × Room (length (now part)) (now part) (now pivot) ⌝ }
+        ⌜ (n ≤ mostStates) × Removable rounding n s d (now pivot) (now y) × Packed n (now part) × Fit rounding n (unpacked n (now part)) × Room (length (now part)) (now part) (now pivot)
+        × (bit (targetsOf (now part)) s ≡ 1) ⌝ }
     ensures { λ r.
         let p = now (part .entry) in
         let n = statesOf p in
@@ -125,8 +125,8 @@ fn larger(a: u64, b: u64) -> u64
 }
 
 // Whether the removal of s changes the row of state i, which has these targets: it is that of s, or has a weight to s.
-fn changes(targets: u64, i: usize, s: usize) -> bool
-    ensures { λ r. ⌜ decides ((i ≡ s) ⊎ (bit targets s ≡ 1)) r ⌝ }
+fn is_changed(targets: u64, i: usize, s: usize) -> bool
+    ensures { λ r. ⌜ decides (ChangedBy s i targets) r ⌝ }
 {
     if i == s {
         return true;
@@ -137,12 +137,12 @@ fn changes(targets: u64, i: usize, s: usize) -> bool
 // The first row from row i on that the removal of s changes, n where there is none. Most rows are passed over here, with a look at their targets.
 fn next(work: &[u64], n: usize, s: usize, i: usize) -> usize
     requires { ⌜ (workSize n ≤ length (now work)) × (n ≤ mostStates) × (i ≤ n) ⌝ }
-    ensures { λ r. let w = now (work .entry) in ⌜ PassedOver n s w i r × (r < n → Changing n s w r) ⌝ }
+    ensures { λ r. let w = now (work .entry) in ⌜ Unchanged n s w i r × (r < n → Changing n s w r) ⌝ }
 {
     let mut k = i;
     while k < n {
         let a = row_start(n, k);
-        if changes(work[a], k, s) {
+        if is_changed(work[a], k, s) {
             return k;
         }
         k += 1;

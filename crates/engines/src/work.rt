@@ -1,13 +1,12 @@
-// The lent work table: where its rows begin, and how it is made zero.
+// The work table: where its rows begin, and how it is made zero.
 ghost use mathlib.Core.Path.{_≡_};
-ghost use mathlib.Core.Bool.{true, false};
 ghost use mathlib.Core.List.{_++_};
 ghost use Prim.Native.Nat.{_+_, _*_, _≤_, _<_};
 ghost use lib.ListN.{length, drop, replicate};
 ghost use Rattle.meaning.specs.Chain.{mostStates};
 ghost use Rattle.meaning.specs.Row.{width};
 ghost use Rattle.meaning.specs.Refusal.{workSize};
-ghost use Rattle.engines.specs.Table.{Blank};
+ghost use Rattle.engines.specs.Own.{Fresh};
 use chain::Chain;
 
 // Where row i of the table begins. It ends within the table.
@@ -38,21 +37,12 @@ pub(crate) fn clear_work(work: &mut [u64], n: usize)
     clear(&mut work[..m]);
 }
 
-// Makes the table of n rows zero before it is used. A table of the entry's own is so already.
-pub(crate) fn prepare(work: &mut [u64], n: usize, own: bool)
-    requires { ⌜ (n ≤ mostStates) × (workSize n ≤ length (now work)) × (own ≡ true → Blank (now work)) ⌝ }
-    ensures { λ _. ⌜ now (work .exit) ≡ replicate (workSize n) 0 ++ drop (workSize n) (now (work .entry)) ⌝ }
-{
-    if own {
-        return;
-    }
-    clear_work(work, n);
-}
-
-// Makes the table of n rows zero after it was used. A table of the entry's own is not read again.
-pub(crate) fn leave(work: &mut [u64], n: usize, own: bool)
+// Makes the table of n rows zero where it is lent. A table of the entry's own is zero before it is used, and is not read afterwards.
+pub(crate) fn clear_lent(work: &mut [u64], n: usize, own: bool)
     requires { ⌜ (n ≤ mostStates) × (workSize n ≤ length (now work)) ⌝ }
-    ensures { λ _. ⌜ (own ≡ false → now (work .exit) ≡ replicate (workSize n) 0 ++ drop (workSize n) (now (work .entry))) ⌝ }
+    ensures { λ _.
+        let w = now (work .entry) in
+        ⌜ (Fresh own w → now (work .exit) ≡ replicate (workSize n) 0 ++ drop (workSize n) w) ⌝ }
 {
     if own {
         return;

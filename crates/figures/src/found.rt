@@ -29,7 +29,7 @@ fn chance(c: Chain, denominators: &[u64], edges: &[u64], order: &[u64]) -> Answe
         let l = ours c (now (denominators .entry)) (now (edges .entry)) (now (order .entry)) [] in
         ⌜ Found (ChanceOutcome l) (toldAnswer r) ⌝ }
 {
-    Answer::of_chance(entry::chance_alone(c, denominators, edges, order))
+    Answer::of_chance(entry::chance_unlent(c, denominators, edges, order))
 }
 
 fn reward(c: Chain, denominators: &[u64], edges: &[u64], order: &[u64], rewards: &[u64]) -> Answer
@@ -46,7 +46,7 @@ fn bounds(c: Chain, denominators: &[u64], edges: &[u64], order: &[u64]) -> Limit
         let l = ours c (now (denominators .entry)) (now (edges .entry)) (now (order .entry)) [] in
         ⌜ Found (BoundsOutcome l) (toldLimits r) ⌝ }
 {
-    Limits::of_bounds(entry::bounds_alone(c, denominators, edges, order))
+    Limits::of_bounds(entry::bounds_unlent(c, denominators, edges, order))
 }
 
 fn counts(c: Chain, denominators: &[u64], edges: &[u64]) -> Counts

@@ -4,7 +4,6 @@ ghost use mathlib.Core.List.{[]};
 ghost use Prim.Native.Nat.{ℕ, _≤_};
 ghost use lib.ListN.{length};
 ghost use Rattle.meaning.specs.Number.{decides};
-ghost use Rattle.meaning.specs.Outcome.{BoundsOutcome};
 ghost use Rattle.meaning.specs.Left.{LeftOutcome};
 ghost use Rattle.meaning.specs.Block.{Input};
 ghost use Rattle.meaning.specs.File.{Accepted, plainIn};
@@ -27,16 +26,7 @@ mod lines;
 
 pub use lines::ROOM;
 
-// The bounds of a chain, and those of what is left of one, each with a work table of its own.
-fn bounds(c: Chain, denominators: &[u64], edges: &[u64], order: &[u64]) -> Bounds
-    ensures { λ r.
-        let l = ours c (now (denominators .entry)) (now (edges .entry)) (now (order .entry)) [] in
-        ⌜ Found (BoundsOutcome l) (toldBounds r) ⌝ }
-{
-    let mut work = [0u64; Chain::WORK];
-    entry::bounds(c, denominators, edges, order, &mut work)
-}
-
+// The bounds of what is left of a chain, with a work table of its own.
 fn bounds_left(c: Chain, denominators: &[u64], edges: &[u64], order: &[u64]) -> Bounds
     ensures { λ r.
         let l = ours c (now (denominators .entry)) (now (edges .entry)) (now (order .entry)) [] in
@@ -77,7 +67,7 @@ fn whole(c: Chain, denominators: &[u64], edges: &[u64], order: &[u64], buffer: &
         let l = ours c (now (denominators .entry)) (now (edges .entry)) (now (order .entry)) [] in
         ⌜ ((f : Input) → Accepted f → l ≡ plainIn f → SalvagedOutcome f (now (buffer .entry)) (told r) (now (buffer .exit))) ⌝ }
 {
-    match bounds(c, denominators, edges, order) {
+    match entry::bounds_unlent(c, denominators, edges, order) {
         Bounds::Between { lower, upper } => {
             Printed::Length(lines::bounds_line(buffer, lower, upper))
         }

@@ -8,14 +8,14 @@ returns c f accepted e =
     let line = c .before .before in
     let case = line .before .before .before in
     let found = case .before .before in
-    whole-line (found .before .before .before .before .before .pre) (found .bounds .ensures) accepted e (case .lower .given .1) (line .bounds-line .ensures)
+    whole-line (found .before .before .before .before .before .pre) (found .bounds-unlent .ensures) accepted e (case .lower .given .1) (line .bounds-line .ensures)
 
 returns-2 : tie.Need-returns-2
 returns-2 c f accepted e =
     let line = c .before .before in
     let case = line .before .before .before in
     let found = case .before .before in
-    whole-refusal (found .before .before .before .before .before .pre) (found .bounds .ensures) accepted e _ _ (line .answer .result) (case .number .given .1)
+    whole-refusal (found .before .before .before .before .before .pre) (found .bounds-unlent .ensures) accepted e _ _ (line .answer .result) (case .number .given .1)
     (line .answer .ensures)
 
 pub whole-spec : {M : Type 1} → statement M

@@ -26,10 +26,10 @@ carry-requires c κs =
     let b = k .before .before .before .before .before .before .before in
     let a = b .args in
     let h = b .pre .0 in
-    let cleared = k .before .before .before .prepare in
+    let cleared = k .before .before .before .clear-lent in
     let l = rw (k .count .ensures) at (c .before .loop-test .taken) in
     let s = h .sources _ l in
-    gathering-addable (a .n) (setsOf (a .sets)) (a .edges .now) _ _ (zeros-at (a .n) (a .work .now) _ (h .room) (cleared .ensures)) _ (p .loop .inv) (h .few)
+    gathering-addable (a .n) (setsOf (a .sets)) (a .edges .now) _ _ (zeros-at (a .n) (a .work .now) _ (h .room) (cleared .ensures (b .pre .1))) _ (p .loop .inv) (h .few)
     (omega (arith, h .room, cleared .kept .0)) l s (h .targets _ l) (h .sums _ s)
 
 loop-again : tie.Need-loop-again Inv-loop μ-loop
@@ -41,7 +41,7 @@ loop-again c =
 same-length : tie.Need-same-length Inv-loop μ-loop
 same-length c =
     let p = c .before in
-    p .loop .inv .added .kept .len ∙ p .before .before .before .before .prepare .kept .0
+    p .loop .inv .added .kept .len ∙ p .before .before .before .before .clear-lent .kept .0
 
 returns : tie.Need-returns Inv-loop μ-loop
 returns c =
@@ -49,7 +49,7 @@ returns c =
     let k = p .before in
     let s = k .before .before .before .before .before .before .before in
     let a = s .args in
-    let e = k .before .before .before .prepare .ensures in
+    let e = k .before .before .before .clear-lent .ensures (s .pre .1) in
     let z =
     gathering-held (a .n) (setsOf (a .sets)) (a .edges .now) _ _ (zeros-at (a .n) (a .work .now) _ (s .pre .0 .room) e)
     (gathering-all (p .loop .inv) (rw (k .count .ensures) at (c .loop-test .left))) in

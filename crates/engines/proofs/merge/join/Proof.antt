@@ -24,7 +24,7 @@ within : (c : tie.After-place) → weightsAt + c .place .result < c .before .bef
 within c =
     let t = c .before .before .before .before .before .before .before in
     let m = targetsOf (t .args .part .now) in
-    omega (arith, c .place .ensures, c .before .before .end .ensures, place-rises m (t .args .s) (suc (t .args .s)) (omega arith) (t .pre .1 .target), place-most m (suc (t .args .s)))
+    omega (arith, c .place .ensures, c .before .before .end .ensures, place-rises m (t .args .s) (suc (t .args .s)) (omega arith) (t .pre .0 .target), place-most m (suc (t .args .s)))
 
 -- What the numbers are multiplied by fits.
 scaled : (c : tie.After-weight) → let a = c .before .before .before .args in (a .d ≤ M) × (c .weight .result ≤ M)

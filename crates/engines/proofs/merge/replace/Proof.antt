@@ -9,7 +9,7 @@ join-requires c κs =
     let y = c .before in
     let h = y .before .before .before .before .before .pre .0 in
     let e = y .before .alike .ensures (y .if1 .taken) in
-    (h, record { same = e .0; target = e .1; some = e .2 })
+    (h, record { same = e .0; some = e .1 })
 
 weight-requires : tie.Need-weight-requires
 weight-requires c κs = let h = c .before .before .before .before .before .before .before .before .pre .0 in (h .state, h .held)
@@ -41,7 +41,7 @@ replace-spec =
     (tie.spec
     (λ c. search needs)
     (λ c. search needs)
-    (λ c κs. c .before .before .before .pre .0 .state)
+    (λ c κs. search needs)
     join-requires
     (λ c. search needs)
     (λ c. c .before .before .join .ensures)

@@ -13,6 +13,7 @@ replace-requires c κs =
     let h = c .before .before .pre in (
       record {
         state = omega (arith, h .0, h .1 .state);
+        target = h .5;
         divisor = h .1 .divisor;
         held = packed-held (omega (arith, h .1 .state)) (h .2);
         small = omega (arith, h .2 .size, h .0);

@@ -5,23 +5,23 @@ use lib.ListN.{getD}
 use borrow.Author.Needs.{needs}
 use Rattle.theory.specs.Numbers.Decide.{holds, fails}
 use Rattle.engines.specs.Packed.{targetsOf}
-use Rattle.engines.specs.Table.{partAt, PassedOver}
+use Rattle.engines.specs.Table.{partAt, Unchanged}
 use Rattle.engines.proofs.Tables.{row-cell}
-use Rattle.engines.proofs.PassingOver.{passed-none, passed-more}
+use Rattle.engines.proofs.Unchanged.{unchanged-none, unchanged-more}
 use Rattle.engines.proofs.step.next.Statement.{statement}
 use Rattle.engines.proofs.step.next.Tie as tie
 
 abbrev Inv-loop : tie.InvT-loop
-Inv-loop work n s i k₀ k = PassedOver n s work i k
+Inv-loop work n s i k₀ k = Unchanged n s work i k
 
 abbrev μ-loop : tie.MeasureT-loop
 μ-loop work n s i k₀ k = n - k
 
 loop-holds : tie.Need-loop-holds Inv-loop μ-loop
-loop-holds c = passed-none _ (c .before .pre .2)
+loop-holds c = unchanged-none _ (c .before .pre .2)
 
 -- The number that is read is that of the row's targets.
-targets : (c : tie.After-changes Inv-loop μ-loop)
+targets : (c : tie.After-is-changed Inv-loop μ-loop)
     → let at = c .before .before in
     let test = at .before .before in
     let a = test .before .before .args in
@@ -36,7 +36,7 @@ targets c =
 returns : tie.Need-returns Inv-loop μ-loop
 returns c =
     let test = c .before .before .before .before in
-    (test .before .loop .inv, λ _. rw (targets (c .before)) (holds _ (c .before .changes .ensures) (c .if1 .taken)))
+    (test .before .loop .inv, λ _. rw (targets (c .before)) (holds _ (c .before .is-changed .ensures) (c .if1 .taken)))
 
 returns-2 : tie.Need-returns-2 Inv-loop μ-loop
 returns-2 c = (c .before .loop .inv, λ l. absurd (omega (arith, c .loop-test .left)))
@@ -44,7 +44,7 @@ returns-2 c = (c .before .loop .inv, λ l. absurd (omega (arith, c .loop-test .l
 loop-again : tie.Need-loop-again Inv-loop μ-loop
 loop-again c =
     let test = c .before .before .before .before in
-    passed-more (test .before .loop .inv) (test .loop-test .taken) (rw (targets (c .before)) (fails _ (c .before .changes .ensures) (c .if1 .left)))
+    unchanged-more (test .before .loop .inv) (test .loop-test .taken) (rw (targets (c .before)) (fails _ (c .before .is-changed .ensures) (c .if1 .left)))
 
 pub next-spec : {M : Type 1} → statement M
 next-spec =

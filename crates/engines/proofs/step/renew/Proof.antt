@@ -33,6 +33,12 @@ some-there c e =
     let h = t .pre in
     omega (arith, packed-bit (h .2) (t .args .s) (h .1 .state) .0 (h .5 (c .if1 .left)))
 
+change-requires : tie.Need-change-requires
+change-requires c κs =
+    let y = c .before in
+    let h = y .before .before .pre in
+    (h .0, h .1, h .2, h .3, h .4, h .5 (y .if1 .left))
+
 returns-2 : tie.Need-returns-2
 returns-2 c =
     let y = c .before .before .before .before in
@@ -50,6 +56,6 @@ renew-spec =
     (λ c κs. search needs)
     (λ c. search needs)
     returns
-    (λ c κs. search needs)
+    change-requires
     (λ c. search needs)
     returns-2)

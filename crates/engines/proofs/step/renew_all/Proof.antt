@@ -13,7 +13,7 @@ use Rattle.engines.specs.Packed.{unpacked}
 use Rattle.engines.specs.Table.{rowAt, Changing}
 use Rattle.engines.proofs.Rows.{apart}
 use Rattle.engines.proofs.Removal.{Renewing, renewing-none, renewing-more, renewing-all, renewing-stop, largest-more}
-use Rattle.engines.proofs.PassingOver.{renewing-past, largest-past}
+use Rattle.engines.proofs.Unchanged.{renewing-past, largest-past}
 use Rattle.engines.proofs.step.renew_all.Statement.{statement}
 use Rattle.engines.proofs.step.renew_all.Tie as tie
 

@@ -4,7 +4,7 @@ use Rattle.figures.proofs.found.bounds.Statement.{statement}
 use Rattle.figures.proofs.found.bounds.Tie as tie
 
 returns : tie.Need-returns
-returns c = let z = c .before .bounds-alone .ensures in found (z .work) (c .of-bounds .ensures) (z .outcome)
+returns c = let z = c .before .bounds-unlent .ensures in found (z .work) (c .of-bounds .ensures) (z .outcome)
 
 pub bounds-spec : {M : Type 1} → statement M
 bounds-spec =

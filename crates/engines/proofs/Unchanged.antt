@@ -13,22 +13,22 @@ use Rattle.meaning.specs.Row.{Row, cell}
 use Rattle.meaning.specs.Step.{renewed}
 use Rattle.meaning.specs.Steps.{takenOut}
 use Rattle.engines.specs.Packed.{unpacked}
-use Rattle.engines.specs.Table.{rowAt, Fitting, Changing, PassedOver}
+use Rattle.engines.specs.Table.{rowAt, Fitting, ChangedBy, Changing, Unchanged}
 use Rattle.engines.proofs.Laws.{packed-bit}
 use Rattle.engines.proofs.Rows.{renewed-none, taken-none}
 use Rattle.engines.proofs.Removal.{Renewing}
 
 -- The row of another state changes where its targets have s.
-pub other-changes : (i s t : ℕ) (r : Bool) → r ≡ eqb (bit t s) 1 → (i ≡ s → ⊥) → decides ((i ≡ s) ⊎ (bit t s ≡ 1)) r
+pub other-changes : (i s t : ℕ) (r : Bool) → r ≡ eqb (bit t s) 1 → (i ≡ s → ⊥) → decides (ChangedBy s i t) r
 other-changes i s t true e d = inr (eqb-true (bit t s) 1 (sym e))
 other-changes i s t false e d = ⊎-elim (λ (l : i ≡ s). d l) (λ (l : bit t s ≡ 1). eqb-false (bit t s) 1 (sym e) l)
 
 module _ {n s : ℕ} {w : List ℕ} where
-  pub passed-none : (i : ℕ) → i ≤ n → PassedOver n s w i i
-  passed-none i h = record { onward = omega arith; inside = h; same = λ k a b. absurd (omega arith) }
+  pub unchanged-none : (i : ℕ) → i ≤ n → Unchanged n s w i i
+  unchanged-none i h = record { onward = omega arith; inside = h; same = λ k a b. absurd (omega arith) }
 
-  pub passed-more : {i k : ℕ} → PassedOver n s w i k → k < n → (Changing n s w k → ⊥) → PassedOver n s w i (k + 1)
-  passed-more {i} {k} z h d =
+  pub unchanged-more : {i k : ℕ} → Unchanged n s w i k → k < n → (Changing n s w k → ⊥) → Unchanged n s w i (k + 1)
+  unchanged-more {i} {k} z h d =
       record {
         onward = omega (arith, z .onward);
         inside = omega arith;
@@ -51,7 +51,7 @@ largest-stays f i (suc m) h =
     rw e (omega (arith, t, o, largest-one f (i + m)))
 
 module _ {b : Bool} {n s : ℕ} (d : ℕ) (p : Row) {w v : List ℕ} {i j : ℕ} (f : Fitting b n w) (hs : s < n)
-    (z : Renewing b (λ k. renewed b n s d p (eqb k s) (rowAt n w k)) n w i v) (o : PassedOver n s v i j) where
+    (z : Renewing b (λ k. renewed b n s d p (eqb k s) (rowAt n w k)) n w i v) (o : Unchanged n s v i j) where
   none-there : (k : ℕ) → i ≤ k → k < j → cell (rowAt n w k) s ≡ 0
   none-there k l h =
       let c : k < n = omega (arith, o .inside) in
