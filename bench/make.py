@@ -39,7 +39,7 @@ def dense():
 def write(folder, make):
     """Writes a chain, and the same chain with an order that is wrong in its first entry.
 
-    The second is refused (10) by the last test of all: a call on it reads the file, looks at the chain and does nothing more.
+    The second is refused (10) at once by the last test of all: a call on it reads the file, looks at the chain and does nothing more.
     """
     rows = make() + [{GOAL: 1}, {TRAP: 1}]
     wrong_order = [STATES, *range(1, STATES)]

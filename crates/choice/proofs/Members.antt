@@ -1,19 +1,18 @@
 -- Sets of states written as numbers: what is in them once something is added or taken out.
-use Prim.Native.Nat.{ℕ, _+_, _*_, _%_, _^_, _<_}
+use Prim.Native.Nat.{ℕ, _+_, _^_, _<_}
 use mathlib.Core.Path.{_≡_, sym, ap, subst, _∙_}
 use mathlib.Core.Logic.{_↔_, _⊎_, inl, inr, ⊎-elim}
 use mathlib.Core.Bool.{true, false}
 use mathlib.Core.List.{List}
 use native.Mathlib.Omega.{arith}
-use native.Mathlib.Nat.{mod-eq-of-lt, zero-div}
+use native.Mathlib.Nat.{zero-div}
 use lib.Bits.{bitAnd, bitOr, bitXor}
 use lib.Dec.{eqb}
 use lib.ListN.{length, getD, set, length-set, replicate, length-replicate}
-use lib.Pow.{pow-lt}
 use lib.Seq.{getD-set-same, getD-set-other}
 use borrow.Author.Tests.{eqb-true, eqb-false}
 use Rattle.meaning.specs.Number.{bit}
-use Rattle.meaning.specs.Chain.{mostStates, from, to}
+use Rattle.meaning.specs.Chain.{from, to}
 use Rattle.meaning.specs.Step.{Sets}
 use Rattle.theory.specs.Numbers.Bits.{in-first, in-either, in-one}
 use Rattle.theory.specs.Numbers.Sum.{same, last-or-below}
@@ -27,13 +26,6 @@ nothing-in i b = omega (arith, rw (zero-div (2 ^ i)) at b)
 
 pub zero-bit : (set i : ℕ) → eqb (bit set i) 1 ≡ false → 0 ≡ bit set i
 zero-bit set i e = let d = eqb-false (bit set i) 1 e in omega (arith, d)
-
--- The set of one state.
-pub one-set : (i : ℕ) → i < mostStates → 1 * 2 ^ i % 18446744073709551616 ≡ 2 ^ i
-one-set i h =
-    let l : 2 ^ i < 18446744073709551616 = pow-lt h in
-    let e : 1 * 2 ^ i ≡ 2 ^ i = omega arith in
-    ap (λ x. x % 18446744073709551616) e ∙ mod-eq-of-lt {n = 2 ^ i} {m = 18446744073709551616} l
 
 pub without-set : (set i : ℕ) → Exactly (Without set i) (bitXor set (bitAnd set (2 ^ i)))
 without-set set i q = (

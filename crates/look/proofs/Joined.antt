@@ -1,21 +1,12 @@
 -- A set with one state more, and a walk that is one place longer.
-use Prim.Native.Nat.{ℕ, _+_, _*_, _%_, _^_, _≤_, _<_}
-use mathlib.Core.Path.{_≡_, subst, _∙_}
+use Prim.Native.Nat.{ℕ, _+_, _^_, _≤_, _<_}
+use mathlib.Core.Path.{_≡_, subst}
 use mathlib.Core.Logic.{_⊎_, _↔_, ⊎-elim, inl, inr}
 use native.Mathlib.Omega.{arith}
-use native.Mathlib.Nat.{mod-eq-of-lt, one-mul}
 use lib.Bits.{bitOr}
-use lib.Pow.{pow-lt}
 use Rattle.meaning.specs.Number.{bit}
-use Rattle.meaning.specs.Chain.{mostStates}
 use Rattle.theory.specs.Numbers.Sum.{below}
 use Rattle.theory.specs.Numbers.Bits.{in-either, in-one}
-
--- The set of one state, as the code makes it.
-pub one-set : (j : ℕ) → j < mostStates → 1 * 2 ^ j % 18446744073709551616 ≡ 2 ^ j
-one-set j h =
-    let small : 2 ^ j < 18446744073709551616 = pow-lt h in
-    mod-eq-of-lt {n = 1 * 2 ^ j} {m = 18446744073709551616} (omega arith) ∙ one-mul _
 
 pub in-joined : (set j t : ℕ) → (bit (bitOr set (2 ^ j)) t ≡ 1) ↔ ((bit set t ≡ 1) ⊎ (t ≡ j))
 in-joined set j t = (

@@ -3,9 +3,11 @@ use Prim.Native.Nat.{ℕ, zero, suc, _+_, _*_, _/_, _%_, _^_, _≤_, _<_, min, m
 use mathlib.Core.Path.{_≡_, refl, sym, _∙_}
 use mathlib.Core.Logic.{_⊎_, inl, inr, _↔_, ⊎-elim}
 use native.Mathlib.Omega.{arith}
-use native.Mathlib.Nat.{pow-succ', zero-div}
+use native.Mathlib.Nat.{pow-succ', zero-div, mod-eq-of-lt, one-mul}
 use lib.Bits.{bitAnd, bitOr, bitXor, differ, and-shr, or-shr, xor-shr, and-step, or-step, xor-step}
+use lib.Pow.{pow-lt}
 use Rattle.meaning.specs.Number.{bit}
+use Rattle.meaning.specs.Chain.{mostStates}
 use Rattle.theory.specs.Numbers.Sum.{same}
 use Rattle.theory.specs.Chains.Sets.{bit-zero, bit-suc, bit-below, bits-same}
 
@@ -63,6 +65,12 @@ in-one (suc j) (suc i) =
     let half : 2 ^ suc j / 2 ≡ 2 ^ j = omega (arith, pow-succ' 2 j) in
     rw (bit-suc (2 ^ suc j) i, half)
     (λ h. let e = in-one j i .0 h in omega arith, λ h. in-one j i .1 (omega arith))
+
+-- It as the code makes it, by a shift of 1.
+pub one-set : (j : ℕ) → j < mostStates → 1 * 2 ^ j % 18446744073709551616 ≡ 2 ^ j
+one-set j h =
+    let small : 2 ^ j < 18446744073709551616 = pow-lt h in
+    mod-eq-of-lt {n = 1 * 2 ^ j} {m = 18446744073709551616} (omega arith) ∙ one-mul _
 
 -- A set of states below n is a number below 2 ^ n.
 pub set-below : (n s : ℕ) → ((i : ℕ) → bit s i ≡ 1 → i < n) → s < 2 ^ n

@@ -8,7 +8,8 @@ use Rattle.meaning.specs.Chain.{mostStates, edgeCount, from, to}
 use Rattle.meaning.specs.Refusal.{EndFault}
 use Rattle.survey.specs.Sets.{setsOf, Exactly}
 use Rattle.choice.specs.Columns.{columnCount, Among}
-use Rattle.choice.proofs.Members.{one-set, carried}
+use Rattle.theory.specs.Numbers.Bits.{one-set}
+use Rattle.choice.proofs.Members.{carried}
 use borrow.Author.Needs.{needs}
 use Rattle.choice.proofs.columns.carry.Statement.{statement}
 use Rattle.choice.proofs.columns.carry.Tie as tie

@@ -1,6 +1,7 @@
 use mathlib.Core.List.{[]}
 use lib.ListN.{set}
-use Rattle.choice.proofs.Members.{one-set, without-set}
+use Rattle.theory.specs.Numbers.Bits.{one-set}
+use Rattle.choice.proofs.Members.{without-set}
 use borrow.Author.Needs.{needs}
 use Rattle.choice.proofs.columns.without.Statement.{statement}
 use Rattle.choice.proofs.columns.without.Tie as tie

@@ -4,7 +4,7 @@ use Rattle.meaning.specs.Chain.{mostStates, edgeCount}
 use Rattle.meaning.specs.Refusal.{PairFault}
 use Rattle.chain.proofs.Passing.{NoneBelow, pass, done}
 use Rattle.look.proofs.Ends.{from-below, to-below}
-use Rattle.look.proofs.Joined.{one-set}
+use Rattle.theory.specs.Numbers.Bits.{one-set}
 use Rattle.look.proofs.Seen.{Seen, none, stood, fresh, more}
 use borrow.Author.Needs.{needs}
 use Rattle.look.proofs.pairs.distinct.Statement.{statement}

@@ -4,7 +4,7 @@ use native.Mathlib.Omega.{arith}
 use borrow.Author.Needs.{needs}
 use Rattle.meaning.specs.Refusal.{OrderFault}
 use Rattle.chain.proofs.Passing.{NoneBelow, pass, done}
-use Rattle.look.proofs.Joined.{one-set}
+use Rattle.theory.specs.Numbers.Bits.{one-set}
 use Rattle.look.proofs.Ordered.{Seen, none, stood, fresh, more}
 use Rattle.look.proofs.scan.faultless.Statement.{statement}
 use Rattle.look.proofs.scan.faultless.Tie as tie
