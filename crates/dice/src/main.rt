@@ -2,7 +2,6 @@
 use chain::Chain;
 use chain::edge;
 use engines::entry::chance;
-use libc::STDOUT_FILENO;
 use report::Printed;
 use report::face;
 
@@ -101,8 +100,8 @@ fn widened() -> [u64; edge::SIZE * COUNT] {
     edges
 }
 
-// Prints the line of the face whose state is the only goal.
-fn print(number: u64, goals: u64) {
+// Prints the line of the face whose state is the only goal, and answers whether it was written.
+fn print(number: u64, goals: u64) -> bool {
     let edges = widened();
     let mut work = [0u64; Chain::WORK];
     let found = chance(
@@ -114,14 +113,29 @@ fn print(number: u64, goals: u64) {
     );
     let mut buffer = [0u8; report::FACE_ROOM];
     if let Printed::Length(n) = face(number, found, &mut buffer) {
-        io::write_all(STDOUT_FILENO, &buffer[..n]);
+        return output::print(&buffer[..n], b"dice: standard output");
+    }
+    false
+}
+
+// The lines, up to one that could not be written.
+fn print_faces() {
+    let mut number = 1;
+    while number <= FACES {
+        let whole = print(number, 1 << (FIRST + number - 1));
+        if !whole {
+            return;
+        }
+        number += 1;
     }
 }
 
 fn main() {
-    let mut number = 1;
-    while number <= FACES {
-        print(number, 1 << (FIRST + number - 1));
-        number += 1;
+    if input::words() != 0 {
+        output::tell(
+            b"usage: dice: takes no words, reads nothing, writes the chance of each face of a die to standard output. Example: dice\n",
+        );
+        return;
     }
+    print_faces();
 }

@@ -1,2 +1,4 @@
 pub mod Keeping
-pub mod Reading
+pub mod Taking
+pub mod Joined
+pub mod ReadWord

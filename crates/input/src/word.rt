@@ -1,9 +1,12 @@
-// Words of the command line, read as numbers.
+// Words of the command line: how many there are, whether they ask for help, and what they say as numbers.
 ghost use Rattle.meaning.specs.Text.{WordOutcome};
 ghost use Rattle.input.specs.Digit.{Digit};
 
 // The most digits of a number of 64 bits, and the last such number.
 pub const DIGITS: usize = 20;
+
+// The length of `--help`.
+const HELP: usize = 6;
 
 const LAST: u64 = 18446744073709551615;
 
@@ -46,4 +49,30 @@ pub fn number(word: &[u8], otherwise: u64) -> u64
         i += 1;
     }
     x
+}
+
+// How many words follow the program's name.
+pub fn words() -> usize {
+    let count = os::arg_count();
+    if count == 0 {
+        return 0;
+    }
+    count - 1
+}
+
+// Whether `--help` is the only word.
+pub fn asks_help() -> bool {
+    if words() != 1 {
+        return false;
+    }
+    let mut word = [0u8; HELP];
+    let length = os::arg(1, &mut word);
+    check::same(&word[..length], b"--help")
+}
+
+// What word i says as a number, or what the caller gives where it is missing or says none.
+pub fn word_number(i: usize, otherwise: u64) -> u64 {
+    let mut word = [0u8; DIGITS];
+    let length = os::arg(i, &mut word);
+    number(&word[..length], otherwise)
 }

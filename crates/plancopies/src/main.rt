@@ -1,24 +1,49 @@
 // Takes the words COPIES LOSS REBUILD FINISH and prints the chance that no copy is left before the job is finished.
 use copies::Plan;
 use copies::chance;
-use libc::STDOUT_FILENO;
 use report::Printed;
 use report::answer;
 
-// Word i of the command line as a number: 0, which no plan may have, where it is missing or says none.
-fn word(i: usize) -> u64 {
-    let mut bytes = [0u8; input::DIGITS];
-    let length = os::arg(i, &mut bytes);
-    input::number(&bytes[..length], 0)
+const WORDS: usize = 4;
+
+fn usage() {
+    output::tell(
+        b"usage: plancopies COPIES LOSS REBUILD FINISH: takes 1 to 32 copies and three weights from 1 to 1000000, reads nothing, writes the chance that no copy is left before the finish to standard output. Example: plancopies 3 1 20 100\n",
+    );
+}
+
+// Where words are missing or too many, people are told; the plan is refused all the same.
+fn remind() {
+    if input::words() != WORDS {
+        usage();
+    }
+}
+
+// The last word as a number: a word too many counts as a wrong one.
+fn finish() -> u64 {
+    if WORDS < input::words() {
+        return 0;
+    }
+    input::word_number(4, 0)
+}
+
+// The plan that the words say. No plan may have a 0, which a word counts as that is missing or says no number.
+fn plan() -> Plan {
+    Plan {
+        copies: input::word_number(1, 0),
+        loss: input::word_number(2, 0),
+        rebuild: input::word_number(3, 0),
+        finish: finish(),
+    }
 }
 
 fn main() {
-    let planned = chance(Plan {
-        copies: word(1),
-        loss: word(2),
-        rebuild: word(3),
-        finish: word(4),
-    });
+    if input::asks_help() {
+        usage();
+        return;
+    }
+    remind();
+    let planned = chance(plan());
     let place = planned.place as usize;
     let mut buffer = [0u8; report::ANSWER_ROOM];
     if let Printed::Length(n) = answer(
@@ -28,6 +53,6 @@ fn main() {
         planned.denominator,
         &mut buffer,
     ) {
-        io::write_all(STDOUT_FILENO, &buffer[..n]);
+        output::print(&buffer[..n], b"plancopies: standard output");
     }
 }

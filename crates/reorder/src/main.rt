@@ -1,25 +1,33 @@
 // Reads a chain file on standard input and writes the file of the same chain with the chosen order; a refusal's line goes to standard error.
 use chainwriter::Writing;
-use libc::STDERR_FILENO;
-use libc::STDOUT_FILENO;
+use input::Reading;
 use report::Printed;
 
 // The line of a refusal.
 fn complain(number: u32, place: usize) {
     let mut line = [0u8; report::ANSWER_ROOM];
     if let Printed::Length(n) = report::answer(number, place, 0, 0, &mut line) {
-        io::write_all(STDERR_FILENO, &line[..n]);
+        output::tell(&line[..n]);
     }
 }
 
 fn main() {
+    if input::words() != 0 {
+        output::tell(
+            b"usage: reorder <FILE: reads a chain file on standard input, writes the file of the same chain with a chosen order to standard output. Example: reorder <examples/gateway.chain >better.chain\n",
+        );
+        return;
+    }
     let mut kept = [0u8; chainfile::LONGEST];
-    let came = input::read(&mut kept);
+    let Reading::Came(came) = input::read(&mut kept) else {
+        os::fail(b"reorder: standard input");
+        return;
+    };
     let length = came.length;
     let mut buffer = [0u8; reordering::ROOM];
     match reordering::reorder(&kept[..length], came.more, &mut buffer) {
         Writing::Length(n) => {
-            io::write_all(STDOUT_FILENO, &buffer[..n]);
+            output::print(&buffer[..n], b"reorder: standard output");
         }
         Writing::Refused { number, place } => complain(number, place),
     }

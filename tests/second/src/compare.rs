@@ -183,15 +183,30 @@ pub fn report(tally: &mut Tally, case: Case, file: &[u8]) -> String {
     came
 }
 
-/// Runs `plancopies` on these words and compares its line.
+/// Runs `plancopies` on these words and compares its line, and whether it tells its usage.
 pub fn plan(tally: &mut Tally, case: Case, words: &[String]) {
     let plan = Plan::of_words(words);
     let expected = plan.line();
-    let came = programs::text(programs::plan(words));
-    tally.check(case, &[], came == expected, || {
-        format!("plan {words:?}: expected {expected:?}, came {came:?}")
-    });
+    with_words(tally, case, (programs::PLANCOPIES, 4), words, &[], &expected);
     tally.number(Asked::Planner, plan.chance().map_or_else(|refusal| refusal.number, |_| 0));
+}
+
+/// Runs a program that takes so many words on these, and compares its line, and what it tells people.
+pub fn with_words(
+    tally: &mut Tally,
+    case: Case,
+    (name, wanted): (&str, usize),
+    words: &[String],
+    file: &[u8],
+    expected: &str,
+) {
+    let came = programs::both(name, words, file);
+    let right = came.as_ref().is_ok_and(|(printed, told)| {
+        printed == expected.as_bytes() && programs::reminded(name, wanted, words, told)
+    });
+    tally.check(case, file, right, || {
+        format!("{name} {words:?}: expected {expected:?}, came {came:?}")
+    });
 }
 
 /// Compares a whole report, and those of its lines that are known from elsewhere.

@@ -79,7 +79,7 @@ pub fn program(tally: &mut Tally, case: Case, file: &[u8]) {
         Ok(reordered) => (reordered, Vec::new()),
         Err(refusal) => (Vec::new(), format!("{}\n", report::refused(refusal)).into_bytes()),
     };
-    let came = programs::reordered(file);
+    let came = programs::both(programs::REORDER, &[], file);
     let alike = came.as_ref().is_ok_and(|came| *came == expected);
     tally.check(case, file, alike, || {
         format!(

@@ -57,13 +57,10 @@ fn held_to(tally: &mut Tally, case: Case, file: &[u8], steps: u64, parts: u64) {
     }
 }
 
-/// Runs `nightwithin` with these words and compares its line.
+/// Runs `nightwithin` with these words and compares its line, and whether it tells its usage.
 pub fn program(tally: &mut Tally, case: Case, words: &[String], file: &[u8]) {
     let expected = within::line(words, file);
-    let came = programs::text(programs::printed_with(programs::NIGHTWITHIN, words, file));
-    tally.check(case, file, came == expected, || {
-        format!("nightwithin {words:?}: expected {expected:?}, came {came:?}")
-    });
+    compare::with_words(tally, case, (programs::NIGHTWITHIN, 1), words, file, &expected);
     let steps = within::steps(words).unwrap_or(u64::MAX);
     let number = within::of_file(file, steps).map_or_else(|refusal| refusal.number, |_| 0);
     tally.number(Asked::WithinText, number);

@@ -1,4 +1,4 @@
-//! Planning copies, request 5 of document 02: what `plancopies` must print for four words.
+//! Planning copies, request 5 of document 02: what `plancopies` must print for its words.
 
 use crate::chain::Chain;
 use crate::figures;
@@ -29,7 +29,9 @@ impl Plan {
     /// The plan that the words of a command line say.
     pub fn of_words(words: &[String]) -> Plan {
         let number = |place: usize| words.get(place).and_then(|word| number(word)).unwrap_or(0);
-        Plan { copies: number(0), weights: [number(1), number(2), number(3)] }
+        // A word too many counts as a wrong finish.
+        let finish = if words.len() > 4 { 0 } else { number(3) };
+        Plan { copies: number(0), weights: [number(1), number(2), finish] }
     }
 
     /// 30 for the copies, then 31 at the least place of a weight.
@@ -130,7 +132,7 @@ pub fn words(random: &mut Random, copies: u64) -> Vec<String> {
 }
 
 /// Plans that are worked by hand, as one line of words each, with what is printed.
-pub const KNOWN: [(&str, &str); 9] = [
+pub const KNOWN: [(&str, &str); 11] = [
     ("1 1 1 3", "1/4"),
     ("1 1 7 3", "1/4"),
     ("1 1 1000000 3", "1/4"),
@@ -140,6 +142,8 @@ pub const KNOWN: [(&str, &str); 9] = [
     ("33 1 1 1", "refused 30 at 0"),
     ("32 0 0 0", "refused 31 at 0"),
     ("1 1 0 1", "refused 31 at 1"),
+    ("3 1 20 1000", "3/523245503"),
+    ("3 1 20 1 000", "refused 31 at 2"),
 ];
 
 #[cfg(test)]

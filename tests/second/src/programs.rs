@@ -5,7 +5,7 @@ use std::env;
 use std::fs;
 use std::io::{self, Write};
 use std::path::{Path, PathBuf};
-use std::process::{self, Child, Command, Stdio};
+use std::process::{self, Child, Command, Output, Stdio};
 use std::sync::atomic::{AtomicU64, Ordering};
 use std::sync::LazyLock;
 
@@ -63,12 +63,23 @@ fn start_in(folder: &Path, program: &Path, words: &[String], complaints: Stdio) 
     command.spawn().unwrap_or_else(|error| panic!("{command:?} does not start: {error}"))
 }
 
-/// What `reorder` writes to standard output and to standard error for this file.
-pub fn reordered(file: &[u8]) -> io::Result<(Vec<u8>, Vec<u8>)> {
-    let mut child = start_in(Path::new("."), &program(REORDER), &[], Stdio::piped());
+/// What a program writes to standard output and to standard error for these words and this file.
+pub fn both(name: &str, words: &[String], file: &[u8]) -> io::Result<(Vec<u8>, Vec<u8>)> {
+    let mut child = start_in(Path::new("."), &program(name), words, Stdio::piped());
+    // A program that does not read shows in what it writes; that the pipe broke is no more news.
     let _ = child.stdin.take().expect("it is piped").write_all(file);
-    let output = child.wait_with_output()?;
+    let output = ended(child)?;
     Ok((output.stdout, output.stderr))
+}
+
+/// Whether a program that takes so many words told people how it is used, as it does where there are
+/// more or fewer, and of nothing else.
+pub fn reminded(name: &str, wanted: usize, words: &[String], told: &[u8]) -> bool {
+    if words.len() == wanted {
+        told.is_empty()
+    } else {
+        told.starts_with(format!("usage: {name} ").as_bytes())
+    }
 }
 
 /// What `checkshares` prints for this file, in a working folder of its own with this table or none.
@@ -87,33 +98,23 @@ pub fn checked(file: &[u8], shares: Option<&[u8]>) -> io::Result<Vec<u8>> {
 
 /// What a program prints for this file on its standard input.
 pub fn printed(name: &str, file: &[u8]) -> io::Result<Vec<u8>> {
-    printed_with(name, &[], file)
-}
-
-/// The same of a program that is given words.
-pub fn printed_with(name: &str, words: &[String], file: &[u8]) -> io::Result<Vec<u8>> {
-    printed_by(start(&program(name), words), file)
+    printed_by(start(&program(name), &[]), file)
 }
 
 /// What a program that was started prints for this file on its standard input.
 fn printed_by(mut child: Child, file: &[u8]) -> io::Result<Vec<u8>> {
     // A program that stops reading early shows in its report; that the pipe broke is no more news.
     let _ = child.stdin.take().expect("it is piped").write_all(file);
-    all_of(child)
+    Ok(ended(child)?.stdout)
 }
 
-/// What `plancopies` prints for these words.
-pub fn plan(words: &[String]) -> io::Result<Vec<u8>> {
-    all_of(start(&program(PLANCOPIES), words))
-}
-
-/// All that a program prints until it ends.
-fn all_of(child: Child) -> io::Result<Vec<u8>> {
+/// All that a program writes until it ends.
+fn ended(child: Child) -> io::Result<Output> {
     let output = child.wait_with_output()?;
     if !output.status.success() {
         return Err(io::Error::other(format!("it ended with {}", output.status)));
     }
-    Ok(output.stdout)
+    Ok(output)
 }
 
 /// What a program printed as text, or why it printed nothing.

@@ -91,9 +91,13 @@ pub fn of_file(file: &[u8], steps: u64) -> Result<u64, Refusal> {
     }
 }
 
-/// What the words of a command line say of the steps: None counts as too many.
+/// What the words of a command line say of the steps: None counts as too many, and so does any other
+/// number of words than one.
 pub fn steps(words: &[String]) -> Option<u64> {
-    words.first().and_then(|word| plan::number(word))
+    match words {
+        [word] => plan::number(word),
+        _ => None,
+    }
 }
 
 /// The line that `nightwithin` prints for these words and this file.
@@ -118,6 +122,7 @@ mod tests {
         assert_eq!(printed("0"), "within 0 0 of 1073741824\n");
         assert_eq!(printed("1001"), "refused 32 at 0\n");
         assert_eq!(line(&[], &[]), "refused 32 at 0\n");
+        assert_eq!(line(&["3".to_string(), "4".to_string()], &file), "refused 32 at 0\n");
         assert_eq!(line(&["0".to_string()], &[]), "refused 20 at 0\n");
     }
 

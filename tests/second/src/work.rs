@@ -207,11 +207,14 @@ fn one_salvage(tally: &mut Tally, seed: u64, place: u64) {
     compare_salvage::completed(tally, case, &file, &chain);
 }
 
-/// The words of a number of steps: at times none, or one that says no number.
+/// The words of a number of steps: at times none, two, or one that says no number.
 fn words(random: &mut Random) -> Vec<String> {
     let mut words = vec![compare_within::steps(random).to_string()];
     if random.once_in(8) {
         words[0] = random.pick(&plan::ODD).to_string();
+    }
+    if random.once_in(16) {
+        words.push(random.pick(&plan::ODD).to_string());
     }
     if random.once_in(16) {
         words.clear();

@@ -1,6 +1,6 @@
 use mathlib.Core.Path.{sym}
-use lib.Seq.{length-take-le}
 use borrow.Author.Needs.{needs}
+use lib.Seq.{length-take-le}
 use Rattle.report.proofs.Unique.{within}
 use Rattle.plancopies.proofs.main.Statement.{statement}
 use Rattle.plancopies.proofs.main.Tie as tie
@@ -8,8 +8,8 @@ use Rattle.plancopies.proofs.main.Tie as tie
 array-share-prefix-buffer : tie.Need-array-share-prefix-buffer
 array-share-prefix-buffer c = let r = c .before .before .before .before .answer in within (r .result) (r .ensures) (c .before .n .given .1)
 
-slice-aggregate-write-all : tie.Need-slice-aggregate-write-all
-slice-aggregate-write-all c = sym (length-take-le _ _ (array-share-prefix-buffer (c .before)))
+slice-aggregate-print : tie.Need-slice-aggregate-print
+slice-aggregate-print c = sym (length-take-le _ _ (array-share-prefix-buffer (c .before)))
 
 pub main-spec : {M : Type 1} → statement M
 main-spec =
@@ -17,6 +17,7 @@ main-spec =
     (tie.spec
     (λ c κs. search needs)
     (λ c κs. search needs)
+    (λ c. search needs)
     (λ c κs. search needs)
     (λ c κs. search needs)
     (λ c κs. search needs)
@@ -25,7 +26,8 @@ main-spec =
     (λ c κs. search needs)
     (λ c. search needs)
     array-share-prefix-buffer
-    slice-aggregate-write-all
+    slice-aggregate-print
+    (λ c. search needs)
     (λ c κs. search needs)
     (λ c. search needs)
     (λ c. search needs)

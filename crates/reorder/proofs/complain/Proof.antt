@@ -1,6 +1,6 @@
 use mathlib.Core.Path.{sym}
-use lib.Seq.{length-take-le}
 use borrow.Author.Needs.{needs}
+use lib.Seq.{length-take-le}
 use Rattle.report.proofs.Unique.{within}
 use Rattle.reorder.proofs.complain.Statement.{statement}
 use Rattle.reorder.proofs.complain.Tie as tie
@@ -8,8 +8,8 @@ use Rattle.reorder.proofs.complain.Tie as tie
 array-share-prefix-line : tie.Need-array-share-prefix-line
 array-share-prefix-line c = let r = c .before .before .before .before .answer in within (r .result) (r .ensures) (c .before .n .given .1)
 
-slice-aggregate-write-all : tie.Need-slice-aggregate-write-all
-slice-aggregate-write-all c = sym (length-take-le _ _ (array-share-prefix-line (c .before)))
+slice-aggregate-tell : tie.Need-slice-aggregate-tell
+slice-aggregate-tell c = sym (length-take-le _ _ (array-share-prefix-line (c .before)))
 
 pub complain-spec : {M : Type 1} → statement M
 complain-spec =
@@ -19,7 +19,7 @@ complain-spec =
     (λ c κs. search needs)
     (λ c. search needs)
     array-share-prefix-line
-    slice-aggregate-write-all
+    slice-aggregate-tell
     (λ c κs. search needs)
     (λ c. search needs)
     (λ c. search needs)

@@ -4,7 +4,7 @@ use native.Mathlib.Omega.{arith}
 use lib.ListN.{length}
 use borrow.Author.Needs.{needs}
 use Rattle.meaning.specs.Text.{WordOutcome}
-use Rattle.input.proofs.Reading.{ReadTo, read-none, read-stuck, digit-small, read-more, read-large, read-all}
+use Rattle.input.proofs.ReadWord.{ReadTo, read-none, read-stuck, digit-small, read-more, read-large, read-all}
 use Rattle.input.proofs.word.number.Statement.{statement}
 use Rattle.input.proofs.word.number.Tie as tie
 

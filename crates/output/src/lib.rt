@@ -1,0 +1,18 @@
+// What programs write: what was asked for on standard output, words for people on standard error.
+use libc::STDERR_FILENO;
+use libc::STDOUT_FILENO;
+
+// Writes a text to standard output and answers whether all of it was written. Where it was not, standard error has a line of what the caller
+// names and errno's text.
+pub fn print(text: &[u8], what: &[u8]) -> bool {
+    let whole = io::write_all(STDOUT_FILENO, text);
+    if !whole {
+        os::fail(what);
+    }
+    whole
+}
+
+// Writes a text to standard error. Where that fails too, there is no place left to say so.
+pub fn tell(text: &[u8]) {
+    io::write_all(STDERR_FILENO, text);
+}
