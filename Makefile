@@ -1,7 +1,5 @@
-# make report prints the report of a chain file, make steps its step list, make within its chance within so many steps, make check what is said of a
-# table of its chances, make salvage what is left of it where it is damaged; make reorder writes it with the chosen order; make plan prints the chance
-# that a job loses all its copies; make test runs the gate; make memory runs a sample of it under valgrind; make bench times; make fmt lays every file
-# of Rattle out.
+# What a target prints on standard output is what its program printed, and nothing else: building speaks on standard error. tests/answered runs the
+# program and says whether it answered.
 CHAIN ?= examples/address.chain
 STEPS ?= 3
 SHARES ?= examples/address.shares
@@ -9,47 +7,57 @@ COPIES ?= 3
 LOSS ?= 1
 REBUILD ?= 20
 FINISH ?= 100
+# From the command line alone: other tools use an OUT in the environment.
+OUT =
 
-.PHONY: report steps reorder within check salvage plan test memory fmt bench
+# Recipes take these from the environment, so that a path may hold any byte.
+export CHAIN STEPS SHARES COPIES LOSS REBUILD FINISH OUT
 
-report: target/bin/nightchance
-	@tests/x86-64 run target/bin/nightchance <"$(CHAIN)"
+.PHONY: report steps reorder within check salvage plan help test memory bench fmt clean
 
-steps: target/bin/nightsteps
-	@tests/x86-64 run target/bin/nightsteps <"$(CHAIN)"
+report: target/bin/nightchance ## the report of a chain file (CHAIN=)
+	@tests/answered $< <"$$CHAIN"
 
-reorder: target/bin/reorder
-	@tests/x86-64 run target/bin/reorder <"$(CHAIN)"
+steps: target/bin/nightsteps ## its step list (CHAIN=)
+	@tests/answered $< <"$$CHAIN"
 
-within: target/bin/nightwithin
-	@tests/x86-64 run target/bin/nightwithin "$(STEPS)" <"$(CHAIN)"
+reorder: target/bin/reorder ## its file with a chosen order, on standard output or in a file (CHAIN=, OUT=)
+	@tests/answered --out "$$OUT" $< <"$$CHAIN"
 
-# The program looks for its table in the folder that it is run in.
-check: target/bin/checkshares
-	@mkdir -p target/check && cp "$(SHARES)" target/check/shares
-	@cat "$(CHAIN)" | (cd target/check && ../../tests/x86-64 run ../bin/checkshares)
+within: target/bin/nightwithin ## its chance within so many steps (CHAIN=, STEPS=)
+	@tests/answered $< "$$STEPS" <"$$CHAIN"
 
-salvage: target/bin/salvage
-	@tests/x86-64 run target/bin/salvage <"$(CHAIN)"
+check: target/bin/checkshares ## whether a table is its chance at every state (CHAIN=, SHARES=)
+	@tests/answered --shares "$$SHARES" $< <"$$CHAIN"
 
-plan: target/bin/plancopies
-	@tests/x86-64 run target/bin/plancopies $(COPIES) $(LOSS) $(REBUILD) $(FINISH)
+salvage: target/bin/salvage ## what is left of it where it is damaged (CHAIN=)
+	@tests/answered $< <"$$CHAIN"
 
-# Only a proved program is built, so the first build takes as long as its proofs.
+plan: target/bin/plancopies ## the chance that a job loses all its copies (COPIES=, LOSS=, REBUILD=, FINISH=)
+	@tests/answered $< "$$COPIES" "$$LOSS" "$$REBUILD" "$$FINISH"
+
+help: ## this list
+	@sed -n 's/^\([a-z]*\):.*## /make \1\t/p' Makefile | expand -t 16
+
+# Only a proved program is built, so the first build takes as long as its proofs. Two makes at once build one after the other.
+ALONE := $(if $(shell command -v flock 2>/dev/null),flock target/.building)
 target/bin/%: $(shell find crates -name '*.rt' -o -name '*.antt') crates.txt
-	rt check $*
+	@mkdir -p target
+	@$(ALONE) rt check $* >&2
 	@test -x $@ && touch $@
 
-test:
+test: ## the gate: proves everything from nothing, then runs every test
 	bash .ci/run
 
-# On x86-64, after make test.
-memory:
+memory: ## a sample of the tests under valgrind, on x86-64, after make test
 	tests/memory
 
-fmt:
-	rt fmt
-
-bench:
+bench: ## timings beside FLINT and LAPACK
 	rt staticlib egorstream
 	bench/run
+
+fmt: ## lays out every file of Rattle
+	rt fmt
+
+clean: ## removes target/, where all that is built lies
+	rm -rf target

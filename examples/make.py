@@ -1,16 +1,21 @@
 #!/usr/bin/env python3
-"""Writes the example chain files, and a table of chances, beside this script. Each run writes the same bytes.
+"""Writes the chain file of a plan to standard output: the chain whose chance plancopies answers.
 
-With four numbers, COPIES LOSS REBUILD FINISH, it writes the chain file of that plan to standard
-output instead: the chain whose chance plancopies answers.
+With --examples it writes the example chain files, and a table of chances, beside this script instead.
+Each run writes the same bytes.
 """
 
+import argparse
 from pathlib import Path
 import struct
 import sys
 
 BLOCK = 512
 RECORDS_IN_A_BLOCK = 63
+
+# What the planner takes: numbers of copies, and weights.
+MOST_COPIES = 32
+MOST_WEIGHT = 1_000_000
 
 # For each version, the modulus of the check and what its sums begin at.
 CHECKS = {1: (255, 0), 2: (251, 1)}
@@ -186,14 +191,41 @@ def address_shares():
     return struct.pack("<8I", 4376, 4375, 4368, 4340, 4200, 3500, 4376, 0)
 
 
-def main():
-    if len(sys.argv) > 1:
-        sys.stdout.buffer.write(copies(*map(int, sys.argv[1:])))
-        return
+def write_examples():
     here = Path(__file__).resolve().parent
     for make in (address, dice, long, gateway, backup, copies, retries, damaged):
         (here / f"{make.__name__}.chain").write_bytes(make())
     (here / "address.shares").write_bytes(address_shares())
+
+
+def number(most):
+    """What reads a word as a number from 1 to the most."""
+
+    def read(word):
+        if not (word.isascii() and word.isdigit() and 1 <= int(word) <= most):
+            raise argparse.ArgumentTypeError(f"{word!r} is no number from 1 to {most}")
+        return int(word)
+
+    return read
+
+
+def main():
+    if sys.argv[1:] == ["--examples"]:
+        write_examples()
+        return
+    parser = argparse.ArgumentParser(
+        usage="%(prog)s COPIES LOSS REBUILD FINISH >FILE\n       %(prog)s --examples",
+        description="Writes the chain file of a plan to standard output: the chain whose chance plancopies answers.",
+        epilog="example: %(prog)s 5 3 40 500 >plan.chain",
+    )
+    parser.add_argument("copies", metavar="COPIES", type=number(MOST_COPIES), help=f"the copies that the job begins with, 1 to {MOST_COPIES}")
+    for weight in ("loss", "rebuild", "finish"):
+        parser.add_argument(weight, metavar=weight.upper(), type=number(MOST_WEIGHT), help=f"its weight, 1 to {MOST_WEIGHT}")
+    parser.add_argument("--examples", action="store_true", help="alone: rewrite the examples beside this script")
+    plan = parser.parse_args()
+    if plan.examples:
+        parser.error("--examples stands alone")
+    sys.stdout.buffer.write(copies(plan.copies, plan.loss, plan.rebuild, plan.finish))
 
 
 if __name__ == "__main__":
