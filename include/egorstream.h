@@ -25,7 +25,10 @@ extern "C" {
 #define EGORSTREAM_MODE_DEFAULT UINT32_C(0)
 /* The exact chance, or EGORSTREAM_NO_FIT where its numbers grow too large. */
 #define EGORSTREAM_MODE_EXACT UINT32_C(1)
-/* A lower and an upper bound of the chance. They always fit. */
+/*
+ * A lower and an upper bound of the chance. They always fit. A lower bound of 0/1 is no chance of
+ * nought, and below about one in 10^9 the upper bounds of two chains must not be compared.
+ */
 #define EGORSTREAM_MODE_BOUNDS UINT32_C(2)
 
 /* The bytes of an answer: four little-endian numbers of 4 bytes. */
@@ -91,9 +94,9 @@ extern "C" {
 /* The chain is well formed, but its exact chance was not found. */
 
 /*
- * Numbers on the way grew above 2,147,483,647: ask for bounds, or try another order, as egorstream_order chooses it. The step list
- * shows where they grew. Of the modes only EGORSTREAM_MODE_EXACT returns it, and nothing is wrong
- * with the chain.
+ * Numbers on the way grew above 2,147,483,647: ask for bounds, where a lower bound of 0/1 is no chance
+ * of nought, or try another order, as egorstream_order chooses it. The step list shows where they grew.
+ * Of the modes only EGORSTREAM_MODE_EXACT returns it, and nothing is wrong with the chain.
  */
 #define EGORSTREAM_NO_FIT UINT32_C(12)
 
