@@ -55,3 +55,11 @@ pub mod Judge
 pub mod Left
 -- Saving what is left of a damaged file: lost blocks, the salvaging reader, the text.
 pub mod Salvage
+-- The chance nearly: an elimination with the highest 31 digits of each weight.
+pub mod Near
+-- The chance of missing every goal, nearly.
+pub mod Miss
+-- Near chances as they are printed.
+pub mod NearText
+-- Near chances of a chain file, from its own start or from another state.
+pub mod FileNear

@@ -22,7 +22,7 @@ abbrev pub Apart : Chain → Sets → List ℕ → ℕ → ℕ → ℕ → Type 
 Apart c k o b p q = (placesBefore c k o p ≤ placesBefore c k o q + b) × (placesBefore c k o q ≤ placesBefore c k o p + b)
 
 -- Any edge between two live states other than the start spans at most b places.
-pub record Near (c : Chain) (k : Sets) (o : List ℕ) (b : ℕ) : Type 0 where
+pub record ShortEdges (c : Chain) (k : Sets) (o : List ℕ) (b : ℕ) : Type 0 where
   pub spans : (e p q : ℕ) → e < edgeCount (c .edges) → p < c .states → q < c .states
       → from (c .edges) e ≡ getD o p 0 → to (c .edges) e ≡ getD o q 0 → counts c k o p ≡ true → counts c k o q ≡ true
       → Apart c k o b p q

@@ -28,9 +28,9 @@ use Rattle.figures.specs.declared.Question.the-variants as question
 use Rattle.figures.proofs.Numbered.{file-refused}
 use Rattle.report.specs.Lines.{Ends, chain, file, toldLines}
 use Rattle.report.specs.Stands.{Stands}
-use Rattle.report.proofs.Near.{refused-near, file-near}
+use Rattle.report.proofs.Brief.{refused-brief, file-brief}
 use Rattle.report.proofs.Lengths.{refusal-short}
-use Rattle.report.proofs.Room.{reward-near, report-short}
+use Rattle.report.proofs.Room.{reward-brief, report-short}
 
 -- 12 and 0 do not end the report.
 pub twelve : {number : ℕ} → number ≡ 12 → Ends number → ⊥
@@ -48,7 +48,7 @@ module _ {f : Input} {r : Figures} where
   file-ended o (file l h) = file-refused o (omega arith)
 
   pub file-lasts : FiguresOutcome f question.Report r → (Ends (r .number) → ⊥) → Accepted f × ReportAsked f r
-  file-lasts (refused n p w e) h = absurd (h (subst Ends (sym (ap (λ (r : Figures). r .number) e)) (file-near w .0)))
+  file-lasts (refused n p w e) h = absurd (h (subst Ends (sym (ap (λ (r : Figures). r .number) e)) (file-brief w .0)))
   file-lasts (accepted a x) h = (a, x)
 
 module _ {l : Lent} {a : Answer} where
@@ -62,7 +62,7 @@ module _ {l : Lent} {a : Answer} where
 
   pub lasts : {w : List ℕ} → RewardOutcome l a w → (Ends (a .number) → ⊥) → WellFormed paid l
   lasts (Outcome.refused number place r e s) h =
-      absurd (h (subst Ends (sym (ap (λ (a : Answer). a .number) e)) (refused-near number place r .0)))
+      absurd (h (subst Ends (sym (ap (λ (a : Answer). a .number) e)) (refused-brief number place r .0)))
   lasts (Outcome.stopped number place f t e s) h = f
   lasts (Outcome.answered f t g s) h = f
 
@@ -83,11 +83,11 @@ printed h s = TextOutcome.printed h (s .text) (s .wanted) (ap writing (s .whole)
 -- There is room for the line of a refusal.
 pub refusal-room : {l : Lent} {a : Answer} {w : List ℕ} (buffer : List ℕ) → reportRoom ≤ length buffer → RewardOutcome l a w
     → Room buffer 0 (refusedText (a .number) (a .place) ++ bytesOf "\n")
-refusal-room {a = a} buffer h o = omega (arith, refusal-short (a .number) (a .place) (reward-near o))
+refusal-room {a = a} buffer h o = omega (arith, refusal-short (a .number) (a .place) (reward-brief o))
 
 pub file-room : {f : Input} {number place : ℕ} (buffer : List ℕ) → reportRoom ≤ length buffer → FileRefused f number place
     → Room buffer 0 (refusedText number place ++ bytesOf "\n")
-file-room {number = number} {place} buffer h w = omega (arith, refusal-short number place (file-near w .1))
+file-room {number = number} {place} buffer h w = omega (arith, refusal-short number place (file-brief w .1))
 
 -- What a survey of a well-formed chain counts.
 surveyed : {l : Lent} {a : Survey} → WellFormed bare l → SurveyOutcome false l a

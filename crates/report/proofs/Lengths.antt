@@ -12,14 +12,14 @@ use Rattle.meaning.specs.Text.{bytesOf}
 use Rattle.meaning.specs.Report.{fractionText, refusedText, answerText, linesText, answerLine, faceText, reportRoom, faceRoom, answerRoom}
 use Rattle.theory.specs.Numbers.Decimal.{digits}
 use Rattle.theory.specs.Outcomes.Small.{Small, BothSmall}
-use Rattle.theory.specs.Files.Lengths.{Near, refused-short, refusal-line, fraction-short, bounds-short}
+use Rattle.theory.specs.Files.Lengths.{Brief, refused-short, refusal-line, fraction-short, bounds-short}
 use Rattle.chainfile.specs.Written.{Room}
 
 either : (b : Bool) (x y : List ℕ) (n : ℕ) → length x ≤ n → length y ≤ n → length (choose b x y) ≤ n
 either true x y n h k = h
 either false x y n h k = k
 
-answer-short : (a : Answer) → Near (a .number) (a .place) → Small (a .numerator) (a .denominator) → length (answerText a) ≤ 21
+answer-short : (a : Answer) → Brief (a .number) (a .place) → Small (a .numerator) (a .denominator) → length (answerText a) ≤ 21
 answer-short a n s =
     either (eqb (a .number) 0) _ _ 21
     (either (eqb (a .denominator) 0) _ _ 21 (omega arith) (fraction-short (a .numerator) (a .denominator) s))
@@ -28,8 +28,8 @@ answer-short a n s =
 -- The seven lines of a report.
 pub lines-short : (states edges goals live : ℕ) (chance reward : Answer) (bounds : Bounds)
     → states ≤ mostStates → edges ≤ mostEdges → goals ≤ mostStates → live ≤ mostStates
-    → Near (chance .number) (chance .place) → Small (chance .numerator) (chance .denominator)
-    → Near (reward .number) (reward .place) → Small (reward .numerator) (reward .denominator)
+    → Brief (chance .number) (chance .place) → Small (chance .numerator) (chance .denominator)
+    → Brief (reward .number) (reward .place) → Small (reward .numerator) (reward .denominator)
     → BothSmall bounds
     → length (linesText states edges goals live chance reward bounds) ≤ reportRoom
 lines-short states edges goals live chance reward bounds hs he hg hl nc sc nr sr sb =
@@ -46,7 +46,7 @@ lines-short states edges goals live chance reward bounds hs he hg hl nc sc nr sr
     ))
 
 -- The single line of a refusal.
-pub refusal-short : (number place : ℕ) → Near number place → length (refusedText number place ++ bytesOf "\n") ≤ reportRoom
+pub refusal-short : (number place : ℕ) → Brief number place → length (refusedText number place ++ bytesOf "\n") ≤ reportRoom
 refusal-short number place n = omega (arith, refusal-line number place n)
 
 -- An answer whose numbers have room in their types.

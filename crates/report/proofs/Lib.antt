@@ -1,6 +1,6 @@
 pub mod Lengths
 pub mod Texts
-pub mod Near
+pub mod Brief
 pub mod Room
 pub mod ChainLines
 pub mod Unique

@@ -14,7 +14,7 @@ use Rattle.meaning.specs.Text.{bytesOf}
 use Rattle.meaning.specs.Report.{refusedText, answerText, lineText, recordsText, StepsReport}
 use Rattle.theory.specs.Outcomes.DemandTwo.{stopped-twelve}
 use Rattle.report.specs.Lines.{Ends}
-use Rattle.report.proofs.Near.{refused-near, file-near}
+use Rattle.report.proofs.Brief.{refused-brief, file-brief}
 use Rattle.report.proofs.ChainLines.{twelve, nought}
 
 abbrev Says : Input → Answer → List ℕ → Type 0
@@ -37,10 +37,10 @@ module _ {f : Input} {a : Answer} {count : ℕ} {records : List StepRecord} wher
   -- Any other leaves the records' lines, and the chance's.
   pub steps-last : FileSteps f mostStates [] a count records → (Ends (a .number) → ⊥)
       → StepsReport f (recordsText records ++ lineText (bytesOf "chance ") (answerText a))
-  steps-last (file-refused number place r e c k) h = absurd (h (subst Ends (sym (ap (λ (a : Answer). a .number) e)) (file-near r .0)))
+  steps-last (file-refused number place r e c k) h = absurd (h (subst Ends (sym (ap (λ (a : Answer). a .number) e)) (file-brief r .0)))
   steps-last (asked accepted work o) h = at (o .outcome)
     where
       at : Says f a work → StepsReport f (recordsText records ++ lineText (bytesOf "chance ") (answerText a))
-      at (refused number place r e s) = absurd (h (subst Ends (sym (ap (λ (a : Answer). a .number) e)) (refused-near number place r .0)))
+      at (refused number place r e s) = absurd (h (subst Ends (sym (ap (λ (a : Answer). a .number) e)) (refused-brief number place r .0)))
       at (stopped number place w t e s) = StepsReport.listed accepted w a count work records o refl
       at (answered w t g s) = StepsReport.listed accepted w a count work records o refl

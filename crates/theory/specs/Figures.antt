@@ -6,4 +6,14 @@ pub mod Earnings
 pub mod Unique
 pub mod Below
 pub mod Existence
+pub mod Surely
+pub mod Compared
+pub mod Moved
+pub mod Drift
+pub mod Against
+pub mod Cleared
+pub mod Comes
+pub mod Followed
+pub mod Ways
+pub mod Spread
 pub mod Rewards

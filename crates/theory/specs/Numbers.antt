@@ -1,7 +1,8 @@
--- Sums, lists, divisors, bits and shifts; searches that end.
+-- Sums, lists, divisors, bits, shifts and binary digits; searches that end; numbers rounded down by a few parts.
 pub mod Decide
 pub mod Sum
 pub mod Tab
+pub mod Walk
 pub mod Join
 pub mod Filter
 pub mod Gcd
@@ -14,3 +15,13 @@ pub mod Every
 pub mod Window
 pub mod Search
 pub mod Least
+pub mod Trimmed
+pub mod Powers
+pub mod Binary
+pub mod Tops
+pub mod Cuts
+pub mod Sure
+pub mod Narrow
+pub mod Tens
+pub mod Printed
+pub mod Figured

@@ -8,6 +8,15 @@ pub mod Stage
 pub mod Fits
 pub mod Unrounded
 pub mod Last
+pub mod Seen
+pub mod Blended
+pub mod Spreads
+pub mod Outset
+pub mod NearStep
+pub mod Nearly
+pub mod NearLast
+pub mod NearDigits
+pub mod Missed
 pub mod Left
 pub mod Records
 pub mod Rewards

@@ -1,14 +1,14 @@
--- No chance is above 1.
+-- No chance is above 1, and that of a state with a path to a goal is not 0.
 use Prim.Native.Nat.{ℕ, zero, suc, _*_, _≤_, _<_}
 use mathlib.Core.Path.{_≡_, refl, ap, _∙_}
 use mathlib.Core.Logic.{_⊎_, inl, inr, ⊎-elim}
 use native.Mathlib.Omega.{arith}
-use native.Mathlib.Nat.{eq-of-mul-eq-mul-left}
+use native.Mathlib.Nat.{eq-of-mul-eq-mul-left, mul-pos}
 use Rattle.meaning.specs.Number.{bit}
 use Rattle.meaning.specs.Chain.{Chain, denominator, from, to, weight, along, ToGoal, PathTo}
 use Rattle.meaning.specs.Figure.{Shares}
 use Rattle.theory.specs.Numbers.Sum.{same, below}
-use Rattle.theory.specs.Chains.Flow.{flow-ext, flow-scale, flow-tight}
+use Rattle.theory.specs.Chains.Flow.{flow-ext, flow-scale, flow-tight, flow-term}
 use Rattle.theory.specs.Chains.Fine.{Fine}
 
 -- The greatest of x 0, .., x (n - 1).
@@ -68,3 +68,19 @@ module _ (c : Chain) (fine : Fine c) (d : ℕ) (x : ℕ → ℕ) (share : Shares
       (g .2)))
       (λ (l : g .0 ≤ d). omega (arith, g .1 i h))
       (below d (g .0))
+
+  -- A state with a path to a goal is worth something.
+  pub share-above : {i : ℕ} → ToGoal c i → i < c .states → 0 < x i
+  share-above (PathTo.here i g) h = omega (arith, share .won i h g, share .whole)
+  share-above (PathTo.step e k w) h =
+      let s = from (c .edges) e in
+      ⊎-elim
+      (λ (g : bit (c .goals) s ≡ 1). omega (arith, share .won s h g, share .whole))
+      (λ (g : bit (c .goals) s ≡ 1 → ⊥).
+      let a = mul-pos (fine .weights e k) (share-above w (fine .targets e k)) in
+      let b : 0 < denominator c s * x s = omega (arith, a, flow-term (c .edges) s x e k refl, share .flows s h g (PathTo.step e k w)) in
+      ⊎-elim
+      (λ (l : 0 < x s). l)
+      (λ (l : x s ≤ 0). let z : x s ≡ 0 = omega arith in absurd (omega (arith, rw z at b)))
+      (below 0 (x s)))
+      (same (bit (c .goals) s) 1)

@@ -37,13 +37,13 @@ without s n =
 
 module _ (s : System) (n : ℕ) where
   -- A state that leads out has weight outside its own loop.
-  loop-less : {i : ℕ} → LeadsOut s (suc n) i → i ≡ n → 0 < total s n n
+  pub loop-less : {i : ℕ} → LeadsOut s (suc n) i → i ≡ n → 0 < total s n n
   loop-less (leaves p) e = omega (arith, rw e at p)
   loop-less (passes j h p l) e =
       last-or-below h (loop-less l) (λ (b : j < n). omega (arith, rw e at p, sum-term (s .a n) n j b))
 
   -- What leads out still does without n; and if n does, so does all that has weight towards n.
-  leads-on : 0 < total s n n → {i : ℕ} → LeadsOut s (suc n) i
+  pub leads-on : 0 < total s n n → {i : ℕ} → LeadsOut s (suc n) i
       → LeadsOut (without s n) n i × ((k : ℕ) → i ≡ n → 0 < s .a k n → LeadsOut (without s n) n k)
   leads-on D {i} (leaves p) =
       (leaves {i = i} (omega (arith, mul-pos p D)), λ k e q. leaves {i = k} (omega (arith, mul-pos q (rw e at p))))
@@ -57,12 +57,12 @@ module _ (s : System) (n : ℕ) where
       ))
 
 -- The sums of a row of the system without n.
-sum-mix : (D q : ℕ) (u v : ℕ → ℕ) (m : ℕ) → sumTo (λ j. u j * D + q * v j) m ≡ D * sumTo u m + q * sumTo v m
+pub sum-mix : (D q : ℕ) (u v : ℕ → ℕ) (m : ℕ) → sumTo (λ j. u j * D + q * v j) m ≡ D * sumTo u m + q * sumTo v m
 unfolding sumTo
 sum-mix D q u v zero = omega arith
 sum-mix D q u v (suc m) = omega (arith, sum-mix D q u v m)
 
-sum-mix-by : (D q : ℕ) (u v x : ℕ → ℕ) (m : ℕ)
+pub sum-mix-by : (D q : ℕ) (u v x : ℕ → ℕ) (m : ℕ)
     → sumTo (λ j. (u j * D + q * v j) * x j) m ≡ D * sumTo (λ j. u j * x j) m + q * sumTo (λ j. v j * x j) m
 unfolding sumTo
 sum-mix-by D q u v x zero = omega arith

@@ -16,19 +16,19 @@ use Rattle.theory.specs.Files.FileOne.{file-numbers}
 use Rattle.theory.specs.Files.StepsOne.{file-place}
 
 -- A refusal's number has two digits and its place four.
-pub record Near (number place : ℕ) : Type 0 where
+pub record Brief (number place : ℕ) : Type 0 where
   pub two : number ≤ 99
   pub four : place ≤ 9999
 
 -- The numbers 1 to 11, and 20 to 24.
-pub chain-near : {x : Entry} {l : Lent} {number place : ℕ} → Refused x l number place → Near number place
-chain-near {number = number} {place} r =
+pub chain-brief : {x : Entry} {l : Lent} {number place : ℕ} → Refused x l number place → Brief number place
+chain-brief {number = number} {place} r =
     let (some, most, near) = refused-places number place r in record { two = omega arith; four = omega arith }
 
-pub block-near : {f : Input} {number place : ℕ} → FileRefused f number place → Near number place
-block-near r = record { two = omega (arith, file-numbers r .1); four = omega (arith, file-place r) }
+pub block-brief : {f : Input} {number place : ℕ} → FileRefused f number place → Brief number place
+block-brief r = record { two = omega (arith, file-numbers r .1); four = omega (arith, file-place r) }
 
-pub refused-short : (number place : ℕ) → Near number place → length (refusedText number place) ≤ 18
+pub refused-short : (number place : ℕ) → Brief number place → length (refusedText number place) ≤ 18
 refused-short number place n = simp length-append (omega (arith, digits 1 number (omega arith), digits 3 place (omega arith)))
 
 pub fraction-short : (p q : ℕ) → Small p q → length (fractionText p q) ≤ 21
@@ -44,7 +44,7 @@ bounds-short a s =
     ))
 
 -- The line of a refusal, and that of the bounds.
-pub refusal-line : (number place : ℕ) → Near number place → length (refusedText number place ++ bytesOf "\n") ≤ 19
+pub refusal-line : (number place : ℕ) → Brief number place → length (refusedText number place ++ bytesOf "\n") ≤ 19
 refusal-line number place n = simp length-append (omega (arith, simp length-append at (refused-short number place n)))
 
 pub bounds-line : (a : Bounds) → BothSmall a → length (lineText (bytesOf "bounds ") (boundsText a)) ≤ 51

@@ -22,7 +22,7 @@ use Rattle.theory.specs.Outcomes.Small.{bounds-small, left-small}
 use Rattle.theory.specs.Outcomes.Formed.{few-states, denominator-small}
 use Rattle.theory.specs.Files.Right.{Bounded, bounded}
 use Rattle.theory.specs.Files.Opened.{front-file, lost-numbers}
-use Rattle.theory.specs.Files.Lengths.{Near, chain-near, block-near, refusal-line, bounds-line}
+use Rattle.theory.specs.Files.Lengths.{Brief, chain-brief, block-brief, refusal-line, bounds-line}
 
 -- A line of two numbers, of so many digits and one more.
 pair-short : (word : List ℕ) (k m a b : ℕ) → a < 10 ^ suc k → b < 10 ^ suc m → length (pairText word a b) ≤ length word + k + m + 4
@@ -66,20 +66,20 @@ left-short l formed i h =
     let few = few-states shortRows l formed in
     omega (arith, short-room (l .chain) i (omega arith) (λ j m. omega (arith, denominator-small shortRows l formed j (omega arith))))
 
-place-near : {f : Input} {v : ℕ → ℕ} {number place at : ℕ} → Opened f v → Refused shortRows (leftIn f v) number place → PlaceIn f v number place at
-    → Near number at
-place-near opened r (PlaceIn.edge e h l i) = record { two = omega arith; four = omega (arith, i .inside, limits opened .few-edges) }
-place-near opened r (PlaceIn.other h) = chain-near r
+place-brief : {f : Input} {v : ℕ → ℕ} {number place at : ℕ} → Opened f v → Refused shortRows (leftIn f v) number place → PlaceIn f v number place at
+    → Brief number at
+place-brief opened r (PlaceIn.edge e h l i) = record { two = omega arith; four = omega (arith, i .inside, limits opened .few-edges) }
+place-brief opened r (PlaceIn.other h) = chain-brief r
 
 three-short : (x y z : List ℕ) (a b c : ℕ) → length x ≤ a → length y ≤ b → length z ≤ c → length (x ++ y ++ z) ≤ a + b + c
 three-short x y z a b c h k l = simp length-append (omega arith)
 
 -- No text is longer than the room that is asked for.
 pub salvage-room : (f : Input) (t : List ℕ) → Salvaged f t → length t ≤ salvageRoom
-salvage-room f t (Salvaged.file-refused number place r e) = rw e (omega (arith, refusal-line number place (block-near (front-file r))))
-salvage-room f t (Salvaged.whole-refused number place a r e) = rw e (omega (arith, refusal-line number place (chain-near r)))
+salvage-room f t (Salvaged.file-refused number place r e) = rw e (omega (arith, refusal-line number place (block-brief (front-file r))))
+salvage-room f t (Salvaged.whole-refused number place a r e) = rw e (omega (arith, refusal-line number place (chain-brief r)))
 salvage-room f t (Salvaged.whole accepted formed a work o e) = rw e (omega (arith, bounds-line a (bounds-small o)))
-salvage-room f t (Salvaged.left-refused v opened lost number place at r i e) = rw e (omega (arith, refusal-line number at (place-near opened r i)))
+salvage-room f t (Salvaged.left-refused v opened lost number place at r i e) = rw e (omega (arith, refusal-line number at (place-brief opened r i)))
 salvage-room f t (Salvaged.left v opened lost formed a work o e) =
     rw e
     (three-short (lineText (bytesOf "bounds ") (boundsText a)) (lostText v (demanded f)) (shortText (leftChain f v) (headStates f)) boundsRoom lostRoom

@@ -18,7 +18,7 @@ use Rattle.meaning.specs.Stop.{earns}
 use Rattle.meaning.specs.Steps.{rowsTo, columnsOf}
 use Rattle.meaning.specs.Survey.{Count}
 use Rattle.meaning.specs.Choice.{ordered, exactAt}
-use Rattle.meaning.specs.Line.{counts, placesBefore, Apart, Near, productsAlong}
+use Rattle.meaning.specs.Line.{counts, placesBefore, Apart, ShortEdges, productsAlong}
 use Rattle.theory.specs.Numbers.Sum.{same, sum-le, sum-scale, sum-hole, sum-next, sum-up}
 use Rattle.theory.specs.Numbers.Every.{apart-once, sum-every}
 use Rattle.theory.specs.Numbers.Window.{window}
@@ -112,7 +112,7 @@ module _ (c : Chain) (k : Sets) (o : List ℕ) (ready : Prepared c k o) where
   enters h (goal e g) = absurd (omega (arith, e, h))
   enters h (trap e g) = absurd (omega (arith, e, h))
 
-  module _ (b : ℕ) (near : Near c k o b) where
+  module _ (b : ℕ) (short : ShortEdges c k o b) where
     -- Weights stand between states that are kept, and span at most b places where neither is the start.
     record Spans (p q r : ℕ) : Type 0 where
       source : Stays p q
@@ -131,7 +131,7 @@ module _ (c : Chain) (k : Sets) (o : List ℕ) (ready : Prepared c k o) where
         record {
           source = record { live = brings .live; later = λ _. omega arith };
           target = record { live = end .1; later = λ _. omega arith };
-          close = near .spans (e .0) q r (e .1 .0) h g (brings .source) (end .0);
+          close = short .spans (e .0) q r (e .1 .0) h g (brings .source) (end .0);
         }
 
     -- What s brings together comes after it, and within b places of it.

@@ -14,7 +14,7 @@ use Rattle.meaning.specs.Outcome.{Answer}
 use Rattle.meaning.specs.Steps.{StepRecord, recordOf, StepsOutcome}
 use Rattle.meaning.specs.Survey.{Count}
 use Rattle.meaning.specs.Choice.{productAt, Chosen, productsTo, Choice, ChoiceOutcome, list-wrong, refused, chosen}
-use Rattle.meaning.specs.Line.{counts, Near, productsAlong}
+use Rattle.meaning.specs.Line.{counts, ShortEdges, productsAlong}
 use Rattle.theory.specs.Numbers.Sum.{below, sum-ext, sum-join}
 use Rattle.theory.specs.Numbers.Every.{apart-once, holds-every}
 use Rattle.theory.specs.Chains.Fine.{Fine}
@@ -30,26 +30,26 @@ use Rattle.theory.specs.Outcomes.Choice.{chosen-turns, choice-order}
 
 -- The limit of an exact run, for m live states other than the start.
 pub line-limit : (x : Entry) (l : Lent) → WellFormed x l → x .order ≡ true → x .short ≡ false → (k : Sets) → Right (l .chain) k → (m b : ℕ)
-    → Count (Removable (l .chain)) (l .chain .states) m → Near (l .chain) k (l .order) b
+    → Count (Removable (l .chain)) (l .chain .states) m → ShortEdges (l .chain) k (l .order) b
     → productsAlong (l .chain) k (l .order) ≤ m * (b + 1) * (b + 3)
-line-limit x l formed lent whole k right m b number near =
+line-limit x l formed lent whole k right m b number short =
     let ready = formed-prepared x l formed lent whole k right in
     omega (
       arith,
-      products-few (l .chain) k (l .order) ready b near,
+      products-few (l .chain) k (l .order) ready b short,
       ap (λ z. (b + 1) * (b + 3) * z) (places-all (l .chain) k (l .order) ready number),
     )
 
 -- The same in the words of the step list: where the companion answers, the sum over the records that it wrote.
 pub steps-limit : (l : Lent) {before after : List StepRecord} {a : Answer} {count : ℕ} {w : List ℕ} → a .number ≡ 0
     → StepsOutcome l before a count w after → (k : Sets) → Right (l .chain) k → (m b : ℕ)
-    → Count (Removable (l .chain)) (l .chain .states) m → Near (l .chain) k (l .order) b → (d : StepRecord)
+    → Count (Removable (l .chain)) (l .chain .states) m → ShortEdges (l .chain) k (l .order) b → (d : StepRecord)
     → sumTo (λ i. let r = getD (take count after) i d in r .rows * r .columns) count ≤ m * (b + 1) * (b + 3)
 unfolding recordOf
-steps-limit l answers s k right m b number near d =
+steps-limit l answers s k right m b number short d =
     let run = steps-through l answers s in
     rw (steps-sum l answers s (λ r. r .rows * r .columns) d k right)
-    (line-limit listing l (run .formed) refl refl k right m b number near)
+    (line-limit listing l (run .formed) refl refl k right m b number short)
 
 -- And of a chosen order, where that is such an order: the sum that is answered with it.
 module _ (c : Chain) (k : Sets) (o : List ℕ) {turns : ℕ} (x : Chosen c k o turns) where
@@ -71,14 +71,14 @@ module _ (c : Chain) (k : Sets) (o : List ℕ) {turns : ℕ} (x : Chosen c k o t
         once : (p : ℕ) → p < c .states → (q : ℕ) → q < p → getD o q 0 ≡ getD o p 0 → ⊥
         once p h q a e = choice-order c k x fine right start p (h, inr (q, (a, e)))
 
-    chosen-limit : (m b : ℕ) → Count (Removable c) (c .states) m → Near c k o b → productsTo c k o turns ≤ m * (b + 1) * (b + 3)
-    chosen-limit m b number near =
+    chosen-limit : (m b : ℕ) → Count (Removable c) (c .states) m → ShortEdges c k o b → productsTo c k o turns ≤ m * (b + 1) * (b + 3)
+    chosen-limit m b number short =
         let f : ℕ → ℕ = λ p. only (counts c k o p) (productAt c k o p (getD o p 0)) in
         let few = turns-few c k fine right start (chosen-turns c k x) in
         let e : turns + (c .states - turns) ≡ c .states = omega (arith, few) in
         omega (
           arith,
-          products-few c k o chosen-prepared b near,
+          products-few c k o chosen-prepared b short,
           ap (λ z. (b + 1) * (b + 3) * z) (places-all c k o chosen-prepared number),
           ap (sumTo f) e,
           sum-join f turns (c .states - turns),
@@ -86,10 +86,10 @@ module _ (c : Chain) (k : Sets) (o : List ℕ) {turns : ℕ} (x : Chosen c k o t
         )
 
 pub choice-limit : (l : Lent) {before after : List ℕ} {a : Choice} → a .number ≡ 0 → ChoiceOutcome l before a after → (k : Sets) → Right (l .chain) k
-    → (m b : ℕ) → Count (Removable (l .chain)) (l .chain .states) m → Near (l .chain) k after b → a .sum ≤ m * (b + 1) * (b + 3)
-choice-limit l z (list-wrong d e s) k right m b number near = absurd (omega (arith, z, ap (λ a. a .number) e))
-choice-limit l z (refused h n p r e s) k right m b number near = absurd (omega (arith, z, ap (λ a. a .number) e, refused-places n p r .0))
-choice-limit l {after = after} z (chosen h f k′ right′ turns x e) k right m b number near =
+    → (m b : ℕ) → Count (Removable (l .chain)) (l .chain .states) m → ShortEdges (l .chain) k after b → a .sum ≤ m * (b + 1) * (b + 3)
+choice-limit l z (list-wrong d e s) k right m b number short = absurd (omega (arith, z, ap (λ a. a .number) e))
+choice-limit l z (refused h n p r e s) k right m b number short = absurd (omega (arith, z, ap (λ a. a .number) e, refused-places n p r .0))
+choice-limit l {after = after} z (chosen h f k′ right′ turns x e) k right m b number short =
     let s = right-one right right′ in
-    let limit = chosen-limit (l .chain) k′ after x (formed-fine bare l f refl) right′ (start-in bare l f) m b number (rw s at near) in
+    let limit = chosen-limit (l .chain) k′ after x (formed-fine bare l f refl) right′ (start-in bare l f) m b number (rw s at short) in
     omega (arith, limit, ap (λ a. a .sum) e)

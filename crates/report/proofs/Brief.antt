@@ -10,18 +10,18 @@ use Rattle.theory.specs.Outcomes.DemandTwo.{stopped-twelve}
 use Rattle.theory.specs.Outcomes.Places.{refused-places}
 use Rattle.theory.specs.Files.FileOne.{file-numbers}
 use Rattle.theory.specs.Files.StepsOne.{stopped-place}
-use Rattle.theory.specs.Files.Lengths.{Near, chain-near, block-near}
+use Rattle.theory.specs.Files.Lengths.{Brief, chain-brief, block-brief}
 use Rattle.report.specs.Lines.{Ends, chain, file}
 
 -- The numbers 1 to 11.
-pub refused-near : {x : Entry} {l : Lent} (number place : ℕ) → Refused x l number place → Ends number × Near number place
-refused-near number place r = let (some, most, _) = refused-places number place r in (chain some most, chain-near r)
+pub refused-brief : {x : Entry} {l : Lent} (number place : ℕ) → Refused x l number place → Ends number × Brief number place
+refused-brief number place r = let (some, most, _) = refused-places number place r in (chain some most, chain-brief r)
 
 -- The number 12.
-pub stopped-near : {x : Entry} {pay : ℕ → ℕ} {b : Bool} {l : Lent} {number place : ℕ} → WellFormed x l → Stopped pay b l number place → Near number place
-stopped-near formed s =
+pub stopped-brief : {x : Entry} {pay : ℕ → ℕ} {b : Bool} {l : Lent} {number place : ℕ} → WellFormed x l → Stopped pay b l number place → Brief number place
+stopped-brief formed s =
     record { two = omega (arith, stopped-twelve s); four = omega (arith, stopped-place formed s) }
 
 -- The numbers 20 to 24.
-pub file-near : {f : Input} {number place : ℕ} → FileRefused f number place → Ends number × Near number place
-file-near r = let n = file-numbers r in (file (n .0) (n .1), block-near r)
+pub file-brief : {f : Input} {number place : ℕ} → FileRefused f number place → Ends number × Brief number place
+file-brief r = let n = file-numbers r in (file (n .0) (n .1), block-brief r)
