@@ -37,7 +37,7 @@ use Rattle.engines.proofs.Tables.{kept-more, length-row, states-row}
 use Rattle.engines.proofs.Cells.{held-added, share-dead, share-live, shares-le}
 use Rattle.engines.proofs.Missing.{lack-dead, lack-here, lack-aside}
 use Rattle.engines.proofs.Packing.{zero-row}
-use Rattle.engines.proofs.Targets.{in-live, in-dead, in-goal, in-trap, in-unknown}
+use Rattle.engines.proofs.Targets.{in-live, in-dead, in-goal, in-trap, in-none}
 
 flow-none : (edges : List ℕ) (i : ℕ) → flow edges i (λ _. 0) ≡ 0
 unfolding flow carried
@@ -126,8 +126,8 @@ module _ (c : Chain) (k : Sets) (b p short : Bool) (rewards work : List ℕ) (a 
         (same j n))
         (below j n)
 
-    flow-unknown : along c i (λ t. only (eqb (columnOf n k t) (unknownColumn n)) 1) ≡ 0
-    flow-unknown = by-target _ (λ _. 0) (λ t l f. in-unknown c k t l f) ∙ flow-none (c .edges) i
+    pub flow-past : (j : ℕ) → n + 1 < j → along c i (λ t. only (eqb (columnOf n k t) j) 1) ≡ 0
+    flow-past j g = by-target _ (λ _. 0) (λ t l f. in-none c k t j g l f) ∙ flow-none (c .edges) i
 
     pub flow-column : (j : ℕ) → j < n + 3 → along c i (λ t. only (eqb (columnOf n k t) j) 1) + lacked i j ≡ cell (given c k pay (u i) i) j
     flow-column j h =
@@ -135,7 +135,7 @@ module _ (c : Chain) (k : Sets) (b p short : Bool) (rewards work : List ℕ) (a 
         (λ (s : j < n + 2). omega (arith, flow-known j s, lack-aside n (k .live) i (u i) j (omega arith)))
         (λ (s : n + 2 ≤ j).
         let e : j ≡ n + 2 = omega arith in
-        rw e (omega (arith, flow-unknown, lack-here n (k .live) i (u i) (q .1), given-unknown c k pay (u i) i)))
+        rw e (omega (arith, flow-past (n + 2) (omega arith), lack-here n (k .live) i (u i) (q .1), given-unknown c k pay (u i) i)))
         (below j (n + 2))
 
   -- The table once all edges are gathered, and what is missing.
@@ -162,7 +162,7 @@ module _ (c : Chain) (k : Sets) (b p short : Bool) (rewards work : List ℕ) (a 
           sum-ext (cell (partAt n v i)) (cell (given c k pay (u i) i)) (n + 3) live-cell
           ∙ given-whole c k pay u (a .fine) (End short c) (goal-end short c) (a .right) i q
 
-      live-row : set (partAt n v i) (n + 3) (pay i) ≡ given c k pay (u i) i
+      pub live-row : set (partAt n v i) (n + 3) (pay i) ≡ given c k pay (u i) i
       live-row =
           let g = set (partAt n v i) (n + 3) (pay i) in
           let l : length (partAt n v i) ≡ n + 4 = length-row n v space i (q .0) in
@@ -203,7 +203,7 @@ module _ (c : Chain) (k : Sets) (b p short : Bool) (rewards work : List ℕ) (a 
           (λ (l : width n ≤ j). List·getD-eq-default (partAt n v i) 0 (omega (arith, length-row n v space i h)))
           (below j (width n))
 
-      dead-row : partAt n v i ≡ noRow n
+      pub dead-row : partAt n v i ≡ noRow n
       dead-row = zero-row n (length-row n v space i h) (λ j _. dead-cell j)
 
     pub makeable-finishable : Finishable b n (k .live) earnings v

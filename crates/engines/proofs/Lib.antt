@@ -1,4 +1,3 @@
-pub mod Loop
 pub mod Places
 pub mod Fill
 pub mod Along
@@ -25,6 +24,8 @@ pub mod Missing
 pub mod Packing
 pub mod Targets
 pub mod FirstRows
+pub mod Given
+pub mod LaidOne
 pub mod Course
 pub mod Looked
 pub mod Outcomes

@@ -14,13 +14,12 @@ use Rattle.meaning.specs.Chain.{mostStates}
 use Rattle.meaning.specs.Row.{cell, width, reward, goalColumn, trapColumn, unknownColumn, rewardColumn, rounding}
 use Rattle.meaning.specs.Step.{noRow}
 use Rattle.theory.specs.Numbers.Sum.{below, sum-ext}
-use Rattle.theory.specs.Numbers.Tab.{tab-of, getD-zeros}
+use Rattle.theory.specs.Numbers.Tab.{tab-of, getD-zeros, tab-zeros}
 use Rattle.engines.specs.declared.row.Settled.{Settled}
 use Rattle.engines.specs.Packed.{rewardAt, goalAt, trapAt, unknownAt, weightsAt, statesOf, unpacked, Packed}
 use Rattle.engines.specs.Filled.{Columns, blend, targetsTo, Filled}
 use Rattle.engines.specs.Row.{Summable, Became}
 use Rattle.engines.specs.First.{Packable, PackedFrom, Unfinished}
-use Rattle.engines.proofs.Loop.{zeros}
 use Rattle.engines.proofs.Places.{place-most}
 use Rattle.engines.proofs.Fill.{weighed, count-ones, count-place, bit-some}
 use Rattle.engines.proofs.Along.{blend-none}
@@ -215,7 +214,7 @@ pub zero-stays : {b : Bool} (n : ℕ) {p : List ℕ} {answer : Settled} → leng
 unfolding noRow
 zero-stays {b} n {p} l h fits told =
     let e : p ≡ noRow n = zero-row n l (λ j _. h j) in
-    let z : p ≡ replicate (width n) 0 = e ∙ zeros 0 (width n) in
+    let z : p ≡ replicate (width n) 0 = e ∙ tab-zeros 0 (width n) in
     record {
       same = ap (unpacked n) z ∙ unpacked-none n ∙ sym e;
       packed = rw z (packed-none n);

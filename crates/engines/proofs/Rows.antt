@@ -17,13 +17,12 @@ use Rattle.meaning.specs.Row.{Row, cell, total, reward, divisor, over, lowest, 
 use Rattle.meaning.specs.Steps.{takenOut}
 use Rattle.meaning.specs.Step.{noRow, combined, renewed}
 use Rattle.theory.specs.Numbers.Sum.{sum-ext, sum-le, sum-zero, sum-next, sum-up, sum-mix}
-use Rattle.theory.specs.Numbers.Tab.{tab-at, tab-length, getD-zeros}
+use Rattle.theory.specs.Numbers.Tab.{tab-at, tab-length, getD-zeros, tab-zeros}
 use Rattle.theory.specs.Numbers.Shift.{pow-whole, shift-fits}
 use Rattle.theory.specs.Rows.Terms.{over-cell}
 use Rattle.engines.specs.declared.row.Settled.{Settled}
 use Rattle.engines.specs.Packed.{unpacked, Packed}
 use Rattle.engines.specs.Row.{Summable, Fit, Removable, Tested, Became}
-use Rattle.engines.proofs.Loop.{zeros}
 use Rattle.engines.proofs.Lowest.{over-parts}
 use Rattle.engines.proofs.Unpacked.{unpacked-length}
 use Rattle.engines.proofs.Laws.{packed-held, fit-small}
@@ -135,7 +134,7 @@ noRow-length n = tab-length 0 (width n) _
 
 pub noRow-cell : (n j : ℕ) → cell (noRow n) j ≡ 0
 unfolding noRow
-noRow-cell n j = rw (zeros 0 (width n)) (getD-zeros (width n) j)
+noRow-cell n j = rw (tab-zeros 0 (width n)) (getD-zeros (width n) j)
 
 pub noRow-fit : (b : Bool) (n : ℕ) → Fit b n (noRow n)
 noRow-fit b n =

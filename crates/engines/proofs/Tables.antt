@@ -16,6 +16,7 @@ use Rattle.engines.specs.declared.row.Settled.{Settled}
 use Rattle.engines.specs.Packed.{statesOf, unpacked, Packed}
 use Rattle.engines.specs.Row.{Became}
 use Rattle.engines.specs.Table.{partAt, Kept, Put, Placed}
+use Rattle.engines.specs.Gather.{Changed}
 
 pub kept-same : (n : ℕ) (w : List ℕ) → Kept n w w
 kept-same n w = record { len = refl; past = refl }
@@ -116,21 +117,29 @@ drop-past e m v w h q =
     let k : e + (m - e) ≡ m = omega arith in
     rw k at (sym (drop-drop (m - e) e v) ∙ ap (drop (m - e)) q ∙ drop-drop (m - e) e w)
 
-put-with : (n : ℕ) (w : List ℕ) (room : workSize n ≤ length w) (i : ℕ) (b : i < n) (q : List ℕ) {r : Row} → Packed n q → unpacked n q ≡ r → Put n w i r (withRow n w i q)
-put-with n w room i b q h e =
-    let l = h .size in
-    let s = row-same n w room i b q l in
+-- The table with the numbers q in the place of row i.
+changed-with : (n : ℕ) (w : List ℕ) (room : workSize n ≤ length w) (i : ℕ) (b : i < n) (q : List ℕ) → length q ≡ width n → Changed n w i q (withRow n w i q)
+changed-with n w room i b q l =
     record {
       kept = record {
         len = length-with n w room i b q l;
         past = drop-past (i * width n + width n) (workSize n) (withRow n w i q) w (row-end i n b) (after-row n w room i b q l);
       };
-      packed = rw s h;
-      here = rw s e;
+      here = row-same n w room i b q l;
       other = row-other n w room i b q l;
     }
 
--- A part that was lent as `lent` says, has become q, which stands for r, and is back.
+put-with : (n : ℕ) (w : List ℕ) (room : workSize n ≤ length w) (i : ℕ) (b : i < n) (q : List ℕ) {r : Row} → Packed n q → unpacked n q ≡ r → Put n w i r (withRow n w i q)
+put-with n w room i b q h e =
+    let z = changed-with n w room i b q (h .size) in
+    record { kept = z .kept; packed = rw (z .here) h; here = rw (z .here) e; other = z .other }
+
+-- A part that was lent as `lent` says, has become q, and is back.
+pub row-changed : (n : ℕ) (w : List ℕ) (room : workSize n ≤ length w) (i : ℕ) (h : i < n) (a : ℕ) (p : a ≡ i * width n) (q : List ℕ) → length q ≡ width n
+    → Changed n w i q (putMid a (a + n + 4 - a) w q)
+row-changed n w room i h a p q l = rw (back n i a p w q) (changed-with n w room i h q l)
+
+-- The same of a packed row, which stands for r.
 pub row-placed : (n : ℕ) (w : List ℕ) (room : workSize n ≤ length w) (i : ℕ) (h : i < n) (a : ℕ) (p : a ≡ i * width n) {b : Bool} {q : List ℕ} {r : Row} {taken : ℕ} {answer : Settled}
     → Became b n r taken q answer → Placed b n w i r taken (putMid a (a + n + 4 - a) w q) answer
 row-placed n w room i h a p {q = q} z =

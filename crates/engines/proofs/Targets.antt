@@ -6,7 +6,7 @@ use lib.Dec.{eqb}
 use borrow.Author.Tests.{eq-eqb, ne-eqb}
 use Rattle.meaning.specs.Number.{only, bit}
 use Rattle.meaning.specs.Chain.{Chain}
-use Rattle.meaning.specs.Row.{trapColumn, unknownColumn}
+use Rattle.meaning.specs.Row.{trapColumn}
 use Rattle.meaning.specs.Step.{Sets}
 use Rattle.theory.specs.Stages.Given.{Fate, live, won, lost}
 use Rattle.engines.specs.Gather.{columnOf}
@@ -50,7 +50,8 @@ module _ (c : Chain) (k : Sets) (t : ℕ) where
   in-trap h (won a b d) = rw (column-won a d, ne-eqb n (trapColumn n) (omega arith), d)
   in-trap h (lost a b d) = rw (column-lost a d, eq-eqb (trapColumn n) (trapColumn n) refl, d)
 
-  pub in-unknown : t < n → Fate c k t → only (eqb (columnOf n k t) (unknownColumn n)) 1 ≡ 0
-  in-unknown h (live a b d) = rw (column-live a, ne-eqb t (unknownColumn n) (omega arith))
-  in-unknown h (won a b d) = rw (column-won a d, ne-eqb n (unknownColumn n) (omega arith))
-  in-unknown h (lost a b d) = rw (column-lost a d, ne-eqb (trapColumn n) (unknownColumn n) (omega arith))
+  -- Nothing goes to the columns behind Trap.
+  pub in-none : (j : ℕ) → trapColumn n < j → t < n → Fate c k t → only (eqb (columnOf n k t) j) 1 ≡ 0
+  in-none j g h (live a b d) = rw (column-live a, ne-eqb t j (omega arith))
+  in-none j g h (won a b d) = rw (column-won a d, ne-eqb n j (omega arith))
+  in-none j g h (lost a b d) = rw (column-lost a d, ne-eqb (trapColumn n) j (omega arith))

@@ -7,6 +7,7 @@ pub mod Log
 pub mod Order
 pub mod Answer
 pub mod Looking
+pub mod Laying
 pub mod Told
 pub mod Pay
 pub mod Gather

@@ -18,7 +18,7 @@ pub(crate) fn row_start(n: usize, i: usize) -> usize
 }
 
 // Makes a part of the table zero.
-pub(crate) fn clear(part: &mut [u64])
+pub fn clear(part: &mut [u64])
     ensures { λ _. ⌜ now (part .exit) ≡ replicate (length (now (part .entry))) 0 ⌝ }
 {
     let mut j = 0;

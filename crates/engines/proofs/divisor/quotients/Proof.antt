@@ -3,7 +3,7 @@ use native.Mathlib.Omega.{arith}
 use borrow.Author.Needs.{needs}
 use lib.ListN.{length, getD}
 use Rattle.meaning.specs.Row.{over}
-use Rattle.engines.proofs.Loop.{Walked, walk-none, walk-at, walk-more, walk-all}
+use Rattle.theory.specs.Numbers.Walk.{Walked, walk-none, walk-at, walk-more, walk-all}
 use Rattle.engines.proofs.divisor.quotients.Statement.{statement}
 use Rattle.engines.proofs.divisor.quotients.Tie as tie
 

@@ -6,7 +6,7 @@ use lib.ListN.{getD}
 use borrow.Author.Needs.{needs}
 use borrow.Author.Tests.{ne-eqb, eq-eqb}
 use Rattle.meaning.specs.Number.{choose}
-use Rattle.engines.proofs.Loop.{Walked, walk-from, walk-at, walk-more}
+use Rattle.theory.specs.Numbers.Walk.{Walked, walk-from, walk-at, walk-more}
 use Rattle.engines.proofs.merge.beside.Statement.{statement}
 use Rattle.engines.proofs.merge.beside.Tie as tie
 

@@ -7,7 +7,7 @@ use lib.Seq.{getD-set-same, getD-set-other}
 use borrow.Author.Needs.{needs}
 use borrow.Author.Tests.{lt-ltb, le-ltb}
 use Rattle.meaning.specs.Number.{choose}
-use Rattle.engines.proofs.Loop.{Walked, walk-from, walk-more}
+use Rattle.theory.specs.Numbers.Walk.{Walked, walk-from, walk-more}
 use Rattle.engines.proofs.merge.close.Statement.{statement}
 use Rattle.engines.proofs.merge.close.Tie as tie
 

@@ -3,7 +3,7 @@ use Prim.Native.Nat.{_-_}
 use native.Mathlib.Omega.{arith}
 use borrow.Author.Needs.{needs}
 use lib.ListN.{length, getD, replicate}
-use Rattle.engines.proofs.Loop.{Walked, walk-none, walk-more, walk-copy}
+use Rattle.theory.specs.Numbers.Walk.{Walked, walk-none, walk-more, walk-copy}
 use Rattle.engines.proofs.part.load.Statement.{statement}
 use Rattle.engines.proofs.part.load.Tie as tie
 

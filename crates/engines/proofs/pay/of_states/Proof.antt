@@ -7,7 +7,7 @@ use lib.ListN.{getD}
 use borrow.Author.Needs.{needs}
 use Rattle.meaning.specs.Chain.{M, mostReward, mostStates}
 use Rattle.engines.specs.Pay.{pays, earning}
-use Rattle.engines.proofs.Loop.{Walked, walk-none, walk-at, walk-more}
+use Rattle.theory.specs.Numbers.Walk.{Walked, walk-none, walk-at, walk-more}
 use Rattle.engines.proofs.pay.of_states.Statement.{statement}
 use Rattle.engines.proofs.pay.of_states.Tie as tie
 

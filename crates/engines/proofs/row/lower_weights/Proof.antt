@@ -11,7 +11,7 @@ use Rattle.theory.specs.Numbers.Sum.{sum-next, sum-term, sum-up}
 use Rattle.theory.specs.Rows.Terms.{over-cell}
 use Rattle.engines.specs.Filled.{countTo}
 use Rattle.engines.proofs.Fill.{only-le, count-most}
-use Rattle.engines.proofs.Loop.{Walked, walk-none, walk-at, walk-more, walk-all}
+use Rattle.theory.specs.Numbers.Walk.{Walked, walk-none, walk-at, walk-more, walk-all}
 use Rattle.engines.proofs.row.lower_weights.Statement.{statement}
 use Rattle.engines.proofs.row.lower_weights.Tie as tie
 

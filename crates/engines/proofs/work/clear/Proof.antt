@@ -3,7 +3,8 @@ use Prim.Native.Nat.{_-_}
 use native.Mathlib.Omega.{arith}
 use borrow.Author.Needs.{needs}
 use lib.ListN.{length}
-use Rattle.engines.proofs.Loop.{Walked, walk-none, walk-more, walk-all, zeros}
+use Rattle.theory.specs.Numbers.Walk.{Walked, walk-none, walk-more, walk-all}
+use Rattle.theory.specs.Numbers.Tab.{tab-zeros}
 use Rattle.engines.proofs.work.clear.Statement.{statement}
 use Rattle.engines.proofs.work.clear.Tie as tie
 
@@ -20,7 +21,7 @@ loop-again : tie.Need-loop-again Inv-loop μ-loop
 loop-again c = walk-more (c .before .loop .inv) (omega arith) refl
 
 returns : tie.Need-returns Inv-loop μ-loop
-returns c = walk-all (c .before .loop .inv) (omega arith) ∙ zeros 0 _
+returns c = walk-all (c .before .loop .inv) (omega arith) ∙ tab-zeros 0 _
 
 pub clear-spec : {M : Type 1} → statement M
 clear-spec =

@@ -1,0 +1,30 @@
+// The outset of an elimination that takes the rows as the chain gives them: the looking, and then the rows in the work table, by columns.
+ghost use mathlib.Core.List.{[]};
+ghost use Rattle.chain.specs.Lent.{lent};
+ghost use Rattle.engines.specs.Laying.{laid};
+use crate::gather::gather;
+use crate::looking::Looked;
+use crate::looking::look;
+use chain::Chain;
+use survey::Sets;
+
+// The chain's sets where its rows are laid out; or the refusal, which leaves the work table.
+pub enum Laid {
+    Rows(Sets),
+    Refused { number: u32, place: usize },
+}
+
+// Lays the rows of a chain out in a lent work table: the weights to each state, to goals and to states with no path to one.
+pub fn lay(c: Chain, denominators: &[u64], edges: &[u64], order: &[u64], work: &mut [u64]) -> Laid
+    ensures { λ r.
+        let l = lent c (now (denominators .entry)) (now (edges .entry)) (now (order .entry)) [] (now (work .entry)) in
+        ⌜ laid l (now (work .exit)) r ⌝ }
+{
+    match look(c, denominators, edges, order, work, c.states, false) {
+        Looked::Refused { number, place } => Laid::Refused { number, place },
+        Looked::Clear(sets) => {
+            gather(work, c.states, sets, edges, false);
+            Laid::Rows(sets)
+        }
+    }
+}
