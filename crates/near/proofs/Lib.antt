@@ -1,0 +1,10 @@
+pub mod Rows
+pub mod Words
+pub mod Sums
+pub mod Quotient
+pub mod Linked
+pub mod Steps
+pub mod Walks
+pub mod Laid
+pub mod Last
+pub mod Unique

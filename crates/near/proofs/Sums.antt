@@ -1,0 +1,100 @@
+-- The sum of two products, each cut so that the larger keeps 62 digits, has the word of the whole sum.
+use Prim.Native.Nat.{ℕ, _+_, _-_, _*_, _/_, _%_, _^_, _≤_, _<_, max}
+use mathlib.Core.Path.{_≡_, refl, sym, ap, _∙_}
+use mathlib.Core.Logic.{inl, inr, ⊎-elim}
+use native.Mathlib.Omega.{arith}
+use native.Mathlib.Nat.{add-comm, mul-one, div-one, div-eq-of-lt, mod-eq-of-lt, mul-add-div-right, mul-le-mul, mul-mul-mul-comm}
+use lib.Pow.{pow-pos, pow-mono, pow-add, shl-shr, shl-lt}
+use Rattle.meaning.specs.Near.{digits}
+use Rattle.theory.specs.Numbers.Sum.{below}
+use Rattle.theory.specs.Numbers.Binary.{digits-most, digits-least, digits-mono, digits-shift, zeros-split, zeros-cut, cut-small}
+use Rattle.theory.specs.Numbers.Tops.{Padded}
+use Rattle.near.specs.Word.{word, value}
+use Rattle.near.proofs.Words.{word-cut}
+
+-- A sum is cut where one of the two numbers has nothing but zeros behind.
+cut-sum : (a Q k : ℕ) → (a * 2 ^ k + Q) / 2 ^ k ≡ a * 2 ^ k / 2 ^ k + Q / 2 ^ k
+cut-sum a Q k = mul-add-div-right (pow-pos k) a Q ∙ ap (λ z. z + Q / 2 ^ k) (sym (shl-shr a k))
+
+-- What the sum of two numbers is to be, each without its last k digits.
+abbrev pub Summed : ℕ → ℕ → ℕ → Type 0
+Summed P Q k = (word ((P / 2 ^ k + Q / 2 ^ k) * 2 ^ k) ≡ word (P + Q)) × Padded (P / 2 ^ k + Q / 2 ^ k) k
+
+summed-left : (p x Q k : ℕ) → k ≤ x → k + 62 ≤ digits (p * 2 ^ x) → Summed (p * 2 ^ x) Q k
+summed-left p x Q k h l =
+    let P = p * 2 ^ x in
+    let e : (P + Q) / 2 ^ k ≡ P / 2 ^ k + Q / 2 ^ k = rw (zeros-split p x k h) (cut-sum (p * 2 ^ (x - k)) Q k) in
+    let w = word-cut (P + Q) k (omega (arith, digits-mono P (P + Q) (omega arith))) in
+    rw (← e) (w .0, inr (omega (arith, digits-mono P (P + Q) (omega arith), w .1)))
+
+-- How many digits two numbers are cut by such that the larger keeps 62.
+abbrev pub cutAt : ℕ → ℕ → ℕ
+cutAt P Q = max (digits P) (digits Q) - 62
+
+summed-none : (P Q k : ℕ) → k ≡ 0 → Summed P Q k
+summed-none P Q k e = (rw e (rw (div-one P, div-one Q, mul-one (P + Q)) refl), inl e)
+
+summed-some : (p x q y : ℕ) → p < 2 ^ 62 → 62 < digits (p * 2 ^ x) → digits (q * 2 ^ y) ≤ digits (p * 2 ^ x) → (k : ℕ) → k ≡ cutAt (p * 2 ^ x) (q * 2 ^ y)
+    → Summed (p * 2 ^ x) (q * 2 ^ y) k
+summed-some p x q y h a b k e =
+    summed-left p x (q * 2 ^ y) k (omega (arith, digits-most (p * 2 ^ x) (62 + x) (shl-lt 62 x h))) (omega arith)
+
+summed-swap : (P Q k : ℕ) → Summed P Q k → Summed Q P k
+summed-swap P Q k s = rw (add-comm (Q / 2 ^ k) (P / 2 ^ k), add-comm Q P) s
+
+pub summed : (p x q y : ℕ) → p < 2 ^ 62 → q < 2 ^ 62 → (k : ℕ) → k ≡ cutAt (p * 2 ^ x) (q * 2 ^ y) → Summed (p * 2 ^ x) (q * 2 ^ y) k
+summed p x q y h l k e =
+    ⊎-elim
+    (λ (a : digits P < digits Q).
+    ⊎-elim
+    (λ (b : 62 < digits Q). summed-swap Q P k (summed-some q y p x l b (omega arith) k (omega (arith, e))))
+    (λ (b : digits Q ≤ 62). summed-none P Q k (omega (arith, e)))
+    (below 62 (digits Q)))
+    (λ (a : digits Q ≤ digits P).
+    ⊎-elim
+    (λ (b : 62 < digits P). summed-some p x q y h b a k e)
+    (λ (b : digits P ≤ 62). summed-none P Q k (omega (arith, e)))
+    (below 62 (digits P)))
+    (below (digits P) (digits Q))
+  where
+    P : ℕ
+    P = p * 2 ^ x
+
+    Q : ℕ
+    Q = q * 2 ^ y
+
+-- Products of words.
+pub product-small : (a b : ℕ) → a % 2 ^ 31 * (b % 2 ^ 31) < 2 ^ 62
+product-small a b =
+    let m : a % 2 ^ 31 ≤ 2147483647 = omega arith in
+    let n : b % 2 ^ 31 ≤ 2147483647 = omega arith in
+    omega (arith, mul-le-mul m n)
+
+pub product-value : (a b : ℕ) → value a * value b ≡ a % 2 ^ 31 * (b % 2 ^ 31) * 2 ^ (a / 2 ^ 31 + b / 2 ^ 31)
+unfolding value
+product-value a b =
+    let m = a % 2 ^ 31 in
+    let n = b % 2 ^ 31 in
+    let u = 2 ^ (a / 2 ^ 31) in
+    let v = 2 ^ (b / 2 ^ 31) in
+    rw (pow-add 2 (a / 2 ^ 31) (b / 2 ^ 31)) (mul-mul-mul-comm m u n v)
+
+-- One number without its last k digits, as the code makes it.
+pub part-up : (p x k : ℕ) → k ≤ x → digits (p * 2 ^ x) ≤ k + 62 → (p * 2 ^ (x - k) % 2 ^ 64 ≡ p * 2 ^ x / 2 ^ k) × (p * 2 ^ (x - k) % 2 ^ 64 < 2 ^ 62)
+part-up p x k h l =
+    let e : p * 2 ^ x / 2 ^ k ≡ p * 2 ^ (x - k) = ap (λ z. z / 2 ^ k) (zeros-split p x k h) ∙ shl-shr (p * 2 ^ (x - k)) k in
+    let s = cut-small (p * 2 ^ x) k 62 l in
+    let t : p * 2 ^ (x - k) < 2 ^ 62 = rw e at s in
+    let r : p * 2 ^ (x - k) % 2 ^ 64 ≡ p * 2 ^ (x - k) = mod-eq-of-lt (omega arith) in
+    (r ∙ sym e, rw r t)
+
+pub part-few : (p x k : ℕ) → 0 < p → digits (p * 2 ^ x) ≤ k + 62 → x - k < 64
+part-few p x k h l = omega (arith, digits-shift p x h, digits-least p 0 h)
+
+pub part-down : (p x k : ℕ) → x ≤ k → p / 2 ^ (k - x) ≡ p * 2 ^ x / 2 ^ k
+part-down p x k h =
+    let e : x + (k - x) ≡ k = omega arith in
+    sym (zeros-cut p x (k - x)) ∙ ap (λ z. p * 2 ^ x / 2 ^ z) e
+
+pub part-far : (p c : ℕ) → p < 2 ^ 64 → 64 ≤ c → p / 2 ^ c ≡ 0
+part-far p c h l = div-eq-of-lt (let m : 2 ^ 64 ≤ 2 ^ c = pow-mono l in omega arith)

@@ -1,0 +1,49 @@
+// The walk through the order: each state that goes is removed at its turn.
+ghost use mathlib.Core.Path.{_≡_};
+ghost use Prim.Native.Nat.{ℕ, _*_, _<_, _≤_};
+ghost use lib.ListN.{length, getD};
+ghost use Rattle.meaning.specs.Chain.{mostStates};
+ghost use Rattle.meaning.specs.Refusal.{workSize};
+ghost use Rattle.meaning.specs.Step.{goes};
+ghost use Rattle.near.specs.Walk.{Turned, Walked};
+use crate::step::remove;
+use chain::Chain;
+use chain::set::holds;
+
+// Whether the state s is removed at its turn.
+fn goes(s: usize, start: usize, live: u64) -> bool
+    ensures { λ r. ⌜ r ≡ goes start live s ⌝ }
+{
+    if s == start {
+        return false;
+    }
+    holds(live, s)
+}
+
+// The turn of the state s. Answers how many rows were made anew.
+fn turn(work: &mut [u64], c: Chain, live: u64, s: usize) -> u64
+    requires { ⌜ (c .states ≤ mostStates) × (workSize (c .states) ≤ length (now work)) × (s < c .states) ⌝ }
+    ensures { λ r. ⌜ Turned (c .states) (goes (c .start) live s) s (now (work .entry)) (now (work .exit)) r ⌝ }
+{
+    if goes(s, c.start, live) {
+        return remove(work, c.states, s);
+    }
+    0
+}
+
+// Takes the states in their order, and answers how many rows were made anew.
+pub(crate) fn eliminate(work: &mut [u64], c: Chain, live: u64, order: &[u64]) -> u64
+    requires { ⌜ (c .states ≤ mostStates) × (workSize (c .states) ≤ length (now work)) × (length (now order) ≡ c .states) ⌝ }
+    requires { ⌜ ((p : ℕ) → p < c .states → getD (now order) p 0 < c .states) ⌝ }
+    ensures { λ r. ⌜ Walked c live (now (order .entry)) (c .states) (now (work .entry)) (now (work .exit)) r ⌝ }
+{
+    let n = c.states;
+    let mut rows = 0;
+    let mut p = 0;
+    while p < n {
+        let s = order[p] as usize;
+        rows += turn(work, c, live, s);
+        p += 1;
+    }
+    rows
+}
