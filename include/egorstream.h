@@ -1,7 +1,8 @@
 /*
  * The chance that a chain reaches a goal, from the bytes of a chain file; the steps by which it was
- * sought; an order that is chosen for it; the chance within so many steps; whether a table is the chance
- * at every state; and the chain file of a chain, from its tables.
+ * sought; near chances, which say six digits of a chance however small it is; an order that is chosen for
+ * it; the chance within so many steps; whether a table is the chance at every state; and the chain file of
+ * a chain, from its tables.
  *
  * Link with libegorstream.a.
  */
@@ -27,7 +28,8 @@ extern "C" {
 #define EGORSTREAM_MODE_EXACT UINT32_C(1)
 /*
  * A lower and an upper bound of the chance. They always fit. A lower bound of 0/1 is no chance of
- * nought, and below about one in 10^9 the upper bounds of two chains must not be compared.
+ * nought, and below about one in 10^9 the upper bounds of two chains must not be compared:
+ * egorstream_near says such a chance.
  */
 #define EGORSTREAM_MODE_BOUNDS UINT32_C(2)
 
@@ -94,8 +96,9 @@ extern "C" {
 /* The chain is well formed, but its exact chance was not found. */
 
 /*
- * Numbers on the way grew above 2,147,483,647: ask for bounds, where a lower bound of 0/1 is no chance
- * of nought, or try another order, as egorstream_order chooses it. The step list shows where they grew.
+ * Numbers on the way grew above 2,147,483,647: ask egorstream_near, which never gives this number; or for
+ * bounds, where a lower bound of 0/1 is no chance of nought; or try another order, as egorstream_order
+ * chooses it. The step list shows where they grew.
  * Of the modes only EGORSTREAM_MODE_EXACT returns it, and nothing is wrong with the chain.
  */
 #define EGORSTREAM_NO_FIT UINT32_C(12)
@@ -230,6 +233,52 @@ struct egorstream_ordered {
  */
 struct egorstream_ordered egorstream_order(const uint8_t *file, size_t file_length, uint64_t *list,
                                            size_t list_length);
+
+/*
+ * A chance between two numbers over one power of two, lower / 2^twos and upper / 2^twos, and each of the two in
+ * six decimal digits, the lower rounded down and the upper up: digits x 10^-tens. 0 is digits 0, tens 0; 1 is
+ * digits 1, tens 0. The chance lies between the digits too.
+ */
+struct egorstream_around {
+    uint64_t lower;
+    uint64_t upper;
+    uint32_t twos;
+    uint32_t lower_digits;
+    uint32_t lower_tens;
+    uint32_t upper_digits;
+    uint32_t upper_tens;
+};
+
+/*
+ * What egorstream_near and egorstream_near_from answer: 0, 0, the chance of reaching a goal and that of missing
+ * every goal; or a refusal's number and place, and else 0.
+ */
+struct egorstream_nearness {
+    uint32_t number;
+    uint32_t place;
+    struct egorstream_around near;
+    struct egorstream_around miss;
+};
+
+/*
+ * Finds the chance of reaching a goal, and that of missing every goal, each between two numbers that are near
+ * each other in proportion, however small the chance is: upper x 2^16 is at most lower x (2^16 + 1). Every
+ * well-formed chain is answered: EGORSTREAM_NO_FIT never comes. For a chance near 1, look at the miss.
+ *
+ * file, file_length      The bytes of a chain file, as above.
+ * state                  For egorstream_near_from: the state to begin in. It takes the place of the file's
+ *                        start before anything of the chain is looked at; EGORSTREAM_START_WRONG where it is
+ *                        no state of the chain.
+ *
+ * The lower number is below 2^32, the upper at most 2^33, the twos at most 2,110, the tens at most 839. Where
+ * no goal can be missed, all of the miss is 0.
+ *
+ * The file is tested first, then the chain, its order included. The place is a block, a state, the index of an
+ * edge or a position of the order, each from 0, or else 0. Its tables are its own, as those of
+ * egorstream_chance are: the same stack is enough.
+ */
+struct egorstream_nearness egorstream_near(const uint8_t *file, size_t file_length);
+struct egorstream_nearness egorstream_near_from(const uint8_t *file, size_t file_length, uint64_t state);
 
 /* What egorstream_within answers: 0, 0 and the parts; or a refusal's number and place, and 0. */
 struct egorstream_reached {

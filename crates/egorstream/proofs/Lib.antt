@@ -5,3 +5,4 @@ pub mod Stepping
 pub mod Ordering
 pub mod Reaching
 pub mod Checking
+pub mod Nearing

@@ -3,3 +3,4 @@ pub mod Steps
 pub mod Order
 pub mod Reach
 pub mod Check
+pub mod Near

@@ -1,6 +1,7 @@
 // The calls from C.
 mod call;
 mod check;
+mod nearly;
 mod order;
 mod reply;
 mod steps;
@@ -13,6 +14,10 @@ pub use call::MODE_EXACT;
 pub use call::egorstream_chance;
 pub use check::Checked;
 pub use check::egorstream_check;
+pub use nearly::Around;
+pub use nearly::Nearness;
+pub use nearly::egorstream_near;
+pub use nearly::egorstream_near_from;
 pub use order::Ordered;
 pub use order::egorstream_order;
 pub use reply::ANSWER_LENGTH;

@@ -1,2 +1,4 @@
 pub mod Lined
 pub mod Verdicts
+pub mod Figures
+pub mod Nears

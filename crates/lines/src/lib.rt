@@ -1,20 +1,29 @@
-// The texts of one line that programs print of a chain file, at the front of a lent buffer.
+// The texts of a line or two that programs print of a chain file, at the front of a lent buffer.
 ghost use Prim.Native.Nat.{_≤_};
 ghost use lib.ListN.{length};
 ghost use Rattle.meaning.specs.Text.{bytesOf, decimal};
 ghost use Rattle.meaning.specs.Report.{lineText, answerRoom};
 ghost use Rattle.meaning.specs.Within.{withinText, withinRoom, WithinReportOutcome};
 ghost use Rattle.meaning.specs.Judge.{JudgeReportOutcome};
+ghost use Rattle.meaning.specs.FileNear.{NearReportOutcome};
+ghost use Rattle.nearfile.specs.From.{fromOf};
 ghost use Rattle.chainfile.specs.Input.{input};
 ghost use Rattle.chainfile.specs.Written.{Written};
 ghost use Rattle.report.specs.Stands.{told};
 use equations::PARTS;
 use equations::Parts;
 use equations::Verdict;
+use near::answer::Nearly;
+use nearfile::From;
 use report::Printed;
 use report::pieces::DIGITS;
 use report::pieces::named;
 use report::pieces::put;
+use two_lines::found_lines;
+
+mod two_lines;
+
+pub use two_lines::NEAR_ROOM;
 
 // Room for any line of parts, and with it for that of any refusal.
 pub const WITHIN_ROOM: usize = (7 + DIGITS) + (1 + DIGITS) + (4 + DIGITS) + 1;
@@ -72,5 +81,24 @@ pub fn check(kept: &[u8], more: u64, shares: &[u8], buffer: &mut [u8]) -> Printe
         Verdict::Yes => Printed::Length(put(buffer, 0, b"yes\n")),
         Verdict::No(state) => Printed::Length(no_line(buffer, state as u64)),
         Verdict::Refused { number, place } => report::answer(number, place, 0, 0, buffer),
+    }
+}
+
+// The two lines of a chain file's near chances from that start, or the line of the refusal. `kept` holds the file's first bytes and `more` counts the
+// others.
+pub fn near(kept: &[u8], more: u64, from: From, buffer: &mut [u8]) -> Printed
+    ensures { λ r.
+        let f = input (now (kept .entry)) more in
+        ⌜ NearReportOutcome f (fromOf from) (now (buffer .entry)) (told r) (now (buffer .exit)) ⌝ }
+{
+    if buffer.len() < NEAR_ROOM {
+        return Printed::Refused {
+            number: 2,
+            place: 0,
+        };
+    }
+    match nearfile::near(kept, more, from) {
+        Nearly::Found(found) => Printed::Length(found_lines(buffer, found)),
+        Nearly::Refused { number, place } => report::answer(number, place, 0, 0, buffer),
     }
 }
