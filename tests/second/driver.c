@@ -2,7 +2,7 @@
  * Calls the C entries on requests that come on standard input, one after the other, so that a program on any machine can try them.
  *
  * A request begins with a 4-byte number in the machine's order: 0 for the chance, 1 for the writer, 2 for the step list, 3 for an order, 4 for
- * the chance within so many steps, 5 for the check of a table.
+ * the chance within so many steps, 5 for the check of a table, 6 for near chances.
  *
  * The chance: five such numbers (mode, file length, memory length, where the answer begins in the memory, answer length), then the file,
  * then the memory. The reply: two such numbers (what the entry returned, whether the file is unchanged), then the memory as the entry left
@@ -24,6 +24,10 @@
  *
  * The check of a table: two such numbers (file length, table length), then the file, then the table. The reply: five such numbers (number, place,
  * whether it is right, the state, whether the file is unchanged), then the table.
+ *
+ * Near chances: four such numbers (file length, whether a state is given, its lower half and its upper), then the file. The reply: three such numbers
+ * (number, place, whether the file is unchanged), then for each of the two chances lower and upper as 8-byte numbers and five of 4 bytes (twos, and of
+ * each decimal its digits and tens, lower first).
  *
  * A file, a table, a list or a buffer that is empty is handed over as a null pointer. The file, the tables and the memory end where a page begins that nobody may touch: who
  * reads or writes past them is stopped.
@@ -79,6 +83,13 @@ _Static_assert(offsetof(struct egorstream_step, state) == 0, "state");
 _Static_assert(offsetof(struct egorstream_step, rows) == 8, "rows");
 _Static_assert(offsetof(struct egorstream_step, columns) == 16, "columns");
 _Static_assert(offsetof(struct egorstream_step, divisor) == 24, "divisor");
+
+/* Two numbers of 8 bytes, five of 4, and what C puts behind them. */
+_Static_assert(sizeof(struct egorstream_around) == 40, "share");
+_Static_assert(offsetof(struct egorstream_around, twos) == 16, "twos");
+_Static_assert(offsetof(struct egorstream_around, upper_tens) == 32, "upper_tens");
+_Static_assert(sizeof(struct egorstream_nearness) == 88, "nearly");
+_Static_assert(offsetof(struct egorstream_nearness, near) == 8, "near");
 
 /* A page, or a multiple of it, on every machine that this runs on. */
 #define PAGE ((size_t)65536)
@@ -251,23 +262,38 @@ static void check_table(void)
     tell_lent(reply, 5, &lent);
 }
 
+static void put_share(uint32_t *reply, struct egorstream_around share)
+{
+    memcpy(reply, &share.lower, sizeof share.lower);
+    memcpy(reply + 2, &share.upper, sizeof share.upper);
+    reply[4] = share.twos;
+    reply[5] = share.lower_digits;
+    reply[6] = share.lower_tens;
+    reply[7] = share.upper_digits;
+    reply[8] = share.upper_tens;
+}
+
+static void come_near(void)
+{
+    uint32_t request[4];
+    take(request, sizeof request);
+    struct lent lent = lend(request[0], 0);
+    uint64_t state = (uint64_t)request[3] << 32 | request[2];
+    struct egorstream_nearness nearly = request[1] == 0 ? egorstream_near(file_of(&lent), lent.file_length)
+                                                      : egorstream_near_from(file_of(&lent), lent.file_length, state);
+    uint32_t reply[21] = {nearly.number, nearly.place, unchanged(&lent)};
+    put_share(reply + 3, nearly.near);
+    put_share(reply + 12, nearly.miss);
+    tell_lent(reply, 21, &lent);
+}
+
+static void (*const KINDS[])(void) = {answer, write_file, list_steps, choose_order, reach, check_table, come_near};
+
 int main(void)
 {
     uint32_t kind;
     while (fread(&kind, sizeof kind, 1, stdin) == 1) {
-        if (kind == 0) {
-            answer();
-        } else if (kind == 1) {
-            write_file();
-        } else if (kind == 2) {
-            list_steps();
-        } else if (kind == 3) {
-            choose_order();
-        } else if (kind == 4) {
-            reach();
-        } else {
-            check_table();
-        }
+        KINDS[kind]();
     }
     return 0;
 }

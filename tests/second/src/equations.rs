@@ -44,8 +44,27 @@ pub fn reward(chain: &Chain, reach: &Reach) -> Solution {
     })
 }
 
+/// The equations of the chance, as `modular` takes them, of a chain whose start is live.
+pub fn of_chance(chain: &Chain, reach: &Reach, prime: u64) -> Vec<Vec<u64>> {
+    written(chain, reach, |state| to_goals(chain, state), prime)
+}
+
 /// Solves the equations whose right sides are `known`.
 fn solve(chain: &Chain, reach: &Reach, known: impl Fn(usize) -> u64) -> Solution {
+    let remainders = PRIMES.map(|prime| {
+        let equations = written(chain, reach, &known, prime);
+        last_unknown(equations, prime).expect("the prime divides the determinant")
+    });
+    Solution { remainders }
+}
+
+/// The equations whose right sides are `known`, modulo a prime.
+fn written(
+    chain: &Chain,
+    reach: &Reach,
+    known: impl Fn(usize) -> u64,
+    prime: u64,
+) -> Vec<Vec<u64>> {
     // The start comes last, so that its value is the one that elimination leaves.
     let mut unknowns: Vec<usize> = (0..chain.states()).filter(|&i| reach.live[i]).collect();
     unknowns.retain(|&i| i != chain.start());
@@ -55,22 +74,19 @@ fn solve(chain: &Chain, reach: &Reach, known: impl Fn(usize) -> u64) -> Solution
         column[state] = Some(place);
     }
 
-    let remainders = PRIMES.map(|prime| {
-        let mut equations = vec![vec![0; unknowns.len() + 1]; unknowns.len()];
-        for (place, &state) in unknowns.iter().enumerate() {
-            equations[place][place] = u64::from(chain.denominators[state]);
-            equations[place][unknowns.len()] = known(state);
+    let mut equations = vec![vec![0; unknowns.len() + 1]; unknowns.len()];
+    for (place, &state) in unknowns.iter().enumerate() {
+        equations[place][place] = u64::from(chain.denominators[state]);
+        equations[place][unknowns.len()] = known(state);
+    }
+    for edge in &chain.edges {
+        let (from, to) = (column[usize::from(edge.from)], column[usize::from(edge.to)]);
+        if let (Some(from), Some(to)) = (from, to) {
+            let factor = &mut equations[from][to];
+            *factor = subtract(*factor, u64::from(edge.weight), prime);
         }
-        for edge in &chain.edges {
-            let (from, to) = (column[usize::from(edge.from)], column[usize::from(edge.to)]);
-            if let (Some(from), Some(to)) = (from, to) {
-                let factor = &mut equations[from][to];
-                *factor = subtract(*factor, u64::from(edge.weight), prime);
-            }
-        }
-        last_unknown(equations, prime).expect("the prime divides the determinant")
-    });
-    Solution { remainders }
+    }
+    equations
 }
 
 impl Solution {

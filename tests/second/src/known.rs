@@ -1,10 +1,11 @@
 //! What is known beforehand: chains worked by hand, the examples, plans, and files that are refused at sight.
 
 use crate::block;
-use crate::chain::MOST_STATES;
+use crate::chain::{Chain, MOST_STATES};
 use crate::compare;
 use crate::compare_check;
 use crate::compare_file;
+use crate::compare_near;
 use crate::compare_salvage;
 use crate::compare_steps;
 use crate::compare_within;
@@ -12,6 +13,7 @@ use crate::damage::Request;
 use crate::entry::{ANSWER, EXACT};
 use crate::examples::EXAMPLES;
 use crate::file;
+use crate::near_known;
 use crate::plan::{self, Plan};
 use crate::tally::{Asked, Case, Tally};
 use crate::worked;
@@ -32,6 +34,8 @@ pub fn answers(tally: &mut Tally) {
             compare_file::within(tally, case, &file);
             compare_check::tables(tally, case, &worked.chain, &file);
             compare_salvage::program(tally, case, &file);
+            compare_near::entry(tally, case, &file, None);
+            compare_near::from_all(tally, case, &file, worked.chain.states());
         }
     }
     for (place, (family, chain, text)) in worked_steps::all().into_iter().enumerate() {
@@ -50,6 +54,7 @@ pub fn answers(tally: &mut Tally) {
         compare::report_lines(tally, case, file, lines);
         compare_steps::text(tally, case, file, text);
         compare_file::within(tally, case, file);
+        compare_near::program(tally, case, &[], file);
         compare_check::tables(
             tally,
             case,
@@ -65,9 +70,38 @@ pub fn answers(tally: &mut Tally) {
         });
         compare::plan(tally, case, &words);
     }
+    near_chances(tally);
     let zeros = Case { family: "512 zero bytes", seed: 0 };
     compare::report_lines(tally, zeros, &[0; 512], &["refused 23 at 0"]);
     far_too_long(tally);
+}
+
+/// The chains whose near chances are known: both calls from every state, also where the file's start
+/// is no state, and the program; with the first chain it is given words of each kind.
+fn near_chances(tally: &mut Tally) {
+    for (place, known) in near_known::all().into_iter().enumerate() {
+        let case = Case { family: known.name, seed: place as u64 };
+        let n = known.chain.states();
+        let file = file::write(&known.chain, 2);
+        let wrong = file::write(&Chain { start: n as u8, ..known.chain.clone() }, 2);
+        compare_near::known(tally, case, &file, &known);
+        for file in [&file, &file::write(&known.chain, 1), &wrong] {
+            compare_near::entry(tally, case, file, None);
+            compare_near::from_all(tally, case, file, n);
+        }
+        let start = known.chain.start.to_string();
+        compare_near::text(tally, case, &[], &file, known.text);
+        compare_near::text(tally, case, &[start], &wrong, known.text);
+        if place == 0 {
+            for word in plan::ODD.into_iter().chain(["0", "6", "7", "63", "64", "255", "256"]) {
+                compare_near::program(tally, case, &[word.to_string()], &file);
+            }
+            for words in [["0", "0"], ["0", ""], ["", "x"]] {
+                compare_near::program(tally, case, &words.map(str::to_string), &file);
+            }
+            compare_near::program(tally, case, &[], &wrong);
+        }
+    }
 }
 
 /// A chain file with 65,536 blocks behind it: in two bytes its block total would be right.
@@ -84,6 +118,11 @@ fn far_too_long(tally: &mut Tally) {
     compare_check::entry(tally, case, &file, &[]);
     compare_check::program(tally, case, &file, None);
     compare_salvage::program(tally, case, &file);
+    compare_near::entry(tally, case, &file, None);
+    compare_near::entry(tally, case, &file, Some(0));
+    for words in [vec![], vec!["0".to_string()], vec!["x".to_string()]] {
+        compare_near::program(tally, case, &words, &file);
+    }
     let request = Request { file, mode: EXACT, answer_length: ANSWER };
     compare::entry(tally, case, &request, Asked::EntryOnDamage);
 }

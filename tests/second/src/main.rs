@@ -2,8 +2,9 @@
 //!
 //! It makes chains and damaged requests from fixed seeds, calls the C entries of the product's static
 //! library on all of them and its programs `nightchance`, `nightsteps`, `reorder`, `nightwithin`,
-//! `checkshares` and `salvage` on a part, runs its program `plancopies` on plans, and compares every
-//! answer with its own. Its last line is `second: N passed, 0 failed`, where N counts comparisons.
+//! `checkshares`, `nightnear` and `salvage` on a part, runs its program `plancopies` on plans, and
+//! compares every answer with its own. Its last line is `second: N passed, 0 failed`, where N counts
+//! comparisons.
 //!
 //! `cargo run --release` compares, with the word `sample` on a small part of it; `cargo test` tries
 //! this implementation alone on the chains that are worked by hand. The product is sought
@@ -17,6 +18,7 @@ mod compare;
 mod compare_check;
 mod compare_choice;
 mod compare_file;
+mod compare_near;
 mod compare_salvage;
 mod compare_steps;
 mod compare_within;
@@ -29,6 +31,7 @@ mod damage_tables;
 mod draft;
 mod entry;
 mod equations;
+mod exact;
 mod examples;
 mod figures;
 mod file;
@@ -40,6 +43,11 @@ mod live;
 mod met;
 mod modular;
 mod natural;
+mod near;
+mod near_chains;
+mod near_held;
+mod near_known;
+mod near_text;
 mod plan;
 mod product;
 mod programs;
@@ -77,6 +85,7 @@ fn main() -> ExitCode {
         programs::REORDER,
         programs::NIGHTWITHIN,
         programs::CHECKSHARES,
+        programs::NIGHTNEAR,
         programs::SALVAGE,
         programs::PLANCOPIES,
     ];

@@ -1,8 +1,8 @@
 //! The kinds of case that a run must have met.
 
 /// What a call of the step list's entry, of the one that chooses an order, of the one within so many
-/// steps, of the check of a table, `nightsteps`, `reorder` or `salvage` met; each is a line after the
-/// table.
+/// steps, of the check of a table, of the one for near chances, `nightsteps`, `reorder` or `salvage`
+/// met; each is a line after the table.
 #[derive(Clone, Copy)]
 pub enum Met {
     Through,
@@ -48,10 +48,19 @@ pub enum Met {
     Completed,
     IndexMoved,
     Exceeds,
+    NearRare,
+    NearRarest,
+    MissRare,
+    MissNever,
+    NearManyRows,
+    UpToOne,
+    RoundedToOne,
+    NearFrom,
+    NearFromWrongStart,
 }
 
 /// Each kind in words, and how often a run meets it at least.
-pub const MET: [(&str, u64); 43] = [
+pub const MET: [(&str, u64); 52] = [
     ("step lists of answers", 5_000),
     ("step lists of answers with no step", 300),
     ("step lists that end in 12 after some steps", 2_000),
@@ -95,4 +104,13 @@ pub const MET: [(&str, u64); 43] = [
     ("saved bounds beside the chance of the chain that was damaged", 1_000),
     ("edges refused behind a lost block", 50),
     ("rows above their denominator, though a block is lost", 30),
+    ("near chances below 2^-31", 1_000),
+    ("near chances below 2^-1000", 20),
+    ("near chances of missing below 2^-31", 200),
+    ("near chances of chains that cannot miss", 1_000),
+    ("near chances after more than 1,000 rows", 20),
+    ("near chances whose upper number is all", 1_000),
+    ("near chances whose upper number only rounds to all", 30),
+    ("near chances from a state", 1_000),
+    ("near chances from a state where the file's start is wrong", 100),
 ];

@@ -9,8 +9,8 @@ use crate::refusal::Refusal;
 use crate::report;
 use crate::worked;
 
-const MOST_COPIES: u64 = 32;
-const MOST_WEIGHT: u64 = 1_000_000;
+pub const MOST_COPIES: u64 = 32;
+pub const MOST_WEIGHT: u64 = 1_000_000;
 
 /// How many digits a word has at most: those of a number of 64 bits.
 const MOST_DIGITS: usize = 20;
@@ -45,7 +45,7 @@ impl Plan {
     }
 
     /// State k means k copies left, and the last state is the finished job.
-    fn chain(&self) -> Chain {
+    pub fn chain(&self) -> Chain {
         let [loss, rebuild, finish] = self.weights.map(|weight| weight as u32);
         let copies = self.copies as u8;
         let finished = copies + 1;
@@ -60,6 +60,11 @@ impl Plan {
         rows.push(vec![(finished, 1)]);
         let rows: Vec<&[(u8, u32)]> = rows.iter().map(Vec::as_slice).collect();
         Chain { start: copies, ..worked::chain(&rows, &[0], &[]) }
+    }
+
+    /// The chain, unless the plan is refused.
+    pub fn planned(&self) -> Option<Chain> {
+        self.refusal().is_none().then(|| self.chain())
     }
 
     /// The chance that no copy is left before the finish, or 12 at place 0.

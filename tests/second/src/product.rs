@@ -1,5 +1,6 @@
 //! The C entries of the product's static library, through a program that is linked with it.
 
+use crate::near_text::{Decimal, Share};
 use crate::programs::{below_root, start};
 use crate::tables::Tables;
 use std::cell::RefCell;
@@ -101,6 +102,23 @@ impl Driver {
         let [number, place, right, state, unchanged] = self.ask(&numbers, file, &mut memory)?;
         let changed = unchanged != 1 || memory != shares;
         Ok(Checked { number, place, right, state, changed })
+    }
+
+    fn near(&mut self, file: &[u8], from: Option<u64>) -> io::Result<Neared> {
+        let state = from.unwrap_or(0);
+        let halves = [state as u32 as usize, (state >> 32) as usize];
+        let numbers = [6, file.len(), usize::from(from.is_some()), halves[0], halves[1]];
+        let reply: [u32; 21] = self.ask(&numbers, file, &mut [])?;
+        let eight = |at: usize| u64::from(reply[at + 1]) << 32 | u64::from(reply[at]);
+        let decimal = |at| Decimal { digits: u64::from(reply[at]), tens: reply[at + 1] };
+        let [near, miss] = [3, 12].map(|at| Share {
+            lower: eight(at),
+            upper: eight(at + 2),
+            twos: reply[at + 4],
+            lowest: decimal(at + 5),
+            highest: decimal(at + 7),
+        });
+        Ok(Neared { number: reply[0], place: reply[1], near, miss, file_unchanged: reply[2] == 1 })
     }
 
     /// How a driver ended on which a call failed with this error.
@@ -233,4 +251,18 @@ pub struct Checked {
 /// What the entry of the check of a table returns.
 pub fn check(file: &[u8], shares: &[u8]) -> io::Result<Checked> {
     asked(|driver| driver.check(file, shares))
+}
+
+#[derive(Debug, Default, PartialEq, Eq)]
+pub struct Neared {
+    pub number: u32,
+    pub place: u32,
+    pub near: Share,
+    pub miss: Share,
+    pub file_unchanged: bool,
+}
+
+/// What the entry of near chances returns, or, where a state is given, the one that starts there.
+pub fn near(file: &[u8], from: Option<u64>) -> io::Result<Neared> {
+    asked(|driver| driver.near(file, from))
 }

@@ -22,6 +22,8 @@ pub const REORDER: &str = "reorder";
 pub const SALVAGE: &str = "salvage";
 /// The program that is given a number of steps too.
 pub const NIGHTWITHIN: &str = "nightwithin";
+/// The program that may be given a state too.
+pub const NIGHTNEAR: &str = "nightnear";
 /// The program that is given a table in its working folder too.
 pub const CHECKSHARES: &str = "checkshares";
 /// The program that is given a plan.

@@ -24,10 +24,12 @@ pub enum Asked {
     Check,
     CheckText,
     SalvageText,
+    Near,
+    NearText,
 }
 
 /// The columns of the table.
-const ASKED: usize = 12;
+const ASKED: usize = 14;
 
 /// The numbers that a file's bytes, a mode and an answer's length can give; 0 is an answer. 11 needs
 /// a reward above what two bytes hold; 12 comes from the exact mode alone.
@@ -37,15 +39,19 @@ const NOT_REPORTED: [u32; 2] = [1, 2];
 /// Those that need a mode, which the step list does not have.
 const NOT_LISTED: [u32; 1] = [1];
 /// For each other column the numbers that it can give, and what is asked there in words.
-const COVERED: [(Asked, &[RangeInclusive<u32>], &str); 7] = [
+const COVERED: [(Asked, &[RangeInclusive<u32>], &str); 9] = [
     (Asked::Writer, &[0..=11], "call of the writer"),
     (Asked::Within, &WITHIN, "call within so many steps"),
     (Asked::WithinText, &WITHIN, "text of nightwithin"),
     (Asked::Check, &CHECKED, "check of a table"),
     (Asked::CheckText, &CHECKED, "text of checkshares"),
-    (Asked::SalvageText, &[0..=0, 3..=10, 20..=24], "text of salvage"),
+    (Asked::SalvageText, &ALWAYS, "text of salvage"),
+    (Asked::Near, &ALWAYS, "call for near chances"),
+    (Asked::NearText, &ALWAYS, "text of nightnear"),
     (Asked::Planner, &[0..=0, 12..=12, 30..=31], "plan"),
 ];
+/// What needs no mode and no room, and always fits.
+const ALWAYS: [RangeInclusive<u32>; 3] = [0..=0, 3..=10, 20..=24];
 /// Within so many steps the order is not looked at.
 const WITHIN: [RangeInclusive<u32>; 4] = [0..=0, 3..=9, 20..=24, 32..=32];
 /// Nor is it for a table.
@@ -205,13 +211,13 @@ impl Tally {
         for failure in &self.told {
             println!("{failure}");
         }
-        println!("number   entry on chains   entry on damage   reports   writer   steps   printed   plans   within   printed   check   printed   salvage");
+        println!("number   entry on chains   entry on damage   reports   writer   steps   printed   plans   within   printed   check   printed   salvage   near    printed");
         for (number, row) in &self.numbers {
-            let [chains, damage, reports, writes, lists, texts, plans, within, lines, checks, words, saved] =
+            let [chains, damage, reports, writes, lists, texts, plans, within, lines, checks, words, saved, near, nearly] =
                 row;
             println!(
                 "{number:6}   {chains:15}   {damage:15}   {reports:7}   {writes:6}   \
-                 {lists:5}   {texts:7}   {plans:5}   {within:6}   {lines:7}   {checks:5}   {words:7}   {saved:7}"
+                 {lists:5}   {texts:7}   {plans:5}   {within:6}   {lines:7}   {checks:5}   {words:7}   {saved:7}   {near:5}   {nearly:7}"
             );
         }
         let [fractions, infinite, refused] = self.rewards;

@@ -6,6 +6,7 @@ use crate::compare;
 use crate::compare_check;
 use crate::compare_choice;
 use crate::compare_file;
+use crate::compare_near;
 use crate::compare_salvage;
 use crate::compare_steps;
 use crate::compare_within;
@@ -16,7 +17,8 @@ use crate::file;
 use crate::generate::{self, FAMILIES};
 use crate::known;
 use crate::live::Reach;
-use crate::plan;
+use crate::near_chains::NEAR_FAMILIES;
+use crate::plan::{self, Plan};
 use crate::random::Random;
 use crate::tables::Tables;
 use crate::tally::{Asked, Case, Tally};
@@ -34,8 +36,9 @@ const DAMAGED: u64 = 2_000 * DAMAGES.len() as u64;
 const LENT: u64 = 500 * LENT_DAMAGES.len() as u64;
 const GROWN: u64 = 600;
 const LOST: u64 = 450 * LOSSES.len() as u64;
+const NEAR: u64 = 300 * NEAR_FAMILIES.len() as u64;
 const PLANS: u64 = 120 * plan::COPIES;
-const UNITS: u64 = CHAINS + ORDERED + DAMAGED + LENT + GROWN + LOST + PLANS;
+const UNITS: u64 = CHAINS + ORDERED + DAMAGED + LENT + GROWN + LOST + NEAR + PLANS;
 
 /// How many orders each chain of the ordered part is given.
 const ORDERS: usize = 8;
@@ -83,10 +86,12 @@ fn worker(next: &AtomicU64, once_in: u64) -> Tally {
             one_damage(&mut tally, seed, place, with_report);
         } else if place < CHAINS + ORDERED + DAMAGED + LENT {
             one_writing(&mut tally, seed, place);
-        } else if place < UNITS - PLANS - LOST {
+        } else if place < UNITS - PLANS - NEAR - LOST {
             one_grown(&mut tally, seed);
-        } else if place < UNITS - PLANS {
+        } else if place < UNITS - PLANS - NEAR {
             one_salvage(&mut tally, seed, place);
+        } else if place < UNITS - PLANS {
+            one_near(&mut tally, seed, place, with_report);
         } else {
             one_plan(&mut tally, seed, place);
         }
@@ -109,6 +114,11 @@ fn one_chain(tally: &mut Tally, seed: u64, place: u64, with_report: bool) {
     compare_within::entry(tally, case, &file, compare_within::steps(&mut random));
     let table = compare_check::table(&mut random, &chain);
     compare_check::entry(tally, case, &file, &table);
+    compare_near::entry(tally, case, &file, None);
+    if random.once_in(4) {
+        let state = compare_near::state(&mut random, chain.states());
+        compare_near::entry(tally, case, &file, Some(state));
+    }
     if with_report {
         compare::report(tally, case, &file);
         compare_steps::program(tally, case, &file);
@@ -116,6 +126,8 @@ fn one_chain(tally: &mut Tally, seed: u64, place: u64, with_report: bool) {
         compare_within::program(tally, case, &words(&mut random), &file);
         compare_check::program(tally, case, &file, Some(&table));
         compare_salvage::program(tally, case, &file);
+        let words = compare_near::words(&mut random, chain.states());
+        compare_near::program(tally, case, &words, &file);
     }
 }
 
@@ -131,7 +143,9 @@ fn one_chain_in_many_orders(tally: &mut Tally, seed: u64) {
         random.shuffle(&mut chain.order);
         let version = random.pick(chain.versions());
         let (exact, bounds) = compare_file::chain(tally, case, &chain, version);
-        compare_steps::entry(tally, case, &file::write(&chain, version), MOST_STATES);
+        let file = file::write(&chain, version);
+        compare_steps::entry(tally, case, &file, MOST_STATES);
+        compare_near::entry(tally, case, &file, None);
         if let Some((chance, _)) = exact {
             chances.push(chance);
             turns_that_fit.insert(Reach::of(&chain).turns(&chain));
@@ -162,6 +176,10 @@ fn one_damage(tally: &mut Tally, seed: u64, place: u64, with_report: bool) {
     compare_within::entry(tally, case, &request.file, compare_within::steps(&mut random));
     let table = compare_check::any_table(&mut random, &request.file);
     compare_check::entry(tally, case, &request.file, &table);
+    let state = compare_near::state(&mut random, own);
+    for from in [None, Some(state)] {
+        compare_near::entry(tally, case, &request.file, from);
+    }
     if with_report || damage.0 == RECORDS_WRONG {
         compare::report(tally, case, &request.file);
         compare_steps::program(tally, case, &request.file);
@@ -169,6 +187,8 @@ fn one_damage(tally: &mut Tally, seed: u64, place: u64, with_report: bool) {
         compare_within::program(tally, case, &words(&mut random), &request.file);
         compare_check::program(tally, case, &request.file, Some(&table));
         compare_salvage::program(tally, case, &request.file);
+        let words = compare_near::words(&mut random, own);
+        compare_near::program(tally, case, &words, &request.file);
     }
 }
 
@@ -194,6 +214,7 @@ fn one_grown(tally: &mut Tally, seed: u64) {
     compare_file::lists(tally, case, &file, chain.states());
     compare_steps::program(tally, case, &file);
     compare_file::orders(tally, case, &file, chain.states());
+    compare_near::entry(tally, case, &file, None);
 }
 
 /// The file of a chain that lost blocks of edges, and that chain's own chance.
@@ -205,6 +226,30 @@ fn one_salvage(tally: &mut Tally, seed: u64, place: u64) {
     let file = (loss.1)(&mut random, chain.clone());
     compare_salvage::program(tally, case, &file);
     compare_salvage::completed(tally, case, &file, &chain);
+    compare_near::entry(tally, case, &file, None);
+}
+
+/// A chain of the kinds that near chances are for, at times with a start that is no state, and from
+/// other states: at times from all.
+fn one_near(tally: &mut Tally, seed: u64, place: u64, with_report: bool) {
+    let family = NEAR_FAMILIES[(place % NEAR_FAMILIES.len() as u64) as usize];
+    let case = Case { family: family.0, seed };
+    let mut random = Random::new(seed);
+    let mut chain = generate::draw(&mut random, family);
+    let n = chain.states();
+    if random.once_in(8) {
+        chain.start = random.pick(&[n as u8, 64, 255]);
+    }
+    let file = file::write(&chain, random.pick(chain.versions()));
+    tally.chain(&file);
+    compare_near::entry(tally, case, &file, None);
+    compare_near::entry(tally, case, &file, Some(compare_near::state(&mut random, n)));
+    if random.once_in(16) {
+        compare_near::from_all(tally, case, &file, n);
+    }
+    if with_report {
+        compare_near::program(tally, case, &compare_near::words(&mut random, n), &file);
+    }
 }
 
 /// The words of a number of steps: at times none, two, or one that says no number.
@@ -238,6 +283,9 @@ fn one_plan(tally: &mut Tally, seed: u64, place: u64) {
     let case = Case { family: "plans", seed };
     let words = plan::words(&mut Random::new(seed), place % plan::COPIES);
     compare::plan(tally, case, &words);
+    if let Some(chain) = Plan::of_words(&words).planned() {
+        compare_near::entry(tally, case, &file::write(&chain, 2), None);
+    }
 }
 
 /// A file's own length, one byte less, none, or more.
