@@ -7,16 +7,20 @@ COPIES ?= 3
 LOSS ?= 1
 REBUILD ?= 20
 FINISH ?= 100
-# From the command line alone: other tools use an OUT in the environment.
+# From the command line alone: other tools use an OUT or a STATE in the environment.
 OUT =
+STATE =
 
 # Recipes take these from the environment, so that a path may hold any byte.
-export CHAIN STEPS SHARES COPIES LOSS REBUILD FINISH OUT
+export CHAIN STEPS SHARES COPIES LOSS REBUILD FINISH OUT STATE
 
-.PHONY: report steps reorder within check salvage plan help test memory bench fmt clean
+.PHONY: report near steps reorder within check salvage plan help test memory bench fmt clean
 
 report: target/bin/nightchance ## the report of a chain file (CHAIN=)
 	@tests/answered $< <"$$CHAIN"
+
+near: target/bin/nightnear ## its chance, however small, and that of missing (CHAIN=, STATE= for another start)
+	@tests/answered $< $${STATE:+"$$STATE"} <"$$CHAIN"
 
 steps: target/bin/nightsteps ## its step list (CHAIN=)
 	@tests/answered $< <"$$CHAIN"

@@ -126,8 +126,9 @@ static inline struct bench_timing bench_time(bench_call *call, void *work)
 }
 
 /*
- * Writes a line for bench/table.py. The result is one word: a fraction, two as LOWER..UPPER, a
- * decimal number, `refused:NUMBER`, or `-` where it stands on another line.
+ * Writes a line for bench/table.py. The result is one word: a fraction, whose denominator may be
+ * `2^POWER`, two as LOWER..UPPER, a decimal number, `refused:NUMBER`, or `-` where it stands on another
+ * line.
  */
 static inline void bench_line(const struct bench_file *file, const char *what, const char *result,
                               struct bench_timing timing)

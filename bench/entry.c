@@ -1,9 +1,9 @@
 /*
- * Times the C entries on chain files: the chance exactly and in bounds, the step list, the chance within the most steps, and the writing of the
- * file again.
+ * Times the C entries on chain files: the chance exactly, in bounds and near, the step list, an order, the chance within the most steps, and the
+ * writing of the file again.
  *
- *     entry FILE ..                     five lines a file, for bench/table.py
- *     entry calls N exact|bounds FILE   only makes N calls, for a profiler
+ *     entry FILE ..                          seven lines a file, for bench/table.py
+ *     entry calls N exact|bounds|near FILE   only makes N calls, for a profiler
  */
 #include "bench.h"
 
@@ -48,6 +48,31 @@ static void time_mode(const struct bench_file *file, const char *what, uint32_t 
     char result[64];
     write_result(&request, result, sizeof result);
     bench_line(file, what, result, timing);
+}
+
+struct nearing {
+    const struct bench_file *file;
+    struct egorstream_nearness nearly;
+};
+
+static void call_near(void *work)
+{
+    struct nearing *nearing = work;
+    nearing->nearly = egorstream_near(nearing->file->bytes, nearing->file->length);
+}
+
+static void time_near(const struct bench_file *file)
+{
+    struct nearing nearing = {.file = file};
+    struct bench_timing timing = bench_time(call_near, &nearing);
+    if (nearing.nearly.number != EGORSTREAM_ANSWERED) {
+        bench_fail(file->name, "the near chance is refused");
+    }
+    const struct egorstream_around *near = &nearing.nearly.near;
+    char result[128];
+    snprintf(result, sizeof result, "%" PRIu64 "/2^%" PRIu32 "..%" PRIu64 "/2^%" PRIu32, near->lower, near->twos,
+             near->upper, near->twos);
+    bench_line(file, "near", result, timing);
 }
 
 /* A step list, with room for every chain. */
@@ -186,23 +211,26 @@ static void time_write(const struct bench_file *file)
     bench_line(file, "write", "-", timing);
 }
 
-static uint32_t mode_of(const char *word)
+static void repeat(bench_call *call, void *work, unsigned long calls)
 {
-    if (strcmp(word, "exact") == 0) {
-        return EGORSTREAM_MODE_EXACT;
+    for (unsigned long i = 0; i < calls; i++) {
+        call(work);
     }
-    if (strcmp(word, "bounds") == 0) {
-        return EGORSTREAM_MODE_BOUNDS;
-    }
-    bench_fail(word, "neither exact nor bounds");
-    return 0;
 }
 
-static void only_call(const struct bench_file *file, uint32_t mode, unsigned long calls)
+static void only_call(const struct bench_file *file, const char *way, unsigned long calls)
 {
-    struct request request = {.file = file, .mode = mode};
-    for (unsigned long i = 0; i < calls; i++) {
-        call_entry(&request);
+    struct request exact = {.file = file, .mode = EGORSTREAM_MODE_EXACT};
+    struct request bounds = {.file = file, .mode = EGORSTREAM_MODE_BOUNDS};
+    struct nearing nearing = {.file = file};
+    if (strcmp(way, "exact") == 0) {
+        repeat(call_entry, &exact, calls);
+    } else if (strcmp(way, "bounds") == 0) {
+        repeat(call_entry, &bounds, calls);
+    } else if (strcmp(way, "near") == 0) {
+        repeat(call_near, &nearing, calls);
+    } else {
+        bench_fail(way, "neither exact nor bounds nor near");
     }
 }
 
@@ -210,18 +238,19 @@ int main(int argc, char **argv)
 {
     static struct bench_file file;
     if (argc < 2) {
-        fprintf(stderr, "usage: entry FILE .. | entry calls N exact|bounds FILE\n");
+        fprintf(stderr, "usage: entry FILE .. | entry calls N exact|bounds|near FILE\n");
         return EXIT_FAILURE;
     }
     if (argc == 5 && strcmp(argv[1], "calls") == 0) {
         bench_read(&file, argv[4]);
-        only_call(&file, mode_of(argv[3]), strtoul(argv[2], NULL, 10));
+        only_call(&file, argv[3], strtoul(argv[2], NULL, 10));
         return EXIT_SUCCESS;
     }
     for (int i = 1; i < argc; i++) {
         bench_read(&file, argv[i]);
         time_mode(&file, "exact", EGORSTREAM_MODE_EXACT);
         time_mode(&file, "bounds", EGORSTREAM_MODE_BOUNDS);
+        time_near(&file);
         time_steps(&file);
         time_order(&file);
         time_within(&file);

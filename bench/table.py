@@ -15,6 +15,7 @@ import sys
 NAMES = {
     "exact": "entry exact",
     "bounds": "entry bounds",
+    "near": "entry near",
     "steps": "entry steps",
     "order": "entry order",
     "within": "entry within",
@@ -28,16 +29,22 @@ NAMES = {
 }
 ENTRY = ("exact", "bounds")
 # What is a time of the product's own code.
-OWN = (*ENTRY, "steps", "order", "within", "write")
+OWN = (*ENTRY, "near", "steps", "order", "within", "write")
 FLINT = ("dixon", "size")
 # What starts from the file's bytes and has a result.
-COMPARED = (*ENTRY, *FLINT, "lapack")
+COMPARED = (*ENTRY, "near", *FLINT, "lapack")
 # How far a double may lie from the chance.
 NEAR = Fraction(1, 10**9)
 # The targets, and the chains that they are for. FLINT's faster way counts.
 FLINT_OVER_BOUNDS = {"retry": 25, "dense": 3}
 CHAINS_A_SECOND = 400_000
 ADDRESS = "address"
+
+
+def fraction(word):
+    """A fraction or a decimal number; a denominator may be a power of two, as 2^POWER."""
+    number, _, power = word.partition("/2^")
+    return Fraction(int(number), 2 ** int(power)) if power else Fraction(word)
 
 
 class Measurement:
@@ -56,7 +63,7 @@ class Measurement:
     def between(self):
         """The lower and the upper fraction of an answer."""
         lower, _, upper = self.result.partition("..")
-        return Fraction(lower), Fraction(upper or lower)
+        return fraction(lower), fraction(upper or lower)
 
     def answer(self):
         """The number of the refusal, or both fractions."""
@@ -95,8 +102,14 @@ def disagreements(rows):
         if not lower <= chance <= upper:
             wrong.append(f"the exact chance {chance} is not between the bounds {lower} and {upper}")
         lower = upper = chance
-    # From here on lower and upper are the most that the entry says: its exact chance where it has one.
-    for what in COMPARED[len(ENTRY) :]:
+    above, below = rows["near"].between()
+    if not above <= below:
+        wrong.append(f"the lower near chance {above} is above the upper {below}")
+    if upper < above or below < lower:
+        wrong.append(f"the near chances {above} and {below} are beside what the entry says: {lower} to {upper}")
+    lower, upper = max(lower, above), min(upper, below)
+    # From here on lower and upper are the most that the entries say: the exact chance where there is one.
+    for what in (*FLINT, "lapack"):
         if what in rows:
             chance, _ = rows[what].between()
             off = 0 if what in FLINT else NEAR
@@ -121,7 +134,7 @@ def said(measurement):
     if measurement.what == "lapack":
         return f"{float(measurement.result):.12f}"
     lower, upper = measurement.between()
-    if measurement.what == "bounds":
+    if measurement.what in ("bounds", "near"):
         return f"{float(lower):.12f}, apart {float(upper - lower):.1e}" if lower != upper else f"{lower}, both"
     # A fraction of FLINT's may have hundreds of digits.
     return f"{lower}" if len(str(lower)) <= 23 else f"{float(lower):.12f}, {len(str(lower.denominator))} digits"
@@ -156,7 +169,7 @@ def table(found, mark):
 def rates(rows, mark):
     """Chains a second, for one chain."""
     figures = [
-        f"{NAMES[what]} {1e9 / rows[what].median:,.0f}{mark if what in ENTRY else ''}"
+        f"{NAMES[what]} {1e9 / rows[what].median:,.0f}{mark if what in OWN else ''}"
         for what in COMPARED
         if what in rows
     ]

@@ -151,6 +151,11 @@ def copies(count=5, loss=3, rebuild=40, finish=500):
     return chain_file(rows + [{done: 1}], goals={0}, start=count)
 
 
+def many():
+    """The plan with 32 copies, loss 1, rebuild 20, finish 100: its chance, some 2.7e-33, is far below what the report's bounds can say."""
+    return copies(32, 1, 20, 100)
+
+
 def retries():
     """A backup over a shaky line, in thousandths. The minutes are on the edges: a retry costs what its
     waiting costs, and what goes well costs what it takes.
@@ -193,7 +198,7 @@ def address_shares():
 
 def write_examples():
     here = Path(__file__).resolve().parent
-    for make in (address, dice, long, gateway, backup, copies, retries, damaged):
+    for make in (address, dice, long, gateway, backup, copies, many, retries, damaged):
         (here / f"{make.__name__}.chain").write_bytes(make())
     (here / "address.shares").write_bytes(address_shares())
 
