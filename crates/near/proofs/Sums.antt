@@ -3,11 +3,11 @@ use Prim.Native.Nat.{ℕ, _+_, _-_, _*_, _/_, _%_, _^_, _≤_, _<_, max}
 use mathlib.Core.Path.{_≡_, refl, sym, ap, _∙_}
 use mathlib.Core.Logic.{inl, inr, ⊎-elim}
 use native.Mathlib.Omega.{arith}
-use native.Mathlib.Nat.{add-comm, mul-one, div-one, div-eq-of-lt, mod-eq-of-lt, mul-add-div-right, mul-le-mul, mul-mul-mul-comm}
+use native.Mathlib.Nat.{add-comm, mul-one, div-one, le-div-iff-mul-le, div-eq-of-lt, mod-eq-of-lt, mul-add-div-right, mul-le-mul, mul-mul-mul-comm}
 use lib.Pow.{pow-pos, pow-mono, pow-add, shl-shr, shl-lt}
-use Rattle.meaning.specs.Near.{digits}
+use Rattle.meaning.specs.Near.{digits, spare}
 use Rattle.theory.specs.Numbers.Sum.{below}
-use Rattle.theory.specs.Numbers.Binary.{digits-most, digits-least, digits-mono, digits-shift, zeros-split, zeros-cut, cut-small}
+use Rattle.theory.specs.Numbers.Binary.{has-digits, digits-most, digits-least, digits-power, digits-mono, digits-shift, zeros-split, zeros-cut, cut-small}
 use Rattle.theory.specs.Numbers.Tops.{Padded}
 use Rattle.near.specs.Word.{word, value}
 use Rattle.near.proofs.Words.{word-cut}
@@ -26,6 +26,34 @@ summed-left p x Q k h l =
     let e : (P + Q) / 2 ^ k ≡ P / 2 ^ k + Q / 2 ^ k = rw (zeros-split p x k h) (cut-sum (p * 2 ^ (x - k)) Q k) in
     let w = word-cut (P + Q) k (omega (arith, digits-mono P (P + Q) (omega arith))) in
     rw (← e) (w .0, inr (omega (arith, digits-mono P (P + Q) (omega arith), w .1)))
+
+pub part-down : (p x k : ℕ) → x ≤ k → p / 2 ^ (k - x) ≡ p * 2 ^ x / 2 ^ k
+part-down p x k h =
+    let e : x + (k - x) ≡ k = omega arith in
+    sym (zeros-cut p x (k - x)) ∙ ap (λ z. p * 2 ^ x / 2 ^ z) e
+
+cut-long : (v k : ℕ) → 31 ≤ digits (v / 2 ^ k) → k + 31 ≤ digits v
+cut-long v k h =
+    let a : 2 ^ 30 * 2 ^ k ≤ v = le-div-iff-mul-le (pow-pos k) .0 (digits-power (v / 2 ^ k) 30 h) in
+    let b : 2 ^ (30 + k) ≤ v = rw (pow-add 2 30 k) a in
+    omega (arith, digits-least v (30 + k) b)
+
+-- Where the sum without its last x digits still has 31, it has the word of the whole sum.
+pub aligned : (p x q y : ℕ) → y ≤ x → 31 ≤ digits (p + q / 2 ^ (x - y)) → word ((p + q / 2 ^ (x - y)) * 2 ^ x) ≡ word (p * 2 ^ x + q * 2 ^ y)
+aligned p x q y h l =
+    let Q = q * 2 ^ y in
+    let d : q / 2 ^ (x - y) ≡ Q / 2 ^ x = part-down q y x h in
+    let e : (p * 2 ^ x + Q) / 2 ^ x ≡ p + q / 2 ^ (x - y) = cut-sum p Q x ∙ rw (shl-shr p x) (ap (λ z. p + z) (sym d)) in
+    rw (← e) (word-cut (p * 2 ^ x + Q) x (cut-long (p * 2 ^ x + Q) x (rw e l)) .0)
+
+-- The first 31 digits of a longer number, by way of its 64.
+pub first-long : (s n : ℕ) → n ≡ digits s → 31 ≤ n → n ≤ 64 → s * 2 ^ (64 - n) % 2 ^ 64 / 2 ^ 33 ≡ s / 2 ^ spare s
+first-long s n e h l =
+    let a : n + (64 - n) ≡ 64 = omega arith in
+    let b : 64 - n + (n - 31) ≡ 33 = omega arith in
+    let c : s * 2 ^ (64 - n) < 2 ^ 64 = rw a at (shl-lt n (64 - n) (rw (← e) at (has-digits s .0))) in
+    let d : n - 31 ≡ spare s = omega (arith, e) in
+    ap (λ z. z / 2 ^ 33) (mod-eq-of-lt c) ∙ ap (λ z. s * 2 ^ (64 - n) / 2 ^ z) (sym b) ∙ zeros-cut s (64 - n) (n - 31) ∙ ap (λ z. s / 2 ^ z) d
 
 -- How many digits two numbers are cut by such that the larger keeps 62.
 abbrev pub cutAt : ℕ → ℕ → ℕ
@@ -90,11 +118,6 @@ part-up p x k h l =
 
 pub part-few : (p x k : ℕ) → 0 < p → digits (p * 2 ^ x) ≤ k + 62 → x - k < 64
 part-few p x k h l = omega (arith, digits-shift p x h, digits-least p 0 h)
-
-pub part-down : (p x k : ℕ) → x ≤ k → p / 2 ^ (k - x) ≡ p * 2 ^ x / 2 ^ k
-part-down p x k h =
-    let e : x + (k - x) ≡ k = omega arith in
-    sym (zeros-cut p x (k - x)) ∙ ap (λ z. p * 2 ^ x / 2 ^ z) e
 
 pub part-far : (p c : ℕ) → p < 2 ^ 64 → 64 ≤ c → p / 2 ^ c ≡ 0
 part-far p c h l = div-eq-of-lt (let m : 2 ^ 64 ≤ 2 ^ c = pow-mono l in omega arith)

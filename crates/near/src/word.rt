@@ -59,13 +59,60 @@ pub(crate) fn packed(s: u64, k: u64) -> u64
     ((k + c) << 31) + (s >> c)
 }
 
-// The word of p * 2 ^ x + q * 2 ^ y.
-fn sum(p: u64, x: u64, q: u64, y: u64) -> u64
+// The word of p * 2 ^ x + q * 2 ^ y, whatever the two are: each is cut such that the larger keeps 62 digits.
+fn sum_cut(p: u64, x: u64, q: u64, y: u64) -> u64
     requires { ⌜ (p < 2 ^ 62) × (x < 2 ^ 35) × (q < 2 ^ 62) × (y < 2 ^ 35) ⌝ }
     ensures { λ r. ⌜ r ≡ word (p * 2 ^ x + q * 2 ^ y) ⌝ }
 {
     let k = cut_at(p, x, q, y);
     packed(part(p, x, k) + part(q, y, k), k)
+}
+
+// The same, where the sum mostly is a first weight: it has few digits, and leaves out none.
+fn sum_short(p: u64, x: u64, q: u64, y: u64) -> u64
+    requires { ⌜ (p < 2 ^ 62) × (x < 2 ^ 35) × (q < 2 ^ 62) × (y ≤ x) ⌝ }
+    ensures { λ r. ⌜ r ≡ word (p * 2 ^ x + q * 2 ^ y) ⌝ }
+{
+    if x == 0 {
+        return packed(p + q, 0);
+    }
+    sum_cut(p, x, q, y)
+}
+
+// The word of s * 2 ^ k, where s has 31 digits or more.
+fn packed_long(s: u64, k: u64) -> u64
+    requires { ⌜ (k < 2 ^ 36) × (31 ≤ digits s) ⌝ }
+    ensures { λ r. ⌜ r ≡ word (s * 2 ^ k) ⌝ }
+{
+    let n = digits_of(s);
+    ((k + n - 31) << 31) + ((s << (64 - n)) >> 33)
+}
+
+// The same where x is no less than y: without its last x digits the sum is p and what is left of q, and mostly has its 31 digits.
+fn sum_aligned(p: u64, x: u64, q: u64, y: u64) -> u64
+    requires { ⌜ (p < 2 ^ 62) × (x < 2 ^ 35) × (q < 2 ^ 62) × (y ≤ x) ⌝ }
+    ensures { λ r. ⌜ r ≡ word (p * 2 ^ x + q * 2 ^ y) ⌝ }
+{
+    let c = x - y;
+    if 64 <= c {
+        return sum_cut(p, x, q, y);
+    }
+    let s = p + (q >> c);
+    if s < 1073741824 {
+        return sum_short(p, x, q, y);
+    }
+    packed_long(s, x)
+}
+
+// The word of p * 2 ^ x + q * 2 ^ y.
+fn sum(p: u64, x: u64, q: u64, y: u64) -> u64
+    requires { ⌜ (p < 2 ^ 62) × (x < 2 ^ 35) × (q < 2 ^ 62) × (y < 2 ^ 35) ⌝ }
+    ensures { λ r. ⌜ r ≡ word (p * 2 ^ x + q * 2 ^ y) ⌝ }
+{
+    if x < y {
+        return sum_aligned(q, y, p, x);
+    }
+    sum_aligned(p, x, q, y)
 }
 
 // The product of the first digits of two words.
