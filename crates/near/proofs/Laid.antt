@@ -1,6 +1,6 @@
 -- The rows that a chain gives are their own words.
-use Prim.Native.Nat.{ℕ, _+_, _^_, _≤_, _<_}
-use mathlib.Core.Path.{_≡_, refl, sym, subst, _∙_}
+use Prim.Native.Nat.{ℕ, _+_, _*_, _^_, _≤_, _<_}
+use mathlib.Core.Path.{_≡_, refl, sym, ap, subst, _∙_}
 use mathlib.Core.Logic.{⊎-elim}
 use mathlib.Core.Bool.{false}
 use mathlib.Core.List.{List, []}
@@ -13,8 +13,8 @@ use Rattle.meaning.specs.Step.{row, Sets, Right, given}
 use Rattle.meaning.specs.Near.{nearFirst, nearStage}
 use Rattle.meaning.specs.Refusal.{Lent, plain, Refused, WellFormed}
 use Rattle.theory.specs.Numbers.Sum.{below, sum-term}
-use Rattle.theory.specs.Numbers.Tab.{tab-of}
 use Rattle.theory.specs.Numbers.Binary.{digits-most}
+use Rattle.theory.specs.Numbers.Tops.{top-small}
 use Rattle.theory.specs.Chains.Fine.{Fine, fine-whole}
 use Rattle.theory.specs.Stages.Given.{given-reward, given-whole}
 use Rattle.theory.specs.Stages.NearStep.{no-cell, first-by}
@@ -28,17 +28,29 @@ use Rattle.chain.specs.Lent.{lent}
 use Rattle.engines.specs.Laying.{Lies, laid}
 use Rattle.engines.specs.declared.laying.Laid.{Laid}
 use Rattle.engines.specs.declared.laying.Laid.the-variants.{Rows, Refused as Refusing}
-use Rattle.near.specs.Word.{word}
-use Rattle.near.specs.Table.{words}
+use Rattle.near.specs.Word.{word, value}
+use Rattle.near.specs.Table.{Stands}
 use Rattle.near.specs.Entry.{Begun}
-use Rattle.near.proofs.Words.{word-of}
+use Rattle.near.proofs.Words.{value-word, word-of}
 
 -- A number of at most 31 digits is its own word.
 word-small : (x : ℕ) → x < 2 ^ 31 → word x ≡ x
 word-small x h = word-of x 0 (omega (arith, digits-most x 31 h)) (omega arith) ∙ rw (div-one x) (omega arith)
 
-words-small : (r : Row) → ((j : ℕ) → j < length r → cell r j < 2 ^ 31) → words r ≡ r
-words-small r h = sym (tab-of 0 (length r) (λ j. word (cell r j)) r refl (λ j l. sym (word-small (cell r j) (h j l))))
+value-small : (x : ℕ) → x < 2 ^ 31 → value x ≡ x
+value-small x h = sym (ap value (word-small x h)) ∙ value-word x (omega (arith, digits-most x 31 h)) ∙ top-small x h
+
+-- A row of such numbers stands for itself.
+row-stands : (r : Row) (m : ℕ) → length r ≡ m → ((j : ℕ) → j < m → cell r j < 2 ^ 31) → Stands m (cell r) r 31
+row-stands r m e h =
+    record {
+      wide = e;
+      down = 0;
+      up = 0;
+      alike = λ j l. ap (λ z. z * 1) (value-small (cell r j) (h j l));
+      proper = λ j l. sym (ap word (value-small (cell r j) (h j l)) ∙ word-small (cell r j) (h j l));
+      few = λ j l. rw (value-small (cell r j) (h j l)) (digits-most (cell r j) 31 (h j l));
+    }
 
 module _ (c : Chain) (k : Sets) (fine : Fine c) (right : Right c k) (small : (i : ℕ) → i < c .states → denominator c i ≤ M) where
   first-small : (i : ℕ) → i < c .states → (j : ℕ) → j < c .states + 4 → cell (row (nearFirst c k) i) j < 2 ^ 31
@@ -84,6 +96,7 @@ begun c d e o w s {v} formed known lies =
             rows = λ i h.
                 let r = row (nearFirst (l .chain) (setsOf s)) i in
                 let small = first-small (l .chain) (setsOf s) (ready .fine) (ready .right) (denominator-small plain l formed) i h in
-                lies .rows i h ∙ sym (words-small r (λ j b. small j (omega (arith, nearly-stage (l .chain) (setsOf s) o ready (few-states plain l formed) 0 (omega arith) .wide i h))));
+                let wide = nearly-stage (l .chain) (setsOf s) o ready (few-states plain l formed) 0 (omega arith) .wide i h in
+                rw (lies .rows i h) (row-stands r (c .states + 4) wide small);
           };
     }

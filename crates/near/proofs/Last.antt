@@ -1,25 +1,25 @@
 -- From the table of words at the end to the figures.
-use Prim.Native.Nat.{ℕ, _+_, _*_, _≤_, _<_}
-use mathlib.Core.Path.{_≡_, refl, sym, ap, ap₂, _∙_}
+use Prim.Native.Nat.{ℕ, _+_, _*_, _^_, _≤_, _<_}
+use mathlib.Core.Path.{_≡_, refl, sym, ap, ap₂, subst, _∙_}
 use mathlib.Core.Logic.{⊎-elim}
 use mathlib.Core.Bool.{Bool, true, false}
 use mathlib.Core.List.{List, [], _++_}
 use native.Mathlib.Omega.{arith}
 use native.Mathlib.Nat.{mul-le-mul}
 use lib.Dec.{eqb}
-use lib.ListN.{length, getD, set, take, drop, replicate}
+use lib.ListN.{length, getD, take, drop, replicate}
 use lib.Seq.{length-take-le}
 use Rattle.meaning.specs.Number.{bit, choose}
 use Rattle.meaning.specs.Chain.{Chain, ToGoal, FromStart, Live}
 use Rattle.meaning.specs.Row.{Row, cell}
 use Rattle.meaning.specs.Step.{row, Sets}
-use Rattle.meaning.specs.Near.{cutSum, nearOutside, nearStage, rowsMade, Near, near, nearFrom, nearLive, NearFigure}
+use Rattle.meaning.specs.Near.{nearOutside, nearStage, rowsMade, Near, near, nearFrom, nearLive, NearFigure}
 use Rattle.meaning.specs.Miss.{missFrom, missLive, MissFigure}
 use Rattle.meaning.specs.Refusal.{Lent, workSize}
 use Rattle.meaning.specs.Outcome.{cleared}
 use Rattle.theory.specs.Numbers.Sum.{below}
 use Rattle.theory.specs.Stages.NearDigits.{near-each}
-use Rattle.theory.specs.Stages.NearLast.{last-goal}
+use Rattle.theory.specs.Stages.NearLast.{last-goal, last-some}
 use Rattle.chain.specs.declared.Chain.{Chain as Given}
 use Rattle.chain.specs.Lent.{lent}
 use Rattle.survey.specs.Sets.{chainOf, setsOf}
@@ -28,13 +28,15 @@ use Rattle.engines.specs.Table.{partAt, Kept}
 use Rattle.near.specs.Word.{word, value}
 use Rattle.near.specs.Row.{valueAt}
 use Rattle.near.specs.Step.{outsideAt}
-use Rattle.near.specs.Table.{words, Worded}
+use Rattle.near.specs.Table.{Stands, mostDigits, Worded}
 use Rattle.near.specs.Walk.{Walked}
 use Rattle.near.specs.Answer.{Tells, Answers, Misses, toldBetween, knownAs}
 use Rattle.near.specs.Entry.{Readable, Begun}
 use Rattle.near.specs.declared.answer.Between.{Between}
 use Rattle.near.proofs.Words.{word-none}
-use Rattle.near.proofs.Linked.{Wordy, words-at, words-value, outside-value, stage-wordy, stage-outside}
+use Rattle.near.proofs.Linked.{stage-outside}
+use Rattle.near.proofs.Scaled.{alike-some, alike-below, near-alike, miss-alike}
+use Rattle.near.proofs.Standing.{pivot-sum}
 
 -- What the definition tells is what is told.
 told-is : (a : Near) (r : Between) → a .number ≡ 0 → a .place ≡ 0 → Tells a r → toldBetween r ≡ a
@@ -78,7 +80,7 @@ module _ (c : Given) (s : Found) (d e o w : List ℕ) (b : Begun c s d e o w) wh
       alive : Live m (c .start)
       alive = record { unwon = unwon; reached = FromStart.begin; leads = b .walks .ready .right .good (c .start) .0 leads }
 
-      ended : Worded n (nearStage m k o n) v × (rows ≡ rowsMade m k o n)
+      ended : Worded n n (nearStage m k o n) v × (rows ≡ rowsMade m k o n)
       ended = z .worded d e (s .good) (b .walks) (b .worded)
 
       abbrev last : Row
@@ -90,36 +92,35 @@ module _ (c : Given) (s : Found) (d e o w : List ℕ) (b : Begun c s d e o w) wh
       inside : c .start < n
       inside = b .walks .ready .start
 
-      wordy : Wordy (n + 4) last
-      wordy = stage-wordy m k o (b .walks .ready) (b .walks .few) (b .walks .small) n (omega arith) (c .start) inside
+      S : Stands (n + 4) (cell last) part (mostDigits n)
+      S = ended .0 .rows (c .start) inside
 
-      part-is : part ≡ words last
-      part-is = ended .0 .rows (c .start) inside
+      -- The word of D, and D.
+      abbrev D : ℕ
+      D = value (outsideAt n (c .start) v)
 
-      value-is : (j : ℕ) → j < n + 4 → valueAt part j ≡ cell last j
-      value-is j h = ap (λ (q : List ℕ). valueAt q j) part-is ∙ words-value (n + 4) last wordy j h
+      abbrev outside : ℕ
+      outside = nearOutside n (c .start) last
 
-      outside-is : value (outsideAt n (c .start) v) ≡ nearOutside n (c .start) last
-      outside-is =
-          ap (λ (q : List ℕ). value (word (cutSum (valueAt (set q (c .start) 0)) (length (set q (c .start) 0))))) part-is
-          ∙ outside-value n (c .start) last last inside wordy wordy
+      outside-alike : D * 2 ^ S .down ≡ outside * 2 ^ S .up
+      unfolding nearOutside
+      outside-alike =
+          pivot-sum (n + 4) (c .start) (cell last) (omega (arith, inside)) part (mostDigits n) (omega (arith, b .walks .few)) S
           (stage-outside m k o (b .walks .ready) (b .walks .few) (b .walks .small) n (omega arith) (c .start) inside)
 
-      most : (j : ℕ) → n ≤ j → j < n + 4 → valueAt part j ≤ value (outsideAt n (c .start) v)
+      most : (j : ℕ) → n ≤ j → j < n + 4 → valueAt part j ≤ D
       most j l h =
-          rw (value-is j h, outside-is)
+          alike-below (S .down) (S .up) (valueAt part j) (cell last j) D outside (S .alike j h) outside-alike
           (near-each m k o (b .walks .ready) (b .walks .few) (b .walks .small) n (omega arith) (c .start) inside j h (λ q. omega (arith, inside)))
 
       trap-above : 0 < getD part (n + 1) 0 → 0 < valueAt part (n + 1)
       trap-above h =
           ⊎-elim
-          (λ (l : 0 < cell last (n + 1)). rw (value-is (n + 1) (omega arith)) l)
-          (λ (l : cell last (n + 1) ≤ 0).
-          let y : cell last (n + 1) ≡ 0 = omega arith in
-          let x : getD part (n + 1) 0 ≡ 0 =
-          ap (λ (q : List ℕ). getD q (n + 1) 0) part-is ∙ words-at (n + 4) last wordy (n + 1) (omega arith) ∙ ap word y ∙ word-none in
-          absurd (omega arith))
-          (below 0 (cell last (n + 1)))
+          (λ (l : 0 < valueAt part (n + 1)). l)
+          (λ (l : valueAt part (n + 1) ≤ 0).
+          let y : valueAt part (n + 1) ≡ 0 = omega arith in
+          absurd (omega (arith, S .proper (n + 1) (omega arith) ∙ ap word y ∙ word-none)))
+          (below 0 (valueAt part (n + 1)))
 
       pub readable : Readable n (c .start) rows v
       readable =
@@ -130,20 +131,23 @@ module _ (c : Given) (s : Found) (d e o w : List ℕ) (b : Begun c s d e o w) wh
             room = omega (arith, b .room, z .kept .len);
             inside = inside;
             few = omega (arith, z .few, square);
-            goal = rw (value-is n (omega arith)) (last-goal m k o (b .walks .ready) few alive);
+            goal = alike-some (S .down) (S .up) (valueAt part n) (cell last n) (S .alike n (omega arith)) (last-goal m k o (b .walks .ready) few alive);
             goal-most = most n (omega arith) (omega arith);
             trap = trap-above;
             trap-most = most (n + 1) (omega arith) (omega arith);
           }
 
-      pub follow-live : {chance miss : Between} → let D = value (outsideAt n (c .start) v) in
-          Answers (valueAt part n) D rows chance → Misses (valueAt part (n + 1)) D rows miss
+      pub follow-live : {chance miss : Between} → Answers (valueAt part n) D rows chance → Misses (valueAt part (n + 1)) D rows miss
           → NearFigure (lent c d e o [] w) (toldBetween chance) × MissFigure (lent c d e o [] w) (toldBetween miss)
       follow-live {chance} {miss} x y =
-          let x' = rw (value-is n (omega arith), outside-is, ended .1) at x in
-          let y' = rw (value-is (n + 1) (omega arith), outside-is, ended .1) at y in (
+          let some = last-some m k o (b .walks .ready) (b .walks .few) alive in
+          let goal = last-goal m k o (b .walks .ready) (b .walks .few) alive in
+          let f = near-alike (S .down) (S .up) (valueAt part n) D (cell last n) outside rows (S .alike n (omega arith)) outside-alike some goal in
+          let g = miss-alike (S .down) (S .up) (valueAt part (n + 1)) D (cell last (n + 1)) outside rows (S .alike (n + 1) (omega arith)) outside-alike some in
+          let x' = rw (ended .1) at (subst (λ (a : Near). Tells a chance) f x) in
+          let y' = rw (ended .1) at (subst (λ (a : Near). Tells a miss) g y) in (
             NearFigure.live k (b .walks .ready .right) alive (told-is (nearLive m k o) chance refl refl x'),
-            MissFigure.live k (b .walks .ready .right) alive (let q = miss-answered (cell last (n + 1)) (nearOutside n (c .start) last) (rowsMade m k o n) in told-is (missLive m k o) miss (q .0) (q .1) y'),
+            MissFigure.live k (b .walks .ready .right) alive (let q = miss-answered (cell last (n + 1)) outside (rowsMade m k o n) in told-is (missLive m k o) miss (q .0) (q .1) y'),
           )
 
 -- The work table once its rows are made zero.

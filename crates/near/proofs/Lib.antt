@@ -2,6 +2,9 @@ pub mod Rows
 pub mod Words
 pub mod Sums
 pub mod Quotient
+pub mod Scaled
+pub mod Settled
+pub mod Standing
 pub mod Linked
 pub mod Steps
 pub mod Walks

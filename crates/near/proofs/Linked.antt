@@ -1,194 +1,165 @@
--- The words of each row in the code's table are the words of the definition's row.
-use Prim.Native.Nat.{ℕ, zero, suc, _+_, _*_, _^_, _≤_, _<_, min}
-use mathlib.Core.Path.{_≡_, refl, sym, ap, ap₂, _∙_}
+-- A row that is made anew stands for the definition's.
+use Prim.Native.Nat.{ℕ, suc, _+_, _*_, _^_, _≤_, _<_}
+use mathlib.Core.Path.{_≡_, sym, ap, ap₂, _∙_}
 use mathlib.Core.Logic.{⊎-elim}
 use mathlib.Core.List.{List}
 use native.Mathlib.Omega.{arith}
-use native.Mathlib.Nat.{zero-div}
+use native.Mathlib.Nat.{le-trans, mul-comm, mul-zero, zero-mul}
 use lib.Dec.{eqb}
 use lib.ListN.{length, getD, set, length-set}
+use lib.Pow.{pow-add, pow-mono, add-lt-pow}
 use lib.Seq.{getD-set-same, getD-set-other}
 use borrow.Author.Tests.{eq-eqb, ne-eqb}
 use Rattle.meaning.specs.Number.{choose}
 use Rattle.meaning.specs.Row.{Row, cell}
 use Rattle.meaning.specs.Chain.{M, Chain, denominator}
 use Rattle.meaning.specs.Step.{row, Sets, combined}
-use Rattle.meaning.specs.Near.{digits, spare, top, longest, cutSum, nearOutside, leastSpare, blended, lowered, nearStage}
-use Rattle.theory.specs.Numbers.Sum.{same, below}
-use Rattle.theory.specs.Numbers.Tab.{tab-at, tab-length, tab-of}
-use Rattle.theory.specs.Numbers.Binary.{digits-none, products-digits}
-use Rattle.theory.specs.Numbers.Tops.{top-none, top-digits, top-twice}
-use Rattle.theory.specs.Numbers.Cuts.{cut-ext, least-below, least-same}
+use Rattle.meaning.specs.Near.{digits, top, longest, nearOutside, leastSpare, blended, lowered, nearStage}
+use Rattle.theory.specs.Numbers.Sum.{same}
+use Rattle.theory.specs.Numbers.Binary.{has-digits, digits-none, digits-most, product-digits, zeros-add}
+use Rattle.theory.specs.Numbers.Tops.{top-digits}
 use Rattle.theory.specs.Rows.Relation.{combined-cell, combined-own}
-use Rattle.theory.specs.Rows.Terms.{over-cell}
 use Rattle.theory.specs.Stages.Blended as new
 use Rattle.theory.specs.Stages.Last.{Prepared}
 use Rattle.theory.specs.Stages.Nearly.{nearly-stage}
-use Rattle.theory.specs.Stages.NearDigits.{near-tops, near-digits, near-outside-digits}
+use Rattle.theory.specs.Stages.NearDigits.{near-digits, near-outside-digits}
 use Rattle.near.specs.Word.{word, value}
-use Rattle.near.specs.Table.{words}
-use Rattle.near.specs.Row.{valueAt, exponent, leastExponent, lessBy, blendedWords, replacedWords}
-use Rattle.near.proofs.Words.{value-none, word-none, value-word, word-top, exponent-word, less-word, mix-none}
-use Rattle.near.proofs.Rows.{lowered-at, lowered-length, blended-at, blended-length}
+use Rattle.near.specs.Row.{valueAt, settledWords, replacedWords}
+use Rattle.near.specs.Step.{sumOf}
+use Rattle.near.specs.Table.{Stands}
+use Rattle.near.proofs.Words.{value-none, value-word, word-top}
+use Rattle.near.proofs.Rows.{blended-at, replaced-length}
+use Rattle.near.proofs.Scaled.{alike-top}
+use Rattle.near.proofs.Standing.{value-zero, settled-stands, settled-sum, settled-sum-few}
 
--- The least exponent of words is the least spare.
-exponents-least : (g f : ℕ → ℕ) (n : ℕ) → ((j : ℕ) → j < n → g j ≡ word (f j)) → ((j : ℕ) → j < n → spare (f j) < 2 ^ 33)
-    → leastExponent g n ≡ leastSpare (2 ^ 33) f n
-unfolding leastExponent leastSpare
-exponents-least g f zero e h = refl
-exponents-least g f (suc n) e h =
-    ap₂ min
-    (exponents-least g f n (λ j l. e j (omega arith)) (λ j l. h j (omega arith)))
-    (ap exponent (e n (omega arith)) ∙ exponent-word (f n) (h n (omega arith)))
-
--- A row whose weights have their first 31 digits alone, and at most 2111 digits.
+-- A row of so many weights, of at most 2111 digits each.
 pub record Wordy (m : ℕ) (r : Row) : Type 0 where
   pub wide : length r ≡ m
-  pub tops : (j : ℕ) → j < m → top (cell r j) ≡ cell r j
   pub fit : (j : ℕ) → j < m → digits (cell r j) ≤ 2111
 
-value-of : (x : ℕ) → top x ≡ x → digits x ≤ 2111 → value (word x) ≡ x
-value-of x e h = value-word x (omega arith) ∙ e
+-- The sum of two products of numbers that are others but for powers of two.
+mixed : (x d w p X D W P A B C E : ℕ) → x * A ≡ X * B → w * A ≡ W * B → d * C ≡ D * E → p * C ≡ P * E → (x * d + w * p) * (A * C) ≡ (X * D + W * P) * (B * E)
+mixed x d w p X D W P A B C E e f g h =
+    let a : x * A * (d * C) ≡ X * B * (D * E) = ap₂ (λ y z. y * z) e g in
+    let b : w * A * (p * C) ≡ W * B * (P * E) = ap₂ (λ y z. y * z) f h in
+    omega (arith, a, b)
 
-module _ (m : ℕ) (r : Row) (W : Wordy m r) (j : ℕ) (h : j < m) where
-  pub words-at : getD (words r) j 0 ≡ word (cell r j)
-  words-at = tab-at (length r) (λ j. word (cell r j)) 0 j (omega (arith, W .wide))
+mixed-digits : (m k a b c d : ℕ) → digits a ≤ m → digits b ≤ k → digits c ≤ m → digits d ≤ k → digits (a * b + c * d) ≤ suc (m + k)
+mixed-digits m k a b c d ha hb hc hd =
+    let p : 2 ^ digits (a * b) ≤ 2 ^ (m + k) = pow-mono (omega (arith, product-digits a b)) in
+    let q : 2 ^ digits (c * d) ≤ 2 ^ (m + k) = pow-mono (omega (arith, product-digits c d)) in
+    digits-most (a * b + c * d) (suc (m + k))
+    (add-lt-pow {a = a * b} {b = c * d} (m + k) (le-trans (has-digits (a * b) .0) p) (le-trans (has-digits (c * d) .0) q))
 
-  pub words-value : value (getD (words r) j 0) ≡ cell r j
-  words-value = ap value words-at ∙ value-of (cell r j) (W .tops j h) (W .fit j h)
+module _ (n s : ℕ) (p r : Row) (inside : s < n) (P : Wordy (n + 4) p) (R : Wordy (n + 4) r) (low : digits (nearOutside n s p) ≤ 2111)
+    (us ws : List ℕ) (most : ℕ) (small : most ≤ 2 ^ 19)
+    (U : Stands (n + 4) (cell p) us most) (W : Stands (n + 4) (cell r) ws most)
+  where
+    abbrev D : ℕ
+    D = nearOutside n s p
 
-module _ (n s : ℕ) (p r : Row) (inside : s < n) (P : Wordy (n + 4) p) (R : Wordy (n + 4) r) (low : digits (nearOutside n s p) ≤ 2111) where
-  abbrev D : ℕ
-  D = nearOutside n s p
+    -- The row of s as the code uses it, and its D.
+    abbrev q : List ℕ
+    q = settledWords (set us s 0)
 
-  abbrev ps : List ℕ
-  ps = set (words p) s 0
+    abbrev d : ℕ
+    d = sumOf q
 
-  abbrev ws : List ℕ
-  ws = words r
+    abbrev Q : Stands (n + 4) (λ j. choose (eqb j s) 0 (cell p j)) q 2142
+    Q = settled-stands (n + 4) s (cell p) (omega arith) us most (omega arith) U (P .fit)
 
-  abbrev z : Row
-  z = blended n s p r
+    D-alike : value d * 2 ^ Q .down ≡ D * 2 ^ Q .up
+    unfolding nearOutside
+    D-alike = settled-sum (n + 4) s (cell p) (omega arith) us most (omega arith) U (P .fit) low
 
-  abbrev fresh : List ℕ
-  fresh = blendedWords (word D) (getD ws s 0) ps (set ws s 0)
+    D-few : digits (value d) ≤ 2142
+    unfolding nearOutside
+    D-few = settled-sum-few (n + 4) s (cell p) (omega arith) us most (omega arith) U (P .fit) low
 
-  D-value : value (word D) ≡ D
-  unfolding nearOutside
-  D-value = value-of D (top-twice (cutSum (λ j. choose (eqb j s) 0 (cell p j)) (n + 4))) low
+    abbrev fresh : List ℕ
+    fresh = replacedWords s d q ws
 
-  fresh-length : length fresh ≡ n + 4
-  fresh-length = blended-length (word D) (getD ws s 0) ps (set ws s 0) ∙ length-set ws s 0 ∙ tab-length 0 (length r) _ ∙ R .wide
+    abbrev mix : Row
+    mix = combined s D p r
 
-  z-is : (j : ℕ) → j < n + 4 → cell z j ≡ top (cell (combined s D p r) j)
-  z-is j h = new.blended-cell n s p r j (omega (arith, R .wide))
+    abbrev down : ℕ
+    down = W .down + Q .down
 
-  words-length : (q : Row) → length (words q) ≡ length q
-  words-length q = tab-length 0 (length q) _
+    abbrev up : ℕ
+    up = W .up + Q .up
 
-  fresh-own : getD fresh s 0 ≡ word (cell z s)
-  fresh-own =
-      let l : s < n + 4 = omega arith in
-      let e : cell z s ≡ 0 = z-is s l ∙ rw (combined-own s D p r (omega (arith, R .wide))) top-none in
-      blended-at (word D) (getD ws s 0) ps (set ws s 0) s (omega (arith, length-set ws s 0, words-length r, R .wide))
-      ∙ mix-none (getD (set ws s 0) s 0) (word D) (getD ws s 0) (getD ps s 0)
-      (getD-set-same ws s 0 0 (omega (arith, words-length r, R .wide)))
-      (getD-set-same (words p) s 0 0 (omega (arith, words-length p, P .wide)))
-      ∙ sym (ap word e ∙ word-none)
+    -- The sum of the two products in column j.
+    abbrev X : ℕ → ℕ
+    X j = valueAt (set ws s 0) j * value d + value (getD ws s 0) * valueAt q j
 
-  fresh-other : (j : ℕ) → j < n + 4 → (j ≡ s → ⊥) → getD fresh j 0 ≡ word (cell z j)
-  fresh-other j h e =
-      let a : valueAt (set ws s 0) j ≡ cell r j = ap value (getD-set-other ws s j 0 0 e) ∙ words-value (n + 4) r R j h in
-      let b : value (getD ws s 0) ≡ cell r s = words-value (n + 4) r R s (omega arith) in
-      let c : valueAt ps j ≡ cell p j = ap value (getD-set-other (words p) s j 0 0 e) ∙ words-value (n + 4) p P j h in
-      let q : valueAt (set ws s 0) j * value (word D) + value (getD ws s 0) * valueAt ps j ≡ cell (combined s D p r) j =
-      rw (a, D-value, b, c) (sym (combined-cell s D p r j (omega (arith, R .wide)) e)) in
-      blended-at (word D) (getD ws s 0) ps (set ws s 0) j (omega (arith, length-set ws s 0, words-length r, R .wide))
-      ∙ ap word q
-      ∙ sym (word-top (cell (combined s D p r) j))
-      ∙ ap word (sym (z-is j h))
+    module _ (j : ℕ) (h : j < n + 4) where
+      own : j ≡ s → X j * 2 ^ down ≡ cell mix j * 2 ^ up
+      own e =
+          let a : valueAt (set ws s 0) j ≡ 0 = ap (valueAt (set ws s 0)) e ∙ ap value (getD-set-same ws s 0 0 (omega (arith, W .wide))) ∙ value-none in
+          let b : valueAt q j ≡ 0 = value-zero Q j h (rw (eq-eqb j s e)) in
+          let c : X j ≡ 0 = rw (a, b, zero-mul (value d), mul-zero (value (getD ws s 0))) in
+          let f : cell mix j ≡ 0 = rw e (combined-own s D p r (omega (arith, R .wide))) in
+          rw (c, f, zero-mul (2 ^ down), zero-mul (2 ^ up))
 
-  fresh-at : (j : ℕ) → j < n + 4 → getD fresh j 0 ≡ word (cell z j)
-  fresh-at j h =
-      ⊎-elim (λ (e : j ≡ s). rw e fresh-own) (λ (e : j ≡ s → ⊥). fresh-other j h e) (same j s)
+      other : (j ≡ s → ⊥) → X j * 2 ^ down ≡ cell mix j * 2 ^ up
+      other e =
+          let a : valueAt (set ws s 0) j * 2 ^ W .down ≡ cell r j * 2 ^ W .up =
+          ap (λ z. value z * 2 ^ W .down) (getD-set-other ws s j 0 0 e) ∙ W .alike j h in
+          let b : valueAt q j * 2 ^ Q .down ≡ cell p j * 2 ^ Q .up = Q .alike j h ∙ rw (ne-eqb j s e) in
+          rw (pow-add 2 (W .down) (Q .down), pow-add 2 (W .up) (Q .up), combined-cell s D p r j (omega (arith, R .wide)) e)
+          (mixed (valueAt (set ws s 0) j) (value d) (value (getD ws s 0)) (valueAt q j) (cell r j) D (cell r s) (cell p j)
+          (2 ^ W .down)
+          (2 ^ W .up)
+          (2 ^ Q .down)
+          (2 ^ Q .up)
+          a
+          (W .alike s (omega arith))
+          D-alike
+          b)
 
-  z-fits : (j : ℕ) → j < n + 4 → spare (cell z j) < 2 ^ 33
-  z-fits j h =
-      ⊎-elim
-      (λ (e : j ≡ s).
-      let y : cell z j ≡ 0 = z-is j h ∙ rw (e, combined-own s D p r (omega (arith, R .wide))) top-none in
-      rw y (omega (arith, digits-none)))
-      (λ (e : j ≡ s → ⊥).
-      let y : digits (cell z j) ≡ digits (cell (combined s D p r) j) = ap digits (z-is j h) ∙ top-digits (cell (combined s D p r) j) in
-      let x = combined-cell s D p r j (omega (arith, R .wide)) e in
-      omega (
-        arith,
-        y,
-        ap digits x,
-        products-digits 2111 (cell r j) D (cell r s) (cell p j) (R .fit j h) low (R .fit s (omega arith)) (P .fit j h),
-      ))
-      (same j s)
+      X-alike : X j * 2 ^ down ≡ cell mix j * 2 ^ up
+      X-alike = ⊎-elim own other (same j s)
 
-  z-length : length z ≡ n + 4
-  z-length = new.blended-length n s p r ∙ R .wide
+      left-few : digits (valueAt (set ws s 0) j) ≤ most
+      left-few =
+          ⊎-elim
+          (λ (e : j ≡ s). rw (ap (valueAt (set ws s 0)) e ∙ ap value (getD-set-same ws s 0 0 (omega (arith, W .wide))) ∙ value-none) (omega (arith, digits-none)))
+          (λ (e : j ≡ s → ⊥). rw (getD-set-other ws s j 0 0 e) (W .few j h))
+          (same j s)
 
-  abbrev k : ℕ
-  k = leastSpare (longest (cell z) (length z)) (cell z) (length z)
+      X-few : digits (X j) ≤ most + 2143
+      X-few =
+          omega (
+            arith,
+            mixed-digits most 2142 (valueAt (set ws s 0) j) (value d) (value (getD ws s 0)) (valueAt q j) left-few D-few (W .few s (omega arith)) (Q .few j h),
+          )
 
-  abbrev K : ℕ
-  K = leastExponent (λ j. getD fresh j 0) (length fresh)
+      fresh-at : getD fresh j 0 ≡ word (X j)
+      fresh-at = blended-at d (getD ws s 0) q (set ws s 0) j (omega (arith, length-set ws s 0, W .wide))
 
-  K-is : (j : ℕ) → j < n + 4 → 0 < cell z j → K ≡ k
-  K-is j h o =
-      let e : length fresh ≡ length z = omega (arith, fresh-length, z-length) in
-      ap (λ m. leastExponent (λ j. getD fresh j 0) m) e
-      ∙ exponents-least (λ j. getD fresh j 0) (cell z) (length z) (λ j l. fresh-at j (omega (arith, z-length))) (λ j l. z-fits j (omega (arith, z-length)))
-      ∙ least-same (2 ^ 33) (cell z) (length z) j (λ j l. z-fits j (omega (arith, z-length))) (omega (arith, z-length)) o
+      fresh-value : valueAt fresh j ≡ top (X j)
+      fresh-value = ap value fresh-at ∙ value-word (X j) (omega (arith, X-few))
 
-  replaced-at : (j : ℕ) → j < n + 4 → getD (replacedWords s (word D) ps ws) j 0 ≡ word (cell (lowered z) j)
-  unfolding lowered
-  replaced-at j h =
-      lowered-at K fresh j (omega (arith, fresh-length))
-      ∙ ap (lessBy K) (fresh-at j h)
-      ∙ ⊎-elim
-      (λ (o : 0 < cell z j).
-      ap (λ m. lessBy m (word (cell z j))) (K-is j h o)
-      ∙ less-word (cell z j) (z-fits j h) k o (least-below (longest (cell z) (length z)) (cell z) (length z) j (omega (arith, z-length)) o)
-      ∙ ap word (sym (over-cell (2 ^ k) z j)))
-      (λ (o : cell z j ≤ 0).
-      let y : cell z j ≡ 0 = omega arith in
-      let x : word (cell z j) ≡ 0 = ap word y ∙ word-none in
-      ap (lessBy K) x ∙ sym (ap word (over-cell (2 ^ k) z j ∙ rw y (zero-div (2 ^ k))) ∙ word-none))
-      (below 0 (cell z j))
+    abbrev z : Row
+    z = blended n s p r
 
-  -- The code's new row is the words of the definition's.
-  pub replaced-words : replacedWords s (word D) ps ws ≡ words (lowered z)
-  replaced-words =
-      let e : length (lowered z) ≡ n + 4 = new.lowered-length n s p r ∙ R .wide in
-      tab-of 0 (length (lowered z)) (λ j. word (cell (lowered z) j)) (replacedWords s (word D) ps ws)
-      (lowered-length K fresh ∙ fresh-length ∙ sym e)
-      (λ j h. replaced-at j (omega arith))
+    abbrev k : ℕ
+    k = leastSpare (longest (cell z) (length z)) (cell z) (length z)
 
-  -- The code's D is the word of the definition's: that of the row of s without its own weight.
-  own-weight : (j : ℕ) → j < n + 4 → valueAt ps j ≡ choose (eqb j s) 0 (cell p j)
-  own-weight j h =
-      ⊎-elim
-      (λ (e : j ≡ s).
-      rw (eq-eqb j s e, e) (ap value (getD-set-same (words p) s 0 0 (omega (arith, words-length p, P .wide))) ∙ value-none))
-      (λ (e : j ≡ s → ⊥).
-      rw (ne-eqb j s e) (ap value (getD-set-other (words p) s j 0 0 e) ∙ words-value (n + 4) p P j h))
-      (same j s)
-
-  pub total-words : word (cutSum (valueAt ps) (length ps)) ≡ word D
-  unfolding nearOutside
-  total-words =
-      let f : ℕ → ℕ = λ j. choose (eqb j s) 0 (cell p j) in
-      let e : length ps ≡ n + 4 = length-set (words p) s 0 ∙ words-length p ∙ P .wide in
-      ap (λ m. word (cutSum (valueAt ps) m)) e ∙ ap word (cut-ext (valueAt ps) f (n + 4) own-weight) ∙ sym (word-top (cutSum f (n + 4)))
-
-  -- And it stands for it.
-  pub outside-value : value (word (cutSum (valueAt ps) (length ps))) ≡ D
-  outside-value = ap value total-words ∙ D-value
+    pub new-stands : Stands (n + 4) (cell (lowered z)) fresh (most + 2150)
+    new-stands =
+        record {
+          wide = replaced-length s d q ws ∙ W .wide;
+          down = down;
+          up = k + up;
+          alike = λ j h.
+              ap (λ y. y * 2 ^ down) (fresh-value j h)
+              ∙ alike-top down up (X j) (cell mix j) (X-alike j h)
+              ∙ ap (λ y. y * 2 ^ up) (sym (new.lowered-cell n s p r j (omega (arith, R .wide))) ∙ mul-comm (2 ^ k) (cell (lowered z) j))
+              ∙ zeros-add (cell (lowered z) j) k up;
+          proper = λ j h. fresh-at j h ∙ sym (word-top (X j)) ∙ ap word (sym (fresh-value j h));
+          few = λ j h. omega (arith, ap digits (fresh-value j h), top-digits (X j), X-few j h);
+        }
 
 -- Every row of every stage is so, and its D.
 module _ (c : Chain) (k : Sets) (o : List ℕ) (ready : Prepared c k o) (few : c .states ≤ 64) (small : (i : ℕ) → i < c .states → denominator c i ≤ M)
@@ -198,7 +169,6 @@ module _ (c : Chain) (k : Sets) (o : List ℕ) (ready : Prepared c k o) (few : c
     stage-wordy =
         record {
           wide = nearly-stage c k o ready few p part .wide i h;
-          tops = near-tops c k o ready few small p part i h;
           fit = λ j l. omega (arith, near-digits c k o ready few small p part i h j l);
         }
 

@@ -30,7 +30,7 @@ full-digits m h l =
     let e : digits (fullOf m) ≡ 31 = digits-shift m (31 - digits m) h ∙ omega (arith, digits-most m 31 l) in
     (digits-power (fullOf m) 30 (omega (arith, e)), rw e at (has-digits (fullOf m) .0))
 
-same-quotient : (x y n d a b : ℕ) → x * a ≡ n * b → y * a ≡ d * b → 0 < a → 0 < b → x / y ≡ n / d
+pub same-quotient : (x y n d a b : ℕ) → x * a ≡ n * b → y * a ≡ d * b → 0 < a → 0 < b → x / y ≡ n / d
 same-quotient x y n d a b e f h k =
     sym (mul-div-mul-right x y h) ∙ ap₂ (λ s t. s / t) e f ∙ mul-div-mul-right n d k
 

@@ -62,4 +62,4 @@ unfolding blendedWords
 blended-length d w p r = tab-length 0 (length r) _
 
 pub replaced-length : (s d : ℕ) (p r : List ℕ) → length (replacedWords s d p r) ≡ length r
-replaced-length s d p r = lowered-length _ _ ∙ blended-length d (getD r s 0) p (set r s 0) ∙ length-set r s 0
+replaced-length s d p r = blended-length d (getD r s 0) p (set r s 0) ∙ length-set r s 0

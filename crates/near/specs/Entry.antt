@@ -32,4 +32,4 @@ pub record Begun (c : Chain) (s : Given) (denominators edges order w : List ℕ)
   pub walks : Walkable (chainOf c denominators edges) (setsOf s) order
   pub length-order : length order ≡ c .states
   pub room : workSize (c .states) ≤ length w
-  pub worded : Worded (c .states) (nearStage (chainOf c denominators edges) (setsOf s) order 0) w
+  pub worded : Worded (c .states) 0 (nearStage (chainOf c denominators edges) (setsOf s) order 0) w

@@ -27,14 +27,14 @@ lessBy k w = choose (eqb w 0) 0 (w - k * 2 ^ 31)
 unfoldable pub loweredWords : ℕ → List ℕ → List ℕ
 loweredWords k ws = tabFrom 0 (length ws) (λ j. lessBy k (getD ws j 0))
 
--- What is kept of a new row: one of its words leaves out nothing.
+-- A row divided such that one of its words leaves out nothing.
 abbrev pub settledWords : List ℕ → List ℕ
 settledWords ws = loweredWords (leastExponent (λ j. getD ws j 0) (length ws)) ws
 
--- The new weights of a row, before it is settled: d is the D of the state that is removed, w the weight to it, and p its row.
+-- The new weights of a row: d is the D of the state that is removed, w the weight to it, and p its row.
 unfoldable pub blendedWords : ℕ → ℕ → List ℕ → List ℕ → List ℕ
 blendedWords d w p r = tabFrom 0 (length r) (λ j. word (valueAt r j * value d + value w * valueAt p j))
 
 -- A row once state s is removed, whose row p has no weight to itself any more.
 abbrev pub replacedWords : ℕ → ℕ → List ℕ → List ℕ → List ℕ
-replacedWords s d p r = settledWords (blendedWords d (getD r s 0) p (set r s 0))
+replacedWords s d p r = blendedWords d (getD r s 0) p (set r s 0)

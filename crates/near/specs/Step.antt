@@ -9,7 +9,7 @@ use Rattle.meaning.specs.Number.{sumTo, only, choose}
 use Rattle.meaning.specs.Near.{cutSum}
 use Rattle.engines.specs.Table.{partAt, Kept}
 use Rattle.near.specs.Word.{word}
-use Rattle.near.specs.Row.{valueAt, replacedWords}
+use Rattle.near.specs.Row.{valueAt, settledWords, replacedWords}
 
 -- A row is made anew where it is not that of s, and has a weight to s.
 abbrev pub renews : ℕ → Bool → List ℕ → Bool
@@ -35,9 +35,16 @@ pub record RenewedRows (n s d : ℕ) (p : List ℕ) (i : ℕ) (w v : List ℕ) (
 abbrev pub pivotAt : ℕ → ℕ → List ℕ → List ℕ
 pivotAt n s w = set (partAt n w s) s 0
 
-abbrev pub outsideAt : ℕ → ℕ → List ℕ → ℕ
-outsideAt n s w = word (cutSum (valueAt (pivotAt n s w)) (length (pivotAt n s w)))
+abbrev pub sumOf : List ℕ → ℕ
+sumOf p = word (cutSum (valueAt p) (length p))
 
--- In v the state s is removed from the table in w.
+abbrev pub outsideAt : ℕ → ℕ → List ℕ → ℕ
+outsideAt n s w = sumOf (pivotAt n s w)
+
+-- In v the state s, whose row is p, is removed from the table in w.
+abbrev pub RemovedBy : ℕ → ℕ → List ℕ → List ℕ → List ℕ → ℕ → Type 0
+RemovedBy n s p w v rows = RenewedRows n s (sumOf p) p n w v rows
+
+-- In v the state s is removed from the table in w. Its row is settled first, so that no exponent doubles.
 abbrev pub RemovedWords : ℕ → ℕ → List ℕ → List ℕ → ℕ → Type 0
-RemovedWords n s w v rows = RenewedRows n s (outsideAt n s w) (pivotAt n s w) n w v rows
+RemovedWords n s w v rows = RemovedBy n s (settledWords (pivotAt n s w)) w v rows

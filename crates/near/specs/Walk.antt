@@ -29,8 +29,7 @@ pub record Walkable (c : Chain) (k : Sets) (o : List ℕ) : Type 0 where
 abbrev pub sets : ℕ → ℕ → Sets
 sets good live = record { good = good; live = live }
 
--- After p positions: where the table held the words of a chain's first rows, it holds those of its table after p positions, and so many rows were
--- made anew.
+-- After p positions: where the table stood for a chain's first rows, it stands for its rows after p positions, and so many rows were made anew.
 pub record Walked (c : Given) (live : ℕ) (o : List ℕ) (p : ℕ) (w v : List ℕ) (rows : ℕ) : Type 0 where
   pub soFar : p ≤ c .states
   pub kept : Kept (c .states) w v
@@ -38,4 +37,4 @@ pub record Walked (c : Given) (live : ℕ) (o : List ℕ) (p : ℕ) (w v : List 
   pub worded : (denominators edges : List ℕ) (good : ℕ)
       → let m = chainOf c denominators edges in
       let k = sets good live in
-      Walkable m k o → Worded (c .states) (nearStage m k o 0) w → Worded (c .states) (nearStage m k o p) v × (rows ≡ rowsMade m k o p)
+      Walkable m k o → Worded (c .states) 0 (nearStage m k o 0) w → Worded (c .states) p (nearStage m k o p) v × (rows ≡ rowsMade m k o p)

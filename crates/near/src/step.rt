@@ -10,7 +10,9 @@ ghost use Rattle.meaning.specs.Row.{width};
 ghost use Rattle.meaning.specs.Refusal.{workSize};
 ghost use Rattle.engines.specs.Table.{partAt};
 ghost use Rattle.engines.specs.Gather.{Changed};
-ghost use Rattle.near.specs.Step.{renews, renewedWords, rowsAnew, RenewedRows, RemovedWords};
+ghost use Rattle.near.specs.Row.{settledWords};
+ghost use Rattle.near.specs.Step.{renews, renewedWords, rowsAnew, RenewedRows, RemovedBy, RemovedWords};
+use crate::row::settle;
 use crate::row::total;
 use crate::wide::replace;
 use chain::Chain;
@@ -94,13 +96,22 @@ pub(crate) fn pivot_of(work: &[u64], n: usize, s: usize) -> [u64; Chain::WIDTH]
     pivot(&work[a..e], s)
 }
 
+// Removes the state s by a copy of its row. Only the copy is settled: to settle each new row would cost two more passes over it.
+fn remove_by(work: &mut [u64], n: usize, s: usize, pivot: &mut [u64]) -> u64
+    requires { ⌜ (n ≤ mostStates) × (workSize n ≤ length (now work)) × (s < n) × (length (now pivot) ≡ width n) ⌝ }
+    ensures { λ r. ⌜ RemovedBy n s (settledWords (now (pivot .entry))) (now (work .entry)) (now (work .exit)) r ⌝ }
+{
+    settle(pivot);
+    let d = total(pivot);
+    renew_all(work, n, s, d, pivot)
+}
+
 // Removes the state s from the table, and answers how many rows were made anew.
 pub(crate) fn remove(work: &mut [u64], n: usize, s: usize) -> u64
     requires { ⌜ (n ≤ mostStates) × (workSize n ≤ length (now work)) × (s < n) ⌝ }
     ensures { λ r. ⌜ RemovedWords n s (now (work .entry)) (now (work .exit)) r ⌝ }
 {
-    let p = pivot_of(work, n, s);
+    let mut p = pivot_of(work, n, s);
     let m = n + Chain::BESIDE;
-    let d = total(&p[..m]);
-    renew_all(work, n, s, d, &p[..m])
+    remove_by(work, n, s, &mut p[..m])
 }

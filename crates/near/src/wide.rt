@@ -4,7 +4,6 @@ ghost use Prim.Native.Nat.{_+_, _*_, _<_, _≤_};
 ghost use lib.ListN.{length};
 ghost use Rattle.near.specs.Word.{word, value};
 ghost use Rattle.near.specs.Row.{blendedWords, replacedWords};
-use crate::row::settle;
 use crate::word::mix;
 
 // The word of the sum of two products, with no work where nothing is there.
@@ -39,5 +38,4 @@ pub(crate) fn replace(row: &mut [u64], pivot: &[u64], s: usize, d: u64)
     let w = row[s];
     row[s] = 0;
     blend(row, pivot, d, w);
-    settle(row);
 }
