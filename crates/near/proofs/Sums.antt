@@ -47,13 +47,12 @@ aligned p x q y h l =
     rw (← e) (word-cut (p * 2 ^ x + Q) x (cut-long (p * 2 ^ x + Q) x (rw e l)) .0)
 
 -- The first 31 digits of a longer number, by way of its 64.
-pub first-long : (s n : ℕ) → n ≡ digits s → 31 ≤ n → n ≤ 64 → s * 2 ^ (64 - n) % 2 ^ 64 / 2 ^ 33 ≡ s / 2 ^ spare s
-first-long s n e h l =
-    let a : n + (64 - n) ≡ 64 = omega arith in
-    let b : 64 - n + (n - 31) ≡ 33 = omega arith in
-    let c : s * 2 ^ (64 - n) < 2 ^ 64 = rw a at (shl-lt n (64 - n) (rw (← e) at (has-digits s .0))) in
-    let d : n - 31 ≡ spare s = omega (arith, e) in
-    ap (λ z. z / 2 ^ 33) (mod-eq-of-lt c) ∙ ap (λ z. s * 2 ^ (64 - n) / 2 ^ z) (sym b) ∙ zeros-cut s (64 - n) (n - 31) ∙ ap (λ z. s / 2 ^ z) d
+pub first-long : (s z : ℕ) → z ≡ 64 - digits s → 31 ≤ digits s → digits s ≤ 64 → s * 2 ^ z % 2 ^ 64 / 2 ^ 33 ≡ s / 2 ^ spare s
+first-long s z e h l =
+    let a : digits s + z ≡ 64 = omega arith in
+    let b : z + spare s ≡ 33 = omega arith in
+    let c : s * 2 ^ z < 2 ^ 64 = rw a at (shl-lt (digits s) z (has-digits s .0)) in
+    ap (λ y. y / 2 ^ 33) (mod-eq-of-lt c) ∙ ap (λ y. s * 2 ^ z / 2 ^ y) (sym b) ∙ zeros-cut s z (spare s)
 
 -- How many digits two numbers are cut by such that the larger keeps 62.
 abbrev pub cutAt : ℕ → ℕ → ℕ
@@ -91,21 +90,23 @@ summed p x q y h l k e =
     Q : ℕ
     Q = q * 2 ^ y
 
--- Products of words.
-pub product-small : (a b : ℕ) → a % 2 ^ 31 * (b % 2 ^ 31) < 2 ^ 62
-product-small a b =
-    let m : a % 2 ^ 31 ≤ 2147483647 = omega arith in
-    let n : b % 2 ^ 31 ≤ 2147483647 = omega arith in
-    omega (arith, mul-le-mul m n)
+-- Products of the first digits.
+pub product-small : (a m : ℕ) → m < 2 ^ 31 → a % 2 ^ 31 * m < 2 ^ 62
+product-small a m h =
+    let k : a % 2 ^ 31 ≤ 2147483647 = omega arith in
+    let n : m ≤ 2147483647 = omega arith in
+    omega (arith, mul-le-mul k n)
 
-pub product-value : (a b : ℕ) → value a * value b ≡ a % 2 ^ 31 * (b % 2 ^ 31) * 2 ^ (a / 2 ^ 31 + b / 2 ^ 31)
+-- A number is kept as m and an exponent e that is given 33 too high.
+pub product-value : (a m e : ℕ) → 33 ≤ e → value a * (m * 2 ^ (e - 33)) ≡ a % 2 ^ 31 * m * 2 ^ (a / 2 ^ 31 + e - 33)
 unfolding value
-product-value a b =
-    let m = a % 2 ^ 31 in
-    let n = b % 2 ^ 31 in
-    let u = 2 ^ (a / 2 ^ 31) in
-    let v = 2 ^ (b / 2 ^ 31) in
-    rw (pow-add 2 (a / 2 ^ 31) (b / 2 ^ 31)) (mul-mul-mul-comm m u n v)
+product-value a m e h =
+    let k : a / 2 ^ 31 + e - 33 ≡ a / 2 ^ 31 + (e - 33) = omega arith in
+    rw (k, pow-add 2 (a / 2 ^ 31) (e - 33)) (mul-mul-mul-comm (a % 2 ^ 31) (2 ^ (a / 2 ^ 31)) m (2 ^ (e - 33)))
+
+pub split-value : (w : ℕ) → w % 2 ^ 31 * 2 ^ (w / 2 ^ 31 + 33 - 33) ≡ value w
+unfolding value
+split-value w = let e : w / 2 ^ 31 + 33 - 33 ≡ w / 2 ^ 31 = omega arith in ap (λ z. w % 2 ^ 31 * 2 ^ z) e
 
 -- One number without its last k digits, as the code makes it.
 pub part-up : (p x k : ℕ) → k ≤ x → digits (p * 2 ^ x) ≤ k + 62 → (p * 2 ^ (x - k) % 2 ^ 64 ≡ p * 2 ^ x / 2 ^ k) × (p * 2 ^ (x - k) % 2 ^ 64 < 2 ^ 62)

@@ -87,5 +87,5 @@ word-cut v k h =
     (word-zeros (v / 2 ^ k) k (inr (omega (arith, e))) ∙ rw (f, ← shr-shr v k (spare (v / 2 ^ k))), omega (arith, e))
 
 -- The sum of two products of which each has a word 0.
-pub mix-none : (x d w p : ℕ) → x ≡ 0 → p ≡ 0 → word (value x * value d + value w * value p) ≡ 0
-mix-none x d w p e f = rw (e, f, value-none, zero-mul (value d), mul-zero (value w)) word-none
+pub mix-none : (x D W p : ℕ) → x ≡ 0 → p ≡ 0 → word (value x * D + W * value p) ≡ 0
+mix-none x D W p e f = rw (e, f, value-none, zero-mul D, mul-zero W) word-none

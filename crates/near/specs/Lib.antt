@@ -1,5 +1,7 @@
 pub mod Word
+pub mod Split
 pub mod Row
+pub mod Gap
 pub mod Answer
 pub mod Step
 pub mod Table

@@ -11,16 +11,19 @@ ghost use Rattle.meaning.specs.Refusal.{workSize};
 ghost use Rattle.engines.specs.Table.{partAt};
 ghost use Rattle.engines.specs.Gather.{Changed};
 ghost use Rattle.near.specs.Row.{settledWords};
+ghost use Rattle.near.specs.Gap.{Within, Empty, Gone};
 ghost use Rattle.near.specs.Step.{renews, renewedWords, rowsAnew, RenewedRows, RemovedBy, RemovedWords};
 use crate::row::settle;
 use crate::row::total;
+use crate::wide::Gap;
 use crate::wide::replace;
 use chain::Chain;
 use engines::work::clear;
 
 // A row once s is removed: the row of s itself where `own` holds. Answers how many rows are made anew, 1 or 0.
-fn renew(part: &mut [u64], own: bool, s: usize, d: u64, pivot: &[u64]) -> u64
-    requires { ⌜ (length (now part) ≤ length (now pivot)) × (s < length (now part)) ⌝ }
+fn renew(part: &mut [u64], own: bool, s: usize, d: u64, pivot: &[u64], gap: Gap) -> u64
+    requires { ⌜ (length (now part) ≤ length (now pivot)) × (s < length (now part)) × Within gap (length (now part)) ⌝ }
+    requires { ⌜ Empty gap (now part) × Empty gap (now pivot) ⌝ }
     ensures { λ r.
         let z = now (part .entry) in
         ⌜ (now (part .exit) ≡ renewedWords s d (now (pivot .entry)) own z) × (r ≡ only (renews s own z) 1) × (r ≤ 1) ⌝ }
@@ -32,7 +35,7 @@ fn renew(part: &mut [u64], own: bool, s: usize, d: u64, pivot: &[u64]) -> u64
     if part[s] == 0 {
         return 0;
     }
-    replace(part, pivot, s, d);
+    replace(part, pivot, s, d, gap);
     1
 }
 
@@ -45,8 +48,9 @@ pub(crate) fn row_start(n: usize, i: usize) -> usize
 }
 
 // Renews row i of the table. The rest of the work table is as it was.
-fn renew_row(work: &mut [u64], i: usize, n: usize, s: usize, d: u64, pivot: &[u64]) -> u64
+fn renew_row(work: &mut [u64], i: usize, n: usize, s: usize, d: u64, pivot: &[u64], gap: Gap) -> u64
     requires { ⌜ (n ≤ mostStates) × (workSize n ≤ length (now work)) × (i < n) × (s < n) × (length (now pivot) ≡ width n) ⌝ }
+    requires { ⌜ Within gap n × Empty gap (partAt n (now work) i) × Empty gap (now pivot) ⌝ }
     ensures { λ r.
         let w = now (work .entry) in
         let z = partAt n w i in
@@ -54,18 +58,19 @@ fn renew_row(work: &mut [u64], i: usize, n: usize, s: usize, d: u64, pivot: &[u6
 {
     let a = row_start(n, i);
     let e = a + n + Chain::BESIDE;
-    renew(&mut work[a..e], i == s, s, d, pivot)
+    renew(&mut work[a..e], i == s, s, d, pivot, gap)
 }
 
 // Renews each row of the table, and answers how many were made anew.
-fn renew_all(work: &mut [u64], n: usize, s: usize, d: u64, pivot: &[u64]) -> u64
+fn renew_all(work: &mut [u64], n: usize, s: usize, d: u64, pivot: &[u64], gap: Gap) -> u64
     requires { ⌜ (n ≤ mostStates) × (workSize n ≤ length (now work)) × (s < n) × (length (now pivot) ≡ width n) ⌝ }
+    requires { ⌜ Gone n gap (now work) × Empty gap (now pivot) ⌝ }
     ensures { λ r. ⌜ RenewedRows n s d (now (pivot .entry)) n (now (work .entry)) (now (work .exit)) r ⌝ }
 {
     let mut rows = 0;
     let mut i = 0;
     while i < n {
-        rows += renew_row(work, i, n, s, d, pivot);
+        rows += renew_row(work, i, n, s, d, pivot, gap);
         i += 1;
     }
     rows
@@ -97,21 +102,22 @@ pub(crate) fn pivot_of(work: &[u64], n: usize, s: usize) -> [u64; Chain::WIDTH]
 }
 
 // Removes the state s by a copy of its row. Only the copy is settled: to settle each new row would cost two more passes over it.
-fn remove_by(work: &mut [u64], n: usize, s: usize, pivot: &mut [u64]) -> u64
+fn remove_by(work: &mut [u64], n: usize, s: usize, pivot: &mut [u64], gap: Gap) -> u64
     requires { ⌜ (n ≤ mostStates) × (workSize n ≤ length (now work)) × (s < n) × (length (now pivot) ≡ width n) ⌝ }
+    requires { ⌜ Gone n gap (now work) × Empty gap (now pivot) ⌝ }
     ensures { λ r. ⌜ RemovedBy n s (settledWords (now (pivot .entry))) (now (work .entry)) (now (work .exit)) r ⌝ }
 {
     settle(pivot);
     let d = total(pivot);
-    renew_all(work, n, s, d, pivot)
+    renew_all(work, n, s, d, pivot, gap)
 }
 
 // Removes the state s from the table, and answers how many rows were made anew.
-pub(crate) fn remove(work: &mut [u64], n: usize, s: usize) -> u64
-    requires { ⌜ (n ≤ mostStates) × (workSize n ≤ length (now work)) × (s < n) ⌝ }
+pub(crate) fn remove(work: &mut [u64], n: usize, s: usize, gap: Gap) -> u64
+    requires { ⌜ (n ≤ mostStates) × (workSize n ≤ length (now work)) × (s < n) × Gone n gap (now work) ⌝ }
     ensures { λ r. ⌜ RemovedWords n s (now (work .entry)) (now (work .exit)) r ⌝ }
 {
     let mut p = pivot_of(work, n, s);
     let m = n + Chain::BESIDE;
-    remove_by(work, n, s, &mut p[..m])
+    remove_by(work, n, s, &mut p[..m], gap)
 }

@@ -1,12 +1,15 @@
 // The walk through the order: each state that goes is removed at its turn.
 ghost use mathlib.Core.Path.{_≡_};
+ghost use mathlib.Core.Bool.{true, false};
 ghost use Prim.Native.Nat.{ℕ, _*_, _<_, _≤_};
 ghost use lib.ListN.{length, getD};
 ghost use Rattle.meaning.specs.Chain.{mostStates};
 ghost use Rattle.meaning.specs.Refusal.{workSize};
 ghost use Rattle.meaning.specs.Step.{goes};
+ghost use Rattle.near.specs.Gap.{Gone, Widened};
 ghost use Rattle.near.specs.Walk.{Turned, Walked};
 use crate::step::remove;
+use crate::wide::Gap;
 use chain::Chain;
 use chain::set::holds;
 
@@ -20,13 +23,41 @@ fn goes(s: usize, start: usize, live: u64) -> bool
     holds(live, s)
 }
 
+// The gap with the column of s, where it can be one with it.
+fn widened(gap: Gap, s: usize) -> Gap
+    requires { ⌜ s < mostStates ⌝ }
+    ensures { λ r. ⌜ Widened gap s r ⌝ }
+{
+    if gap.from == gap.to {
+        return Gap { from: s, to: s + 1 };
+    }
+    if s == gap.to {
+        return Gap {
+            from: gap.from,
+            to: s + 1,
+        };
+    }
+    gap
+}
+
+// The gap after the turn of s, which went or did not.
+fn gap_after(gap: Gap, s: usize, went: bool) -> Gap
+    requires { ⌜ s < mostStates ⌝ }
+    ensures { λ r. ⌜ (went ≡ true → Widened gap s r) × (went ≡ false → r ≡ gap) ⌝ }
+{
+    if went {
+        return widened(gap, s);
+    }
+    gap
+}
+
 // The turn of the state s. Answers how many rows were made anew.
-fn turn(work: &mut [u64], c: Chain, live: u64, s: usize) -> u64
-    requires { ⌜ (c .states ≤ mostStates) × (workSize (c .states) ≤ length (now work)) × (s < c .states) ⌝ }
+fn turn(work: &mut [u64], c: Chain, live: u64, s: usize, gap: Gap) -> u64
+    requires { ⌜ (c .states ≤ mostStates) × (workSize (c .states) ≤ length (now work)) × (s < c .states) × Gone (c .states) gap (now work) ⌝ }
     ensures { λ r. ⌜ Turned (c .states) (goes (c .start) live s) s (now (work .entry)) (now (work .exit)) r ⌝ }
 {
     if goes(s, c.start, live) {
-        return remove(work, c.states, s);
+        return remove(work, c.states, s, gap);
     }
     0
 }
@@ -39,10 +70,12 @@ pub(crate) fn eliminate(work: &mut [u64], c: Chain, live: u64, order: &[u64]) ->
 {
     let n = c.states;
     let mut rows = 0;
+    let mut gap = Gap { from: 0, to: 0 };
     let mut p = 0;
     while p < n {
         let s = order[p] as usize;
-        rows += turn(work, c, live, s);
+        rows += turn(work, c, live, s, gap);
+        gap = gap_after(gap, s, goes(s, c.start, live));
         p += 1;
     }
     rows

@@ -1,41 +1,59 @@
 // A row with a place for each column: what becomes of it when a state is removed.
 ghost use mathlib.Core.Path.{_≡_};
-ghost use Prim.Native.Nat.{_+_, _*_, _<_, _≤_};
+ghost use Prim.Native.Nat.{ℕ, _+_, _*_, _<_, _≤_};
 ghost use lib.ListN.{length};
 ghost use Rattle.near.specs.Word.{word, value};
-ghost use Rattle.near.specs.Row.{blendedWords, replacedWords};
+ghost use Rattle.near.specs.Split.{Small, valueOf};
+ghost use Rattle.near.specs.Row.{valueAt, replacedWords};
+ghost use Rattle.near.specs.Gap.{Spanned, Empty, Within};
+use crate::word::Split;
 use crate::word::mix;
+use crate::word::split_of;
+
+// The columns from `from` to before `to`: of states that are gone, so that no row has a weight there.
+pub(crate) struct Gap {
+    pub(crate) from: usize,
+    pub(crate) to: usize,
+}
 
 // The word of the sum of two products, with no work where nothing is there.
-fn cell(x: u64, d: u64, w: u64, p: u64) -> u64
-    ensures { λ r. ⌜ r ≡ word (value x * value d + value w * value p) ⌝ }
+fn cell(x: u64, d: Split, p: u64, w: Split) -> u64
+    requires { ⌜ Small d × Small w ⌝ }
+    ensures { λ r. ⌜ r ≡ word (value x * valueOf d + valueOf w * value p) ⌝ }
 {
     if x == 0 {
         if p == 0 {
             return 0;
         }
     }
-    mix(x, d, w, p)
+    mix(x, d, p, w)
 }
 
-// The new weights.
-fn blend(row: &mut [u64], pivot: &[u64], d: u64, w: u64)
-    requires { ⌜ length (now row) ≤ length (now pivot) ⌝ }
-    ensures { λ _. ⌜ now (row .exit) ≡ blendedWords d w (now (pivot .entry)) (now (row .entry)) ⌝ }
+// The new weights in the columns from `from` to before `to`.
+fn blend(row: &mut [u64], pivot: &[u64], d: u64, w: u64, from: usize, to: usize)
+    requires { ⌜ (from ≤ to) × (to ≤ length (now row)) × (length (now row) ≤ length (now pivot)) ⌝ }
+    ensures { λ _.
+        let l = now (row .entry) in
+        ⌜ Spanned (λ (j : ℕ). word (valueAt l j * value d + value w * valueAt (now (pivot .entry)) j)) from to l (now (row .exit)) ⌝ }
 {
-    let mut j = 0;
-    while j < row.len() {
-        row[j] = cell(row[j], d, w, pivot[j]);
+    let by = split_of(d);
+    let weight = split_of(w);
+    let mut j = from;
+    while j < to {
+        row[j] = cell(row[j], by, pivot[j], weight);
         j += 1;
     }
 }
 
-// A row once state s is removed: pivot is a copy of its row, without its weight to itself, and d its D.
-pub(crate) fn replace(row: &mut [u64], pivot: &[u64], s: usize, d: u64)
-    requires { ⌜ (length (now row) ≤ length (now pivot)) × (s < length (now row)) ⌝ }
+// A row once state s is removed: pivot is a copy of its row, without its weight to itself, and d its D. Nothing stands in the gap.
+pub(crate) fn replace(row: &mut [u64], pivot: &[u64], s: usize, d: u64, gap: Gap)
+    requires { ⌜ (length (now row) ≤ length (now pivot)) × (s < length (now row)) × Within gap (length (now row)) ⌝ }
+    requires { ⌜ Empty gap (now row) × Empty gap (now pivot) ⌝ }
     ensures { λ _. ⌜ now (row .exit) ≡ replacedWords s d (now (pivot .entry)) (now (row .entry)) ⌝ }
 {
     let w = row[s];
     row[s] = 0;
-    blend(row, pivot, d, w);
+    let m = row.len();
+    blend(row, pivot, d, w, 0, gap.from);
+    blend(row, pivot, d, w, gap.to, m);
 }

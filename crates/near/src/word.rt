@@ -4,6 +4,7 @@ ghost use mathlib.Core.Logic.{_⊎_};
 ghost use Prim.Native.Nat.{_+_, _-_, _*_, _/_, _%_, _^_, _<_, _≤_, max};
 ghost use Rattle.meaning.specs.Near.{digits};
 ghost use Rattle.near.specs.Word.{word, value};
+ghost use Rattle.near.specs.Split.{Small, valueOf};
 
 // How many binary digits a number has.
 pub(crate) fn digits_of(p: u64) -> u64
@@ -79,35 +80,36 @@ fn sum_short(p: u64, x: u64, q: u64, y: u64) -> u64
     sum_cut(p, x, q, y)
 }
 
-// The word of s * 2 ^ k, where s has 31 digits or more.
+// The word of s * 2 ^ k, where s has 31 digits or more; k is given 33 too high, which is what its digits are shifted by.
 fn packed_long(s: u64, k: u64) -> u64
-    requires { ⌜ (k < 2 ^ 36) × (31 ≤ digits s) ⌝ }
-    ensures { λ r. ⌜ r ≡ word (s * 2 ^ k) ⌝ }
+    requires { ⌜ (33 ≤ k) × (k < 2 ^ 36) × (31 ≤ digits s) ⌝ }
+    ensures { λ r. ⌜ r ≡ word (s * 2 ^ (k - 33)) ⌝ }
 {
-    let n = digits_of(s);
-    ((k + n - 31) << 31) + ((s << (64 - n)) >> 33)
+    let z = 64 - digits_of(s);
+    ((k - z) << 31) + ((s << z) >> 33)
 }
 
-// The same where x is no less than y: without its last x digits the sum is p and what is left of q, and mostly has its 31 digits.
+// The word of p * 2 ^ x + q * 2 ^ y, where x and y are given 33 too high and x is no less than y: without its last x digits the sum is p and what is
+// left of q, and mostly has its 31 digits.
 fn sum_aligned(p: u64, x: u64, q: u64, y: u64) -> u64
-    requires { ⌜ (p < 2 ^ 62) × (x < 2 ^ 35) × (q < 2 ^ 62) × (y ≤ x) ⌝ }
-    ensures { λ r. ⌜ r ≡ word (p * 2 ^ x + q * 2 ^ y) ⌝ }
+    requires { ⌜ (p < 2 ^ 62) × (x < 2 ^ 35) × (q < 2 ^ 62) × (33 ≤ y) × (y ≤ x) ⌝ }
+    ensures { λ r. ⌜ r ≡ word (p * 2 ^ (x - 33) + q * 2 ^ (y - 33)) ⌝ }
 {
     let c = x - y;
     if 64 <= c {
-        return sum_cut(p, x, q, y);
+        return sum_cut(p, x - 33, q, y - 33);
     }
     let s = p + (q >> c);
     if s < 1073741824 {
-        return sum_short(p, x, q, y);
+        return sum_short(p, x - 33, q, y - 33);
     }
     packed_long(s, x)
 }
 
-// The word of p * 2 ^ x + q * 2 ^ y.
+// The same whichever of the two is larger.
 fn sum(p: u64, x: u64, q: u64, y: u64) -> u64
-    requires { ⌜ (p < 2 ^ 62) × (x < 2 ^ 35) × (q < 2 ^ 62) × (y < 2 ^ 35) ⌝ }
-    ensures { λ r. ⌜ r ≡ word (p * 2 ^ x + q * 2 ^ y) ⌝ }
+    requires { ⌜ (p < 2 ^ 62) × (33 ≤ x) × (x < 2 ^ 35) × (q < 2 ^ 62) × (33 ≤ y) × (y < 2 ^ 35) ⌝ }
+    ensures { λ r. ⌜ r ≡ word (p * 2 ^ (x - 33) + q * 2 ^ (y - 33)) ⌝ }
 {
     if x < y {
         return sum_aligned(q, y, p, x);
@@ -115,23 +117,35 @@ fn sum(p: u64, x: u64, q: u64, y: u64) -> u64
     sum_aligned(p, x, q, y)
 }
 
-// The product of the first digits of two words.
-fn product(a: u64, b: u64) -> u64
-    ensures { λ r. ⌜ (r ≡ a % 2 ^ 31 * (b % 2 ^ 31)) × (r < 2 ^ 62) ⌝ }
-{
-    (a % 2147483648) * (b % 2147483648)
+// A word in two parts: its first digits, and how many it leaves out, 33 too high.
+pub(crate) struct Split {
+    pub(crate) first: u64,
+    pub(crate) behind: u64,
 }
 
-// How many digits the two words leave out together.
-fn behind(a: u64, b: u64) -> u64
-    ensures { λ r. ⌜ (r ≡ a / 2 ^ 31 + b / 2 ^ 31) × (r < 2 ^ 35) ⌝ }
+pub(crate) fn split_of(w: u64) -> Split
+    ensures { λ r. ⌜ (valueOf r ≡ value w) × Small r ⌝ }
 {
-    (a >> 31) + (b >> 31)
+    Split {
+        first: w % 2147483648,
+        behind: (w >> 31) + 33,
+    }
 }
 
-// The word of the sum of two products.
-pub(crate) fn mix(x: u64, d: u64, w: u64, p: u64) -> u64
-    ensures { λ r. ⌜ r ≡ word (value x * value d + value w * value p) ⌝ }
+// The product of the first digits of a word and those of another.
+fn product(a: u64, m: u64) -> u64
+    requires { ⌜ m < 2 ^ 31 ⌝ }
+    ensures { λ r. ⌜ (r ≡ a % 2 ^ 31 * m) × (r < 2 ^ 62) ⌝ }
 {
-    sum(product(x, d), behind(x, d), product(w, p), behind(w, p))
+    (a % 2147483648) * m
+}
+
+// The word of the sum of two products: of the words x and d, and of p and w.
+pub(crate) fn mix(x: u64, d: Split, p: u64, w: Split) -> u64
+    requires { ⌜ Small d × Small w ⌝ }
+    ensures { λ r. ⌜ r ≡ word (value x * valueOf d + valueOf w * value p) ⌝ }
+{
+    let e = (x >> 31) + d.behind;
+    let f = (p >> 31) + w.behind;
+    sum(product(x, d.first), e, product(p, w.first), f)
 }

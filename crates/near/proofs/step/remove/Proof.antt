@@ -1,5 +1,8 @@
 use mathlib.Core.Path.{sym}
+use native.Mathlib.Omega.{arith}
 use borrow.Author.Needs.{needs}
+use Rattle.engines.proofs.Tables.{length-row}
+use Rattle.near.proofs.Gaps.{empty-set}
 use Rattle.near.proofs.Steps.{copy-length, copy-is}
 use Rattle.near.proofs.step.remove.Statement.{statement}
 use Rattle.near.proofs.step.remove.Tie as tie
@@ -13,7 +16,13 @@ remove-by-requires : tie.Need-remove-by-requires
 remove-by-requires c κs =
     let t = c .before .before .before .before .before in
     let p = c .before .before .pivot-of in
-    (t .pre .0, t .pre .1, t .pre .2, copy-length (t .args .n) (t .args .s) (t .args .work .now) (t .pre .0) (t .pre .1) (t .pre .2) (p .result) (p .ensures .0))
+    let a = t .args in
+    let h = t .pre in
+    let l = length-row (a .n) (a .work .now) (h .1) (a .s) (h .2) in
+    let e = copy-is (a .n) (a .s) (a .work .now) (h .0) (h .1) (h .2) (p .result) (p .ensures .0) (p .ensures .1) in (
+      (h .0, h .1, h .2, copy-length (a .n) (a .s) (a .work .now) (h .0) (h .1) (h .2) (p .result) (p .ensures .0)),
+      (h .3, rw e (empty-set (h .3 .rows (a .s) (h .2)) (a .s) (omega (arith, l)))),
+    )
 
 returns : tie.Need-returns
 returns c =

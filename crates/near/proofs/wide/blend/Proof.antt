@@ -1,33 +1,45 @@
-use Prim.Native.Nat.{_-_, _+_, _*_}
-use mathlib.Core.Path.{_∙_, ap}
+use Prim.Native.Nat.{_-_, _+_, _*_, _≤_}
+use mathlib.Core.Path.{_≡_, _∙_, ap}
 use native.Mathlib.Omega.{arith}
-use lib.ListN.{length}
 use borrow.Author.Needs.{needs}
 use Rattle.near.specs.Word.{word, value}
-use Rattle.near.specs.Row.{valueAt, blendedWords}
-use Rattle.theory.specs.Numbers.Walk.{Walked, walk-none, walk-at, walk-more, walk-all}
+use Rattle.near.specs.Row.{valueAt}
+use Rattle.near.specs.Gap.{Spanned}
+use Rattle.near.proofs.Gaps.{span-none, span-at, span-more}
 use Rattle.near.proofs.wide.blend.Statement.{statement}
 use Rattle.near.proofs.wide.blend.Tie as tie
 
 abbrev Inv-loop : tie.InvT-loop
-Inv-loop row₀ pivot d w j₀ row j = Walked (λ i. word (valueAt row₀ i * value d + value w * valueAt pivot i)) row₀ j row
+Inv-loop row₀ pivot d w from to by weight j₀ row j =
+    Spanned (λ i. word (valueAt row₀ i * value d + value w * valueAt pivot i)) from j row₀ row × (j ≤ to)
 
 abbrev μ-loop : tie.MeasureT-loop
-μ-loop row₀ pivot d w j₀ row j = length row₀ - j
+μ-loop row₀ pivot d w from to by weight j₀ row j = to - j
 
 loop-holds : tie.Need-loop-holds Inv-loop μ-loop
-loop-holds c = walk-none
+loop-holds c = (span-none, omega arith)
 
 loop-again : tie.Need-loop-again Inv-loop μ-loop
 loop-again c =
-    let a = c .before .before .before .before .before .before .before .args in
-    let l = c .before .before .before .before .loop in
-    walk-more (l .inv) (omega arith)
-    (c .cell .ensures ∙ ap (λ z. word (value z * value (a .d) + value (a .w) * valueAt (a .pivot .now) (l .j))) (walk-at (l .inv)))
+    let at = c .before .before .before .before in
+    let l = at .loop in
+    let a = at .before .before .before .before .before .args in
+    let d = at .before .before .split-of .ensures .0 in
+    let w = at .before .split-of2 .ensures .0 in (
+      span-more (l .inv .0) (omega arith)
+          (c .cell .ensures
+          ∙ rw (d, w) (ap (λ z. word (value z * value (a .d) + value (a .w) * valueAt (a .pivot .now) (l .j))) (span-at (l .inv .0)))),
+      omega arith,
+    )
+
+same-length : tie.Need-same-length Inv-loop μ-loop
+same-length c = c .before .loop .inv .0 .len
 
 returns : tie.Need-returns Inv-loop μ-loop
-unfolding blendedWords
-returns c = walk-all (c .before .loop .inv) (omega arith)
+returns c =
+    let at = c .before in
+    let e : at .loop .j ≡ at .before .before .before .before .before .args .to = omega (arith, at .loop .inv .1) in
+    rw e at (at .loop .inv .0)
 
 pub blend-spec : {M : Type 1} → statement M
 blend-spec =
@@ -35,6 +47,8 @@ blend-spec =
     (tie.spec
     Inv-loop
     μ-loop
+    (λ c κs. search needs)
+    (λ c κs. search needs)
     loop-holds
     (λ c. search needs)
     (λ c. search needs)
@@ -46,5 +60,5 @@ blend-spec =
     (λ c. search needs)
     (λ c. search needs)
     loop-again
-    (λ c. search needs)
+    same-length
     returns)

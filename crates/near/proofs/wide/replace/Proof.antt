@@ -1,14 +1,41 @@
 use mathlib.Core.Path.{_∙_}
+use native.Mathlib.Omega.{arith}
 use lib.ListN.{length-set}
 use borrow.Author.Needs.{needs}
+use Rattle.near.proofs.Gaps.{spans-blend, empty-set}
 use Rattle.near.proofs.wide.replace.Statement.{statement}
 use Rattle.near.proofs.wide.replace.Tie as tie
 
+blend-requires : tie.Need-blend-requires
+blend-requires c κs =
+    let t = c .before .before .before .before in
+    let e = length-set (t .args .row .now) (t .args .s) 0 in
+    (omega arith, omega (arith, t .pre .0, e), omega (arith, t .pre .0, e))
+
+blend-requires-2 : tie.Need-blend-requires-2
+blend-requires-2 c κs =
+    let at = c .before .before .before in
+    let t = at .before .before .before .before .before in
+    let e = length-set (t .args .row .now) (t .args .s) 0 in
+    let l = at .blend .ensures .len in
+    (omega (arith, t .pre .0, e), omega (arith, l, e), omega (arith, t .pre .0, l, e))
+
 same-length : tie.Need-same-length
 same-length c =
-    let b = c .before .before in
-    let a = b .before .before .before .before .before .args in
-    b .blend .kept .0 ∙ length-set (a .row .now) (a .s) 0
+    let at = c .before .before in
+    let one = at .before .before .before .before in
+    let t = one .before .before .before .before .before in
+    at .blend2 .ensures .len ∙ one .blend .ensures .len ∙ length-set (t .args .row .now) (t .args .s) 0
+
+returns : tie.Need-returns
+returns c =
+    let at = c .before .before in
+    let one = at .before .before .before .before in
+    let t = one .before .before .before .before .before in
+    let a = t .args in
+    let e = length-set (a .row .now) (a .s) 0 in
+    spans-blend (a .d) _ (a .pivot .now) _ _ _ (a .gap) (omega (arith, t .pre .0), omega (arith, t .pre .0, e))
+    (empty-set (t .pre .1 .0) (a .s) (t .pre .0 .1)) (t .pre .1 .1) (one .blend .ensures) (at .blend2 .ensures)
 
 pub replace-spec : {M : Type 1} → statement M
 replace-spec =
@@ -18,6 +45,7 @@ replace-spec =
     (λ c. search needs)
     (λ c. search needs)
     (λ c. search needs)
-    (λ c κs. search needs)
+    blend-requires
+    blend-requires-2
     same-length
-    (λ c. search needs))
+    returns)

@@ -1,18 +1,25 @@
-use mathlib.Core.Path.{_∙_}
+use Prim.Native.Nat.{_+_, _-_, _*_, _/_, _^_}
+use mathlib.Core.Path.{sym, ap, ap₂, _∙_}
+use native.Mathlib.Nat.{mul-comm}
 use borrow.Author.Needs.{needs}
+use Rattle.near.specs.Word.{word}
 use Rattle.near.proofs.Sums.{product-value}
 use Rattle.near.proofs.word.mix.Statement.{statement}
 use Rattle.near.proofs.word.mix.Tie as tie
 
 returns : tie.Need-returns
 returns c =
-    let b2 = c .before in
-    let a = b2 .before .before .before .before .args in
+    let a = c .before .before .before .before .before .args in
+    let h = c .before .before .before .before .before .pre in
     c .sum .ensures
-    ∙ rw (b2 .before .before .before .product .ensures .0, b2 .before .before .behind .ensures .0, b2 .before .product2 .ensures .0, b2 .behind2 .ensures .0)
-    (rw (product-value (a .x) (a .d), product-value (a .w) (a .p)))
+    ∙ ap word
+    (ap₂ (λ y z. y + z)
+    (ap (λ z. z * 2 ^ (a .x / 2 ^ 31 + a .d .behind - 33)) (c .before .before .product .ensures .0) ∙ sym (product-value (a .x) (a .d .first) (a .d .behind) (h .0 .1)))
+    (ap (λ z. z * 2 ^ (a .p / 2 ^ 31 + a .w .behind - 33)) (c .before .product2 .ensures .0)
+    ∙ sym (product-value (a .p) (a .w .first) (a .w .behind) (h .1 .1))
+    ∙ mul-comm _ _))
 
 pub mix-spec : {M : Type 1} → statement M
 mix-spec =
     tie.close
-    (tie.spec (λ c κs. search needs) (λ c κs. search needs) (λ c κs. search needs) (λ c κs. search needs) (λ c κs. search needs) returns)
+    (tie.spec (λ c. search needs) (λ c. search needs) (λ c κs. search needs) (λ c κs. search needs) (λ c κs. search needs) returns)

@@ -1,10 +1,11 @@
-use Prim.Native.Nat.{_+_, _-_, _/_, _^_, _≤_}
-use mathlib.Core.Path.{_∙_}
+use Prim.Native.Nat.{_+_, _-_, _*_, _/_, _^_, _≤_}
+use mathlib.Core.Path.{_≡_, ap, _∙_}
 use native.Mathlib.Omega.{arith}
 use native.Mathlib.Nat.{div-le-self}
 use borrow.Author.Needs.{needs}
 use Rattle.meaning.specs.Near.{digits}
 use Rattle.theory.specs.Numbers.Binary.{digits-least}
+use Rattle.near.specs.Word.{word}
 use Rattle.near.proofs.Sums.{aligned}
 use Rattle.near.proofs.word.sum_aligned.Statement.{statement}
 use Rattle.near.proofs.word.sum_aligned.Tie as tie
@@ -17,22 +18,30 @@ long : (c : tie.Else2) → let a = c .before .before .args in 31 ≤ digits (a .
 long c = let a = c .before .before .args in omega (arith, digits-least (a .p + a .q / 2 ^ (a .x - a .y)) 30 (omega arith))
 
 packed-long-requires : tie.Need-packed-long-requires
-packed-long-requires c κs = (omega arith, long c)
+packed-long-requires c κs = (omega arith, omega arith, long c)
 
 returns-3 : tie.Need-returns-3
 returns-3 c =
     let a = c .before .before .before .args in
-    c .packed-long .ensures ∙ aligned (a .p) (a .x) (a .q) (a .y) (omega arith) (long (c .before))
+    let e : a .x - a .y ≡ a .x - 33 - (a .y - 33) = omega arith in
+    let l = rw e at (long (c .before)) in
+    c .packed-long .ensures
+    ∙ ap (λ z. word ((a .p + a .q / 2 ^ z) * 2 ^ (a .x - 33))) e
+    ∙ aligned (a .p) (a .x - 33) (a .q) (a .y - 33) (omega arith) l
 
 pub sum-aligned-spec : {M : Type 1} → statement M
 sum-aligned-spec =
     tie.close
     (tie.spec
     (λ c. search needs)
+    (λ c. search needs)
+    (λ c. search needs)
     (λ c κs. search needs)
     (λ c. search needs)
     (λ c. search needs)
     add-s
+    (λ c. search needs)
+    (λ c. search needs)
     (λ c κs. search needs)
     (λ c. search needs)
     packed-long-requires
