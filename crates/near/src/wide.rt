@@ -7,6 +7,7 @@ ghost use Rattle.near.specs.Split.{Small, valueOf};
 ghost use Rattle.near.specs.Row.{valueAt, replacedWords};
 ghost use Rattle.near.specs.Gap.{Spanned, Empty, Within};
 use crate::word::Split;
+use crate::word::lone;
 use crate::word::mix;
 use crate::word::split_of;
 
@@ -25,6 +26,7 @@ fn cell(x: u64, d: Split, p: u64, w: Split) -> u64
         if p == 0 {
             return 0;
         }
+        return lone(p, w);
     }
     mix(x, d, p, w)
 }

@@ -69,7 +69,7 @@ fn sum_cut(p: u64, x: u64, q: u64, y: u64) -> u64
     packed(part(p, x, k) + part(q, y, k), k)
 }
 
-// The same, where the sum mostly is a first weight: it has few digits, and leaves out none.
+// The same, where the sum has few digits: mostly it is that of first weights, which leave out none.
 fn sum_short(p: u64, x: u64, q: u64, y: u64) -> u64
     requires { ⌜ (p < 2 ^ 62) × (x < 2 ^ 35) × (q < 2 ^ 62) × (y ≤ x) ⌝ }
     ensures { λ r. ⌜ r ≡ word (p * 2 ^ x + q * 2 ^ y) ⌝ }
@@ -106,13 +106,13 @@ fn sum_aligned(p: u64, x: u64, q: u64, y: u64) -> u64
     packed_long(s, x)
 }
 
-// The same whichever of the two is larger.
+// The same, whatever the two are. Mostly it is the row's own weight that leaves out more.
 fn sum(p: u64, x: u64, q: u64, y: u64) -> u64
     requires { ⌜ (p < 2 ^ 62) × (33 ≤ x) × (x < 2 ^ 35) × (q < 2 ^ 62) × (33 ≤ y) × (y < 2 ^ 35) ⌝ }
     ensures { λ r. ⌜ r ≡ word (p * 2 ^ (x - 33) + q * 2 ^ (y - 33)) ⌝ }
 {
     if x < y {
-        return sum_aligned(q, y, p, x);
+        return sum_cut(p, x - 33, q, y - 33);
     }
     sum_aligned(p, x, q, y)
 }
@@ -138,6 +138,19 @@ fn product(a: u64, m: u64) -> u64
     ensures { λ r. ⌜ (r ≡ a % 2 ^ 31 * m) × (r < 2 ^ 62) ⌝ }
 {
     (a % 2147483648) * m
+}
+
+// The word of one product, of the words p and w.
+pub(crate) fn lone(p: u64, w: Split) -> u64
+    requires { ⌜ Small w ⌝ }
+    ensures { λ r. ⌜ r ≡ word (valueOf w * value p) ⌝ }
+{
+    let s = product(p, w.first);
+    let f = (p >> 31) + w.behind;
+    if s < 1073741824 {
+        return sum_cut(s, f - 33, 0, 0);
+    }
+    packed_long(s, f)
 }
 
 // The word of the sum of two products: of the words x and d, and of p and w.
