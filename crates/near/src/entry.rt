@@ -109,12 +109,15 @@ pub fn near(
     }
 }
 
-// The same with a work table of its own.
+// The same with a work table of its own, which is not made zero at the end.
 pub fn near_unlent(c: Chain, denominators: &[u64], edges: &[u64], order: &[u64]) -> Nearly
     ensures { λ r.
         let l = ours c (now (denominators .entry)) (now (edges .entry)) (now (order .entry)) [] in
         ⌜ Found (NearOutcome l) (toldNear r) × Found (MissOutcome l) (toldMiss r) × Proper r ⌝ }
 {
     let mut work = [0u64; Chain::WORK];
-    near(c, denominators, edges, order, &mut work)
+    match lay(c, denominators, edges, order, &mut work) {
+        Laid::Refused { number, place } => Nearly::Refused { number, place },
+        Laid::Rows(sets) => Nearly::Found(follow(c, sets, order, &mut work)),
+    }
 }
