@@ -38,9 +38,9 @@ pub enum Question {
 // The bytes of the longest file of eight blocks, and the edge table that it may need: beside a head and states it has six blocks of edges at most.
 const SHORT: usize = 8 * layout::BLOCK;
 
-const FEW: usize = edge::SIZE * (6 * layout::FULL);
+pub const FEW: usize = edge::SIZE * (6 * layout::FULL);
 
-fn long(length: usize, more: u64) -> bool
+pub fn long(length: usize, more: u64) -> bool
     ensures { λ r. ⌜ decides (8 * blockSize < length + more) r ⌝ }
 {
     if SHORT < length {

@@ -1,5 +1,10 @@
 // Near chances of the chain in a file, from its own start or from another state.
 ghost use mathlib.Core.Path.{_≡_};
+ghost use Prim.Native.Nat.{_*_, _≤_};
+ghost use lib.ListN.{length};
+ghost use Rattle.meaning.specs.Chain.{edgeSize};
+ghost use Rattle.meaning.specs.Block.{headEdges};
+ghost use Rattle.meaning.specs.File.{Accepted};
 ghost use Rattle.meaning.specs.FileNear.{FileNear};
 ghost use Rattle.chainfile.specs.Input.{input};
 ghost use Rattle.near.specs.Answer.{toldNear, toldMiss, Proper};
@@ -25,19 +30,20 @@ fn start(from: From, own: usize) -> usize
     }
 }
 
-// Opens the chain file of which `kept` holds the first bytes and `more` counts the others, with the largest tables, and answers its near chances.
-pub fn near(kept: &[u8], more: u64, from: From) -> Nearly
+// Opens the chain file of which `kept` holds the first bytes and `more` counts the others, with an edge table that holds what it may have, and answers
+// its near chances.
+fn opened(kept: &[u8], more: u64, from: From, edges: &mut [u64]) -> Nearly
+    requires { ⌜ (Accepted (input (now kept) more) → edgeSize * headEdges (input (now kept) more) ≤ length (now edges)) ⌝ }
     ensures { λ r. ⌜ FileNear (input (now (kept .entry)) more) (fromOf from) (toldNear r) (toldMiss r) × Proper r ⌝ }
 {
     let mut denominators = [0u64; Chain::STATES];
-    let mut edges = [0u64; edge::MOST];
     let mut order = [0u64; Chain::STATES];
     let mut rewards = [0u64; Chain::STATES];
     match chainfile::open_file(
         kept,
         more,
         &mut denominators,
-        &mut edges,
+        edges,
         &mut order,
         &mut rewards,
     ) {
@@ -52,4 +58,16 @@ pub fn near(kept: &[u8], more: u64, from: From) -> Nearly
             near_unlent(c, &denominators[..n], &edges[..e], &order[..n])
         }
     }
+}
+
+// Opens it with tables of its own, the edge table as small as that of the other figures.
+pub fn near(kept: &[u8], more: u64, from: From) -> Nearly
+    ensures { λ r. ⌜ FileNear (input (now (kept .entry)) more) (fromOf from) (toldNear r) (toldMiss r) × Proper r ⌝ }
+{
+    if figures::long(kept.len(), more) {
+        let mut edges = [0u64; edge::MOST];
+        return opened(kept, more, from, &mut edges);
+    }
+    let mut edges = [0u64; figures::FEW];
+    opened(kept, more, from, &mut edges)
 }
