@@ -4,7 +4,7 @@ use lib.ListN.{length}
 use Rattle.meaning.specs.Outcome.{Answer}
 use Rattle.meaning.specs.Copies.{Plan as Planning, weights, PlaceFault}
 use Rattle.copies.specs.declared.plan.Plan.{Plan}
-use Rattle.copies.specs.declared.Planned.{Planned}
+use Rattle.copies.specs.declared.ask.Planned.{Planned}
 
 abbrev pub toldPlan : Plan → Planning
 toldPlan j = record { copies = j .copies; loss = j .loss; rebuild = j .rebuild; finish = j .finish }

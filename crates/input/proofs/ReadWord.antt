@@ -4,10 +4,10 @@ use mathlib.Core.Path.{_≡_, refl, sym, _∙_}
 use mathlib.Core.Logic.{⊎-elim}
 use mathlib.Core.List.{List}
 use native.Mathlib.Omega.{arith}
-use native.Mathlib.Nat.{eq-or-lt-of-le}
+use native.Mathlib.Nat.{eq-or-lt-of-le, zero-add}
 use native.Mathlib.Numerals.{add-one}
 use lib.ListN.{length, getD}
-use Rattle.meaning.specs.Text.{valueTo, mostDigits, pastNumbers, Decimal, WordOutcome, number, nothing}
+use Rattle.meaning.specs.Text.{readOn, valueTo, mostDigits, pastNumbers, Decimal, WordOutcome, number, nothing}
 use Rattle.input.specs.Digit.{Digit, stands, none}
 use Rattle.meaning.specs.Text.{IsDigit}
 
@@ -19,11 +19,11 @@ pub record ReadTo (word : List ℕ) (i x : ℕ) : Type 0 where
   pub small : x < pastNumbers
 
 pub read-none : {word : List ℕ} → ReadTo word 0 0
-unfolding valueTo
+unfolding readOn
 read-none = record { inside = omega arith; value = refl; digits = λ q h. absurd (omega arith); small = omega arith }
 
 value-rises : (word : List ℕ) (i n : ℕ) → i ≤ n → valueTo word i ≤ valueTo word n
-unfolding valueTo
+unfolding readOn
 value-rises word i zero h = let e : i ≡ 0 = omega arith in rw e (omega arith)
 value-rises word i (suc n) h =
     ⊎-elim
@@ -52,8 +52,8 @@ module _ {word : List ℕ} {i x d : ℕ} (r : ReadTo word i x) (within : i < len
     digit-small = let h = is .0 in let e = is .1 in omega (arith, h .1)
 
     value-next : x * 10 + d ≡ valueTo word (i + 1)
-    unfolding valueTo
-    value-next = rw add-one (let e = is .1 in omega (arith, r .value))
+    unfolding readOn
+    value-next = rw (add-one, zero-add i) (let e = is .1 in omega (arith, r .value))
 
     pub read-more : x * 10 + d < pastNumbers → ReadTo word (i + 1) (x * 10 + d)
     read-more h =

@@ -2,13 +2,15 @@
 use Prim.Native.Nat.{ℕ, zero, suc, _+_, _*_, _-_, _<_}
 use mathlib.Core.Path.{_≡_}
 use mathlib.Core.List.{List, [], _∷_, _++_}
-use lib.ListN.{length, getD}
+use lib.ListN.{length, getD, replicate}
 use Rattle.meaning.specs.Number.{tabFrom}
 use Rattle.meaning.specs.Chain.{Chain, plainEdge, rowSum}
 use Rattle.meaning.specs.Figure.{Chance}
 use Rattle.meaning.specs.Refusal.{Lent, ownWork, Beyond}
 use Rattle.meaning.specs.Outcome.{Answer, refusal, fraction}
 use Rattle.meaning.specs.Demand.{TooLarge}
+use Rattle.meaning.specs.Buffer.{Writing, noWriting}
+use Rattle.meaning.specs.Write.{WriteOutcome}
 
 -- The most copies, and the greatest weight.
 abbrev pub mostCopies : ℕ
@@ -94,12 +96,27 @@ copiesLent j = ownWork (copiesChain j) (copiesOrder j) []
 abbrev pub CopiesLarge : Plan → Type 0
 CopiesLarge j = TooLarge (copiesLent j)
 
--- The planner refuses by 30 for the copies, then by 31 at the least place of a wrong weight. Else it answers the chance that no copy is left
--- before the finish, or refuses by 12 at 0 where a row does not fit.
+-- What is refused of a plan: 30 for the copies, then 31 at the least place of a wrong weight.
+pub data PlanRefused (j : Plan) : ℕ → ℕ → Type 0 where
+  copies-wrong : CopiesFault j → PlanRefused j 30 0
+  weight-wrong : (CopiesFault j → ⊥) → (p : ℕ) → PlaceFault j p → ((q : ℕ) → q < p → PlaceFault j q → ⊥) → PlanRefused j 31 p
+
+-- The planner answers the chance that no copy is left before the finish, or refuses by 12 at 0 where a row does not fit.
 pub data CopiesOutcome (j : Plan) (a : Answer) : Type 0 where
-  copies-wrong : CopiesFault j → a ≡ refusal 30 0 → CopiesOutcome j a
-  weight-wrong : (CopiesFault j → ⊥) → (p : ℕ) → PlaceFault j p → ((q : ℕ) → q < p → PlaceFault j q → ⊥) → a ≡ refusal 31 p
-      → CopiesOutcome j a
+  refused : (number place : ℕ) → PlanRefused j number place → a ≡ refusal number place → CopiesOutcome j a
   large : Sensible j → CopiesLarge j → a ≡ refusal 12 0 → CopiesOutcome j a
   planned : Sensible j → (CopiesLarge j → ⊥) → (p q : ℕ) → Chance (copiesChain j) p q → a ≡ fraction p q
       → CopiesOutcome j a
+
+-- In its chain file the rewards are 0.
+abbrev pub noRewards : Plan → List ℕ
+noRewards j = replicate (copiesStates j) 0
+
+-- What the writer is lent of it, with a buffer.
+abbrev pub copiesFor : Plan → List ℕ → Lent
+copiesFor j buffer = record { chain = copiesChain j; order = copiesOrder j; rewards = noRewards j; work = buffer; list = 0 }
+
+-- The chain file of a plan, into a lent buffer: a plan that is refused leaves it; else it is as the writer has it.
+pub data PlanFiled (j : Plan) (before : List ℕ) (a : Writing) (after : List ℕ) : Type 0 where
+  refused : (number place : ℕ) → PlanRefused j number place → a ≡ noWriting number place → after ≡ before → PlanFiled j before a after
+  filed : Sensible j → WriteOutcome (copiesFor j before) a after → PlanFiled j before a after

@@ -63,3 +63,11 @@ pub mod Miss
 pub mod NearText
 -- Near chances of a chain file, from its own start or from another state.
 pub mod FileNear
+-- A limit for a chance, and the word that says one.
+pub mod Limit
+-- The verdict on a chain file: is its chance within a limit?
+pub mod FileLimit
+-- Near chances of a plan, and the table of all numbers of copies.
+pub mod PlanTable
+-- The fewest copies that keep a limit.
+pub mod Fewest

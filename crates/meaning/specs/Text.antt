@@ -23,10 +23,14 @@ decimalIn (suc steps) x =
 unfoldable pub decimal : ℕ → List ℕ
 decimal x = decimalIn x x
 
+-- What x becomes when the n digits of a word from a place on are read behind its own.
+unfoldable pub readOn : List ℕ → ℕ → ℕ → ℕ → ℕ
+readOn word place x zero = x
+readOn word place x (suc n) = readOn word place x n * 10 + (getD word (place + n) 0 - 48)
+
 -- The number that the first n digits of a word say.
-unfoldable pub valueTo : List ℕ → ℕ → ℕ
-valueTo word zero = 0
-valueTo word (suc n) = valueTo word n * 10 + (getD word n 0 - 48)
+abbrev pub valueTo : List ℕ → ℕ → ℕ
+valueTo word n = readOn word 0 0 n
 
 -- The most digits of a word, and the number that no word reaches: the numbers of 64 bits.
 abbrev pub mostDigits : ℕ

@@ -19,3 +19,5 @@ pub mod Plans
 pub mod Rounds
 -- Checking a colleague's solver: a table is the chance at every state exactly where no state is broken, and the verdict is one.
 pub mod Judging
+-- Limits: a word says one limit, a verdict holds, and what is said of a chain file and a limit is one.
+pub mod Limits

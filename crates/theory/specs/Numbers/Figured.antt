@@ -14,7 +14,7 @@ use Rattle.theory.specs.Numbers.Decimal.{decimal-more}
 use Rattle.theory.specs.Numbers.Tens.{down-sound, up-sound, tens-six, tens-few}
 use Rattle.theory.specs.Numbers.Printed.{Lower, lower-case, Upper, upper-case, Proper, six-near, six-proper, six-raised}
 
-ten-some : (b : ℕ) → 0 < 10 ^ b
+pub ten-some : (b : ℕ) → 0 < 10 ^ b
 ten-some b = one-le-pow b 10 (omega arith)
 
 -- From the value of a + 1 with b tens to a figure of that value.

@@ -148,14 +148,24 @@ module _ (p k : ℕ) (some : 0 < p) where
       (below (tensOf p k) b))
       (below b (tensOf p k))
 
-  -- They are no more than a third of the binary digits.
-  pub tens-few : 3 * tensOf p k ≤ k + 19
-  tens-few =
-      ⊎-elim
-      (λ (h : 0 < tensOf p k).
+  -- They are no more than a third of the binary digits, and fewer where p has many binary digits itself.
+  tens-least-digits : 0 < tensOf p k → 3 * tensOf p k + digits p ≤ k + 20
+  tens-least-digits h =
       let j : ℕ = tensOf p k - 1 in
       let l : grown p j < 100000 * 2 ^ k = div-lt-iff-lt-mul {y = 100000} (pow-pos k) .0 (tens-least j (omega arith)) in
       let d : digits (grown p j) ≤ 17 + k = digits-most (grown p j) (17 + k) (rw (pow-add 2 17 k) (omega arith)) in
-      omega (arith, grown-some p j some, digits-least p 0 some))
+      omega (arith, grown-some p j some)
+
+  pub tens-few : 3 * tensOf p k ≤ k + 19
+  tens-few =
+      ⊎-elim
+      (λ (h : 0 < tensOf p k). omega (arith, tens-least-digits h, digits-least p 0 some))
       (λ (h : tensOf p k ≤ 0). omega arith)
+      (below 0 (tensOf p k))
+
+  pub tens-fewer : (j : ℕ) → 2 ^ j ≤ p → p < 2 ^ k → 3 * tensOf p k + j ≤ k + 19
+  tens-fewer j h less =
+      ⊎-elim
+      (λ (t : 0 < tensOf p k). omega (arith, tens-least-digits t, digits-least p j h))
+      (λ (t : tensOf p k ≤ 0). omega (arith, digits-most p k less, digits-least p j h))
       (below 0 (tensOf p k))

@@ -1,9 +1,10 @@
 -- The numbers of near chances and chances of missing are small: exponents below 2 ^ 12, numerators up to 2 ^ 33, denominators up to 2 ^ 2110.
 use Prim.Native.Nat.{ℕ, _+_, _*_, _^_, _≤_, _<_}
 use mathlib.Core.Path.{_≡_, refl, sym, subst}
-use mathlib.Core.Logic.{⊎-elim}
+use mathlib.Core.Logic.{_⊎_, inl, inr, ⊎-elim}
 use mathlib.Core.List.{List}
 use native.Mathlib.Omega.{arith}
+use native.Mathlib.Nat.{zero-mul, zero-div, mul-le-mul, le-div-iff-mul-le}
 use borrow.Author.Tests.{eq-eqb, ne-eqb}
 use Rattle.meaning.specs.Chain.{M, Chain, denominator, Live}
 use Rattle.meaning.specs.Row.{Row, cell, width}
@@ -12,8 +13,8 @@ use Rattle.meaning.specs.Refusal.{Lent, plain, WellFormed}
 use Rattle.meaning.specs.Near.{digits, spare, nearOutside, nearStage, rowsMade, Near, nearFrom, nearLive, NearFigure, NearOutcome}
 use Rattle.meaning.specs.Miss.{missLive, MissFigure, MissOutcome}
 use Rattle.theory.specs.Numbers.Sum.{same}
-use Rattle.theory.specs.Numbers.Sure.{quotient, sure}
-use Rattle.theory.specs.Numbers.Narrow.{quotient-small, lower-small, upper-small}
+use Rattle.theory.specs.Numbers.Sure.{quotient, sure, lowerOf}
+use Rattle.theory.specs.Numbers.Narrow.{quotient-small, quotient-large, lower-small, upper-small}
 use Rattle.theory.specs.Stages.Last.{Prepared}
 use Rattle.theory.specs.Stages.NearDigits.{near-digits, near-outside-digits}
 use Rattle.theory.specs.Stages.NearLast.{rows-most, last-some, last-twice}
@@ -22,11 +23,19 @@ use Rattle.theory.specs.Outcomes.Whole.{formed-prepared}
 use Rattle.theory.specs.Outcomes.NearHolds.{near-figure}
 use Rattle.theory.specs.Outcomes.MissHolds.{miss-figure}
 
+-- A number has 30 binary digits or more, is 0, or stands over 1.
+abbrev pub Large : ℕ → ℕ → Type 0
+Large p k = (p ≡ 0) ⊎ ((k ≡ 0) ⊎ (2 ^ 29 ≤ p))
+
 -- The numbers of an answer fit: two of 8 bytes and one of 4 hold them.
 pub record NearFits (a : Near) : Type 0 where
   pub lower : a .lower < 2 ^ 32
   pub upper : a .upper ≤ 2 ^ 33
   pub twos : a .twos ≤ 2110
+  pub large : Large (a .lower) (a .twos)
+
+lower-large : (q s : ℕ) → 2 ^ 30 ≤ q → 2 ^ 29 ≤ s → 2 ^ 29 ≤ lowerOf q s
+lower-large q s h l = le-div-iff-mul-le {k = 2 ^ 30} {x = 2 ^ 29} {y = q * s} (omega arith) .1 (omega (arith, mul-le-mul h l))
 
 from-fits : (G D rows : ℕ) → 0 < D → G ≤ 2 * D → digits D ≤ 2079 → rows ≤ 4032 → NearFits (nearFrom G D rows)
 from-fits G D rows some most few less =
@@ -35,6 +44,11 @@ from-fits G D rows some most few less =
       lower = lower-small (quotient G D) (sure rows) q (omega arith);
       upper = omega (arith, upper-small (quotient G D) (sure rows) q (omega arith));
       twos = omega arith;
+      large =
+          ⊎-elim
+          (λ (z : G ≡ 0). let e : quotient G D ≡ 0 = rw (z, zero-mul) (zero-div D) in inl (rw (e, zero-mul) (zero-div (2 ^ 30))))
+          (λ (z : G ≡ 0 → ⊥). inr (inr (lower-large (quotient G D) (sure rows) (quotient-large G D (omega arith) some most) (omega arith))))
+          (same G 0);
     }
 
 module _ (c : Chain) (k : Sets) (o : List ℕ) (ready : Prepared c k o) (few : c .states ≤ 64) (small : (i : ℕ) → i < c .states → denominator c i ≤ M)
@@ -58,7 +72,7 @@ module _ (c : Chain) (k : Sets) (o : List ℕ) (ready : Prepared c k o) (few : c
     miss-fits =
         let T = cell last (c .states + 1) in
         ⊎-elim
-        (λ (z : T ≡ 0). rw (eq-eqb T 0 z) (record { lower = omega arith; upper = omega arith; twos = omega arith }))
+        (λ (z : T ≡ 0). rw (eq-eqb T 0 z) (record { lower = omega arith; upper = omega arith; twos = omega arith; large = inl refl }))
         (λ (z : T ≡ 0 → ⊥). rw (ne-eqb T 0 z) (column-fits T (omega arith)))
         (same T 0)
 
@@ -79,15 +93,15 @@ module _ (l : Lent) (formed : WellFormed plain l) where
   )
 
   near-figure-fits : (a : Near) → NearFigure l a → NearFits a
-  near-figure-fits a (NearFigure.won g e) = subst NearFits (sym e) (record { lower = omega arith; upper = omega arith; twos = omega arith })
-  near-figure-fits a (NearFigure.lost g e) = subst NearFits (sym e) (record { lower = omega arith; upper = omega arith; twos = omega arith })
+  near-figure-fits a (NearFigure.won g e) = subst NearFits (sym e) (record { lower = omega arith; upper = omega arith; twos = omega arith; large = inr (inl refl) })
+  near-figure-fits a (NearFigure.lost g e) = subst NearFits (sym e) (record { lower = omega arith; upper = omega arith; twos = omega arith; large = inl refl })
   near-figure-fits a (NearFigure.live k right alive e) =
       subst NearFits (sym e)
       (near-fits (l .chain) k (l .order) (ready k right) (few-states plain l formed) (denominator-small plain l formed) alive)
 
   miss-figure-fits : (a : Near) → MissFigure l a → NearFits a
-  miss-figure-fits a (MissFigure.won g e) = subst NearFits (sym e) (record { lower = omega arith; upper = omega arith; twos = omega arith })
-  miss-figure-fits a (MissFigure.lost g e) = subst NearFits (sym e) (record { lower = omega arith; upper = omega arith; twos = omega arith })
+  miss-figure-fits a (MissFigure.won g e) = subst NearFits (sym e) (record { lower = omega arith; upper = omega arith; twos = omega arith; large = inl refl })
+  miss-figure-fits a (MissFigure.lost g e) = subst NearFits (sym e) (record { lower = omega arith; upper = omega arith; twos = omega arith; large = inr (inl refl) })
   miss-figure-fits a (MissFigure.live k right alive e) =
       subst NearFits (sym e)
       (miss-fits (l .chain) k (l .order) (ready k right) (few-states plain l formed) (denominator-small plain l formed) alive)

@@ -6,7 +6,7 @@ use mathlib.Core.List.{List, List·Memᴰ·head}
 use native.Mathlib.Omega.{arith}
 use Rattle.meaning.specs.Refusal.{Beyond, Lent, plain, WellFormed}
 use Rattle.meaning.specs.Outcome.{cleared, Answer, refusal, fraction, ChanceOutcome}
-use Rattle.meaning.specs.Copies.{Plan, planOf, mostCopies, mostWeight, CopiesLarge, PlaceFault, Sensible, each, copiesEdges, copiesLent, CopiesOutcome, copies-wrong, weight-wrong, large, planned}
+use Rattle.meaning.specs.Copies.{Plan, planOf, mostCopies, mostWeight, CopiesLarge, PlaceFault, Sensible, each, copiesEdges, copiesLent, PlanRefused, copies-wrong, weight-wrong, CopiesOutcome, refused, large, planned}
 use Rattle.meaning.specs.Cases.{Case, oneCopy}
 use Rattle.theory.specs.Outcomes.Determined.{meet}
 use Rattle.theory.specs.Outcomes.Formed.{formed-fine}
@@ -15,23 +15,27 @@ use Rattle.theory.specs.Outcomes.Listed.{cases-hold}
 use Rattle.theory.specs.Figures.Unique.{chance-one}
 use Rattle.theory.specs.Plans.Formed.{copies-plain}
 
+-- A plan that is refused is not sensible, and its number and place are one.
+pub refused-senseless : {j : Plan} {number place : ℕ} → PlanRefused j number place → Sensible j → ⊥
+refused-senseless (copies-wrong f) s = s .copies f
+refused-senseless (weight-wrong g p f b) s = s .weights p f
+
+pub refused-one : {j : Plan} {number place number′ place′ : ℕ} → PlanRefused j number place → PlanRefused j number′ place′
+    → (number ≡ number′) × (place ≡ place′)
+refused-one (copies-wrong f) (copies-wrong f′) = (refl, refl)
+refused-one (copies-wrong f) (weight-wrong g′ p′ f′ b′) = absurd (g′ f)
+refused-one (weight-wrong g p f b) (copies-wrong f′) = absurd (g f′)
+refused-one (weight-wrong g p f b) (weight-wrong g′ p′ f′ b′) = (refl, meet p p′ (λ h. b′ p h f) (λ h. b p′ h f′))
+
 -- What is answered for one plan is one answer.
 pub copies-one : {j : Plan} {a a′ : Answer} → CopiesOutcome j a → CopiesOutcome j a′ → a ≡ a′
-copies-one (copies-wrong f e) (copies-wrong f′ e′) = e ∙ sym e′
-copies-one (copies-wrong f e) (weight-wrong g′ p′ f′ b′ e′) = absurd (g′ f)
-copies-one (copies-wrong f e) (large s′ n′ e′) = absurd (s′ .copies f)
-copies-one (copies-wrong f e) (planned s′ n′ p′ q′ h′ e′) = absurd (s′ .copies f)
-copies-one (weight-wrong g p f b e) (copies-wrong f′ e′) = absurd (g f′)
-copies-one (weight-wrong g p f b e) (weight-wrong g′ p′ f′ b′ e′) =
-    e ∙ ap (refusal 31) (meet p p′ (λ h. b′ p h f) (λ h. b p′ h f′)) ∙ sym e′
-copies-one (weight-wrong g p f b e) (large s′ n′ e′) = absurd (s′ .weights p f)
-copies-one (weight-wrong g p f b e) (planned s′ n′ p′ q′ h′ e′) = absurd (s′ .weights p f)
-copies-one (large s n e) (copies-wrong f′ e′) = absurd (s .copies f′)
-copies-one (large s n e) (weight-wrong g′ p′ f′ b′ e′) = absurd (s .weights p′ f′)
+copies-one (refused n p f e) (refused n′ p′ f′ e′) = let (x, y) = refused-one f f′ in e ∙ ap₂ refusal x y ∙ sym e′
+copies-one (refused n p f e) (large s′ n′ e′) = absurd (refused-senseless f s′)
+copies-one (refused n p f e) (planned s′ n′ p′ q′ h′ e′) = absurd (refused-senseless f s′)
+copies-one (large s n e) (refused n′ p′ f′ e′) = absurd (refused-senseless f′ s)
 copies-one (large s n e) (large s′ n′ e′) = e ∙ sym e′
 copies-one (large s n e) (planned s′ n′ p′ q′ h′ e′) = absurd (n′ n)
-copies-one (planned s n p q h e) (copies-wrong f′ e′) = absurd (s .copies f′)
-copies-one (planned s n p q h e) (weight-wrong g′ p′ f′ b′ e′) = absurd (s .weights p′ f′)
+copies-one (planned s n p q h e) (refused n′ p′ f′ e′) = absurd (refused-senseless f′ s)
 copies-one (planned s n p q h e) (large s′ n′ e′) = absurd (n n′)
 copies-one {j} (planned s n p q h e) (planned s′ n′ p′ q′ h′ e′) =
     let o = chance-one (formed-fine plain (copiesLent j) (copies-plain s) refl) h h′ in

@@ -10,7 +10,7 @@ use Rattle.meaning.specs.Refusal.{Lent, ownWork, WellFormed}
 use Rattle.meaning.specs.Buffer.{Writing}
 use Rattle.meaning.specs.Write.{FileOf, fileSize, filing, WriteOutcome}
 use Rattle.meaning.specs.Call.{AsksExact, answerLength, answerNumber, CallOutcome}
-use Rattle.meaning.specs.Copies.{mostCopies, Plan, Sensible, copiesStates, copiesEdges, copiesChain, copiesOrder, copiesLent}
+use Rattle.meaning.specs.Copies.{mostCopies, Plan, Sensible, copiesStates, copiesEdges, copiesChain, copiesOrder, copiesLent, noRewards}
 use Rattle.theory.specs.Numbers.Tab.{getD-zeros}
 use Rattle.theory.specs.Files.Written.{formed-written, written-inside, read-back, file-of-same}
 use Rattle.theory.specs.Files.CallFile.{Exactly, call-exactly}
@@ -20,10 +20,6 @@ use Rattle.theory.specs.Plans.Formed.{in-range, copies-formed, copies-pl
 -- How long the longest file of a plan is.
 abbrev pub copiesRoom : ℕ
 copiesRoom = fileSize (mostCopies + 2) (3 * mostCopies + 1)
-
--- Rewards are 0.
-abbrev pub noRewards : Plan → List ℕ
-noRewards j = replicate (copiesStates j) 0
 
 -- What the file of a plan is of.
 abbrev pub copiesFiled : Plan → Lent

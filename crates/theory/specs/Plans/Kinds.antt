@@ -75,7 +75,7 @@ module _ (j : Plan) where
   from-two h x = from-three (omega arith) (is-first two (finishes j) _ two-whole h x)
 
   -- The edges of each kind.
-  losing : (k : ℕ) → k < j .copies → IsEdge (copiesEdges j) k (suc k) (suc k - 1) (suc k * j .loss)
+  pub losing : (k : ℕ) → k < j .copies → IsEdge (copiesEdges j) k (suc k) (suc k - 1) (suc k * j .loss)
   losing k h =
       from-two (omega arith)
       (is-first (losses j) (rebuilds j) _ losses-whole h (is-each _ (λ k. refl) _ k h (is-alone (suc k) (suc k - 1) (suc k * j .loss))))
