@@ -6,3 +6,4 @@ pub mod Ordering
 pub mod Reaching
 pub mod Checking
 pub mod Nearing
+pub mod Limiting

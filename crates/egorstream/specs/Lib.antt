@@ -4,3 +4,4 @@ pub mod Order
 pub mod Reach
 pub mod Check
 pub mod Near
+pub mod Limits

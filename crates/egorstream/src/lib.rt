@@ -1,6 +1,7 @@
 // The calls from C.
 mod call;
 mod check;
+mod limits;
 mod nearly;
 mod order;
 mod reply;
@@ -14,6 +15,8 @@ pub use call::MODE_EXACT;
 pub use call::egorstream_chance;
 pub use check::Checked;
 pub use check::egorstream_check;
+pub use limits::Limited;
+pub use limits::egorstream_limit;
 pub use nearly::Around;
 pub use nearly::Nearness;
 pub use nearly::egorstream_near;

@@ -2,3 +2,4 @@ pub mod Keeping
 pub mod Taking
 pub mod Joined
 pub mod ReadWord
+pub mod LimitWord

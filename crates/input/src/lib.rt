@@ -6,8 +6,12 @@ ghost use Rattle.input.specs.Kept.{fitting, pasted};
 ghost use Rattle.input.specs.Reads.{soFar, Steps, Reads};
 use libc::STDIN_FILENO;
 
+mod limit_word;
 mod word;
 
+pub use limit_word::LIMIT_BYTES;
+pub use limit_word::limit;
+pub use limit_word::word_limit;
 pub use word::DIGITS;
 pub use word::asks_help;
 pub use word::number;

@@ -11,9 +11,9 @@ const HELP: usize = 6;
 const LAST: u64 = 18446744073709551615;
 
 // What a byte stands for that is no digit.
-const NONE: u64 = 10;
+pub(crate) const NONE: u64 = 10;
 
-fn digit(byte: u8) -> u64
+pub(crate) fn digit(byte: u8) -> u64
     ensures { λ r. ⌜ Digit byte r ⌝ }
 {
     if byte < 48 {

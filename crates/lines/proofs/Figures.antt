@@ -1,6 +1,6 @@
 -- A figure and a line of two, from what the pieces write, and the room that they take.
 use Prim.Native.Nat.{ℕ, _+_, _-_, _/_, _%_, _^_, _≤_, _<_}
-use mathlib.Core.Path.{_≡_, refl, sym, ap, subst}
+use mathlib.Core.Path.{_≡_, refl, sym, ap, subst, _∙_}
 use mathlib.Core.Logic.{⊎-elim}
 use mathlib.Core.List.{List, [], _∷_, _++_, append-assoc}
 use native.Mathlib.Omega.{arith}
@@ -14,10 +14,10 @@ use Rattle.theory.specs.Numbers.Sum.{below}
 use Rattle.theory.specs.Numbers.Decimal.{digits}
 use Rattle.chainfile.specs.Written.{Written, Stored}
 use Rattle.chainfile.proofs.Steps.{join, kept}
-use Rattle.chainfile.proofs.Storing.{stored}
+use Rattle.chainfile.proofs.Storing.{stored, stored-unique}
 use Rattle.report.specs.Pieces.{Named}
 use Rattle.report.proofs.Naming.{named-written, named-past}
-use Rattle.lines.specs.Widths.{figureWidth, figuresWidth, Fitted}
+use Rattle.lines.specs.Widths.{figureWidth, figuresWidth, Fitted, FiguresLine, written, full}
 
 -- A point and five digits, each from the number divided.
 pub five-digits : (x a b c d e : ℕ) → a ≡ 48 + x / 10000 % 10 → b ≡ 48 + x / 1000 % 10 → c ≡ 48 + x / 100 % 10 → d ≡ 48 + x / 10 % 10 → e ≡ 48 + x % 10
@@ -89,6 +89,19 @@ module _ (word : List ℕ) {l₀ l₁ : List ℕ} {at i : ℕ} (lower upper : Fi
             (join (join (first .written) (second .written)) end);
         past = omega (arith, end .past, second .past, first .past);
       }
+
+-- Where there is room the line stands; and what is promised of it determines the place and the buffer.
+pub figures-written : {l₀ l₁ word : List ℕ} {at r : ℕ} {lower upper : Figure} → at + figuresWidth word ≤ length l₀ → FiguresLine l₀ at word lower upper l₁ r
+    → Fitted l₀ at (figuresText word lower upper) (figuresWidth word) l₁ r
+figures-written room (written h w) = w
+figures-written room (full h e q) = absurd (omega arith)
+
+pub figures-line-unique : {l₀ l₁ l₁′ word : List ℕ} {at r r′ : ℕ} {lower upper : Figure} → FiguresLine l₀ at word lower upper l₁ r
+    → FiguresLine l₀ at word lower upper l₁′ r′ → (l₁ ≡ l₁′) × (r ≡ r′)
+figures-line-unique (written h w) (written h′ w′) = stored-unique (Stored.written (w .written)) (Stored.written (w′ .written))
+figures-line-unique (written h w) (full h′ e′ q′) = absurd (omega arith)
+figures-line-unique (full h e q) (written h′ w′) = absurd (omega arith)
+figures-line-unique (full h e q) (full h′ e′ q′) = (e ∙ sym e′, q ∙ sym q′)
 
 -- Figures of the numbers of two answers make their text.
 pub near-written : (chance miss : Near) {l₀ l₁ : List ℕ} {r : ℕ} {a b c d : Figure} → a ≡ lowerFigure (chance .lower) (chance .twos)

@@ -6,13 +6,18 @@ ghost use Rattle.meaning.specs.Report.{lineText, answerRoom};
 ghost use Rattle.meaning.specs.Within.{withinText, withinRoom, WithinReportOutcome};
 ghost use Rattle.meaning.specs.Judge.{JudgeReportOutcome};
 ghost use Rattle.meaning.specs.FileNear.{NearReportOutcome};
+ghost use Rattle.meaning.specs.FileLimit.{LimitReportOutcome};
 ghost use Rattle.nearfile.specs.From.{fromOf};
 ghost use Rattle.chainfile.specs.Input.{input};
 ghost use Rattle.chainfile.specs.Written.{Written};
+ghost use Rattle.limit.specs.Told.{told as limitOf};
 ghost use Rattle.report.specs.Stands.{told};
 use equations::PARTS;
 use equations::Parts;
 use equations::Verdict;
+use limit::Limit;
+use limit_line::verdict_line;
+use limitfile::Limited;
 use near::answer::Nearly;
 use nearfile::From;
 use report::Printed;
@@ -21,8 +26,12 @@ use report::pieces::named;
 use report::pieces::put;
 use two_lines::found_lines;
 
+mod limit_line;
+mod two_figures;
 mod two_lines;
 
+pub use limit_line::LIMIT_ROOM;
+pub use two_figures::figures_line;
 pub use two_lines::NEAR_ROOM;
 
 // Room for any line of parts, and with it for that of any refusal.
@@ -100,5 +109,27 @@ pub fn near(kept: &[u8], more: u64, from: From, buffer: &mut [u8]) -> Printed
     match nearfile::near(kept, more, from) {
         Nearly::Found(found) => Printed::Length(found_lines(buffer, found)),
         Nearly::Refused { number, place } => report::answer(number, place, 0, 0, buffer),
+    }
+}
+
+// The line of a chain file's verdict, or of the refusal. `kept` holds the file's first bytes and `more` counts the others.
+pub fn limit(kept: &[u8], more: u64, m: Limit, buffer: &mut [u8]) -> Printed
+    ensures { λ r.
+        let f = input (now (kept .entry)) more in
+        ⌜ LimitReportOutcome f (limitOf m) (now (buffer .entry)) (told r) (now (buffer .exit)) ⌝ }
+{
+    if buffer.len() < LIMIT_ROOM {
+        return Printed::Refused {
+            number: 2,
+            place: 0,
+        };
+    }
+    match limitfile::judge(kept, more, m) {
+        Limited::Judged { verdict, chance } => Printed::Length(verdict_line(
+            buffer,
+            verdict,
+            chance,
+        )),
+        Limited::Refused { number, place } => report::answer(number, place, 0, 0, buffer),
     }
 }

@@ -7,7 +7,7 @@ returns : tie.Need-returns
 returns c =
     let at-second = c .before .before in
     let at-first = at-second .before .before .before .before .before in
-    join (at-first .figures-line .ensures .written) (at-second .figures-line2 .ensures .written)
+    join (at-first .line .ensures .written) (at-second .line2 .ensures .written)
 
 pub near-lines-spec : {M : Type 1} → statement M
 near-lines-spec =
