@@ -1,0 +1,3 @@
+pub mod Told
+pub mod Line
+pub mod Scan
