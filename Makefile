@@ -7,20 +7,24 @@ COPIES ?= 3
 LOSS ?= 1
 REBUILD ?= 20
 FINISH ?= 100
+LIMIT ?= 1e-9
 # From the command line alone: other tools use an OUT or a STATE in the environment.
 OUT =
 STATE =
 
 # Recipes take these from the environment, so that a path may hold any byte.
-export CHAIN STEPS SHARES COPIES LOSS REBUILD FINISH OUT STATE
+export CHAIN STEPS SHARES COPIES LOSS REBUILD FINISH LIMIT OUT STATE
 
-.PHONY: report near steps reorder within check salvage plan help test memory bench fmt clean
+.PHONY: report near limit steps reorder within check salvage plan table fewest help test memory bench fmt clean
 
 report: target/bin/nightchance ## the report of a chain file (CHAIN=)
 	@tests/answered $< <"$$CHAIN"
 
 near: target/bin/nightnear ## its chance, however small, and that of missing (CHAIN=, STATE= for another start)
 	@tests/answered $< $${STATE:+"$$STATE"} <"$$CHAIN"
+
+limit: target/bin/nightlimit ## whether its chance is at most a limit (CHAIN=, LIMIT=)
+	@tests/answered $< "$$LIMIT" <"$$CHAIN"
 
 steps: target/bin/nightsteps ## its step list (CHAIN=)
 	@tests/answered $< <"$$CHAIN"
@@ -39,6 +43,12 @@ salvage: target/bin/salvage ## what is left of it where it is damaged (CHAIN=)
 
 plan: target/bin/plancopies ## the chance that a job loses all its copies (COPIES=, LOSS=, REBUILD=, FINISH=)
 	@tests/answered $< "$$COPIES" "$$LOSS" "$$REBUILD" "$$FINISH"
+
+table: target/bin/plantable ## that chance for 1 to 32 copies, however small (LOSS=, REBUILD=, FINISH=)
+	@tests/answered $< "$$LOSS" "$$REBUILD" "$$FINISH"
+
+fewest: target/bin/fewestcopies ## how many copies keep it at or below a limit (LOSS=, REBUILD=, FINISH=, LIMIT=)
+	@tests/answered $< "$$LOSS" "$$REBUILD" "$$FINISH" "$$LIMIT"
 
 help: ## this list
 	@sed -n 's/^\([a-z]*\):.*## /make \1\t/p' Makefile | expand -t 16

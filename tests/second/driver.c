@@ -2,7 +2,8 @@
  * Calls the C entries on requests that come on standard input, one after the other, so that a program on any machine can try them.
  *
  * A request begins with a 4-byte number in the machine's order: 0 for the chance, 1 for the writer, 2 for the step list, 3 for an order, 4 for
- * the chance within so many steps, 5 for the check of a table, 6 for near chances.
+ * the chance within so many steps, 5 for the check of a table, 6 for near chances, 7 for a limit, 8 for the exact chance of a plan, 9 for its near
+ * chances.
  *
  * The chance: five such numbers (mode, file length, memory length, where the answer begins in the memory, answer length), then the file,
  * then the memory. The reply: two such numbers (what the entry returned, whether the file is unchanged), then the memory as the entry left
@@ -29,19 +30,19 @@
  * (number, place, whether the file is unchanged), then for each of the two chances lower and upper as 8-byte numbers and five of 4 bytes (twos, and of
  * each decimal its digits and tens, lower first).
  *
+ * A limit: five such numbers (file length, the lower half and the upper of the digits, and of the tens), then the file. The reply: four such numbers
+ * (number, place, verdict, whether the file is unchanged).
+ *
+ * A plan: four 8-byte numbers (copies, loss, rebuild, finish). The reply of its exact chance: number, place, then numerator and denominator as 8-byte
+ * numbers; of its near chances: as above, with a file that is unchanged.
+ *
  * A file, a table, a list or a buffer that is empty is handed over as a null pointer. The file, the tables and the memory end where a page begins that nobody may touch: who
  * reads or writes past them is stopped.
  */
 #define _DEFAULT_SOURCE
 
 #include "egorstream.h"
-
-#include <stdbool.h>
-#include <stddef.h>
-#include <stdio.h>
-#include <stdlib.h>
-#include <string.h>
-#include <sys/mman.h>
+#include "lent.h"
 
 /* What document 01 gives for each name of the header. */
 #define IS(name, value) _Static_assert(EGORSTREAM_##name == (value), #name)
@@ -91,78 +92,10 @@ _Static_assert(offsetof(struct egorstream_around, upper_tens) == 32, "upper_tens
 _Static_assert(sizeof(struct egorstream_nearness) == 88, "nearly");
 _Static_assert(offsetof(struct egorstream_nearness, near) == 8, "near");
 
-/* A page, or a multiple of it, on every machine that this runs on. */
-#define PAGE ((size_t)65536)
-
-/* What a room takes with the page behind it. */
-static size_t mapped(size_t length)
-{
-    return (length / PAGE + 2) * PAGE;
-}
-
-static uint8_t *room(size_t length)
-{
-    size_t all = mapped(length);
-    uint8_t *start = mmap(NULL, all, PROT_READ | PROT_WRITE, MAP_PRIVATE | MAP_ANONYMOUS, -1, 0);
-    if (start == MAP_FAILED || mprotect(start + all - PAGE, PAGE, PROT_NONE) != 0) {
-        fputs("driver: no room\n", stderr);
-        exit(1);
-    }
-    return start + all - PAGE - length;
-}
-
-static void leave(uint8_t *bytes, size_t length)
-{
-    munmap(bytes + length + PAGE - mapped(length), mapped(length));
-}
-
-static void take(void *bytes, size_t length)
-{
-    if (length != 0 && fread(bytes, length, 1, stdin) != 1) {
-        fputs("driver: a request is cut short\n", stderr);
-        exit(1);
-    }
-}
-
-/* What a call is handed: a file, of which a copy is kept, and memory that it may write in. */
-struct lent {
-    uint8_t *file, *copy, *memory;
-    size_t file_length, memory_length;
-};
-
-static struct lent lend(size_t file_length, size_t memory_length)
-{
-    struct lent lent = {room(file_length), room(file_length), room(memory_length), file_length, memory_length};
-    take(lent.file, file_length);
-    take(lent.memory, memory_length);
-    memcpy(lent.copy, lent.file, file_length);
-    return lent;
-}
-
-static const uint8_t *file_of(const struct lent *lent)
-{
-    return lent->file_length == 0 ? NULL : lent->file;
-}
-
-static bool unchanged(const struct lent *lent)
-{
-    return memcmp(lent->copy, lent->file, lent->file_length) == 0;
-}
-
-static void tell(const uint32_t *reply, size_t numbers, uint8_t *memory, size_t memory_length)
-{
-    fwrite(reply, sizeof *reply, numbers, stdout);
-    fwrite(memory, 1, memory_length, stdout);
-    fflush(stdout);
-    leave(memory, memory_length);
-}
-
-static void tell_lent(const uint32_t *reply, size_t numbers, const struct lent *lent)
-{
-    tell(reply, numbers, lent->memory, lent->memory_length);
-    leave(lent->copy, lent->file_length);
-    leave(lent->file, lent->file_length);
-}
+_Static_assert(sizeof(struct egorstream_limited) == 12, "limited");
+_Static_assert(offsetof(struct egorstream_limited, verdict) == 8, "verdict");
+_Static_assert(sizeof(struct egorstream_planned) == 24, "planned");
+_Static_assert(offsetof(struct egorstream_planned, numerator) == 8, "numerator");
 
 static void answer(void)
 {
@@ -172,12 +105,6 @@ static void answer(void)
     uint32_t number = egorstream_chance(file_of(&lent), lent.file_length, request[0], lent.memory + request[3], request[4]);
     uint32_t reply[2] = {number, unchanged(&lent)};
     tell_lent(reply, 2, &lent);
-}
-
-/* No number of an answer is so large: one that does not fit shows as one that is not expected. */
-static uint32_t in_four_bytes(uint64_t number)
-{
-    return number > UINT32_MAX ? UINT32_MAX : (uint32_t)number;
 }
 
 static void write_file(void)
@@ -240,13 +167,17 @@ static void choose_order(void)
     tell_lent(reply, 4, &lent);
 }
 
+static uint64_t joined(const uint32_t *halves)
+{
+    return (uint64_t)halves[1] << 32 | halves[0];
+}
+
 static void reach(void)
 {
     uint32_t request[3];
     take(request, sizeof request);
     struct lent lent = lend(request[0], 0);
-    uint64_t steps = (uint64_t)request[2] << 32 | request[1];
-    struct egorstream_reached reached = egorstream_within(file_of(&lent), lent.file_length, steps);
+    struct egorstream_reached reached = egorstream_within(file_of(&lent), lent.file_length, joined(request + 1));
     uint32_t reply[4] = {reached.number, reached.place, in_four_bytes(reached.parts), unchanged(&lent)};
     tell_lent(reply, 4, &lent);
 }
@@ -273,21 +204,60 @@ static void put_share(uint32_t *reply, struct egorstream_around share)
     reply[8] = share.upper_tens;
 }
 
-static void come_near(void)
+/* The numbers of a reply on near chances. */
+#define NEAR 21
+
+static void put_nearly(uint32_t *reply, struct egorstream_nearness nearly, bool file_unchanged)
 {
-    uint32_t request[4];
-    take(request, sizeof request);
-    struct lent lent = lend(request[0], 0);
-    uint64_t state = (uint64_t)request[3] << 32 | request[2];
-    struct egorstream_nearness nearly = request[1] == 0 ? egorstream_near(file_of(&lent), lent.file_length)
-                                                      : egorstream_near_from(file_of(&lent), lent.file_length, state);
-    uint32_t reply[21] = {nearly.number, nearly.place, unchanged(&lent)};
+    reply[0] = nearly.number;
+    reply[1] = nearly.place;
+    reply[2] = file_unchanged;
     put_share(reply + 3, nearly.near);
     put_share(reply + 12, nearly.miss);
-    tell_lent(reply, 21, &lent);
 }
 
-static void (*const KINDS[])(void) = {answer, write_file, list_steps, choose_order, reach, check_table, come_near};
+static void come_near(void)
+{
+    uint32_t request[4], reply[NEAR];
+    take(request, sizeof request);
+    struct lent lent = lend(request[0], 0);
+    struct egorstream_nearness nearly = request[1] == 0 ? egorstream_near(file_of(&lent), lent.file_length)
+                                                      : egorstream_near_from(file_of(&lent), lent.file_length, joined(request + 2));
+    put_nearly(reply, nearly, unchanged(&lent));
+    tell_lent(reply, NEAR, &lent);
+}
+
+static void judge(void)
+{
+    uint32_t request[5];
+    take(request, sizeof request);
+    struct lent lent = lend(request[0], 0);
+    struct egorstream_limited limited = egorstream_limit(file_of(&lent), lent.file_length, joined(request + 1), joined(request + 3));
+    uint32_t reply[4] = {limited.number, limited.place, limited.verdict, unchanged(&lent)};
+    tell_lent(reply, 4, &lent);
+}
+
+static void plan(void)
+{
+    uint64_t plan[4];
+    take(plan, sizeof plan);
+    struct egorstream_planned planned = egorstream_copies(plan[0], plan[1], plan[2], plan[3]);
+    uint32_t reply[6] = {planned.number, planned.place};
+    memcpy(reply + 2, &planned.numerator, sizeof planned.numerator);
+    memcpy(reply + 4, &planned.denominator, sizeof planned.denominator);
+    tell_numbers(reply, 6);
+}
+
+static void plan_near(void)
+{
+    uint64_t plan[4];
+    uint32_t reply[NEAR];
+    take(plan, sizeof plan);
+    put_nearly(reply, egorstream_plan_near(plan[0], plan[1], plan[2], plan[3]), true);
+    tell_numbers(reply, NEAR);
+}
+
+static void (*const KINDS[])(void) = {answer, write_file, list_steps, choose_order, reach, check_table, come_near, judge, plan, plan_near};
 
 int main(void)
 {

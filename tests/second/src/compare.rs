@@ -191,16 +191,31 @@ pub fn plan(tally: &mut Tally, case: Case, words: &[String]) {
     tally.number(Asked::Planner, plan.chance().map_or_else(|refusal| refusal.number, |_| 0));
 }
 
-/// Runs a program that takes so many words on these, and compares its line, and what it tells people.
+/// Runs a program that takes so many words on these, and compares its line, which it hands back, and
+/// what it tells people.
 pub fn with_words(
+    tally: &mut Tally,
+    case: Case,
+    asked: (&str, usize),
+    words: &[String],
+    file: &[u8],
+    expected: &str,
+) -> String {
+    let came = programs::both(asked.0, words, file);
+    said(tally, case, asked, words, file, expected, &came);
+    programs::text(came.map(|(printed, _)| printed))
+}
+
+/// Holds what a program said on both its outputs to what it should.
+pub fn said(
     tally: &mut Tally,
     case: Case,
     (name, wanted): (&str, usize),
     words: &[String],
     file: &[u8],
     expected: &str,
+    came: &io::Result<(Vec<u8>, Vec<u8>)>,
 ) {
-    let came = programs::both(name, words, file);
     let right = came.as_ref().is_ok_and(|(printed, told)| {
         printed == expected.as_bytes() && programs::reminded(name, wanted, words, told)
     });

@@ -14,6 +14,7 @@ use crate::product::{self, Neared};
 use crate::programs;
 use crate::random::Random;
 use crate::refusal::Refusal;
+use crate::report;
 use crate::tally::{Asked, Case, Tally};
 use crate::{chain::Chain, file};
 
@@ -22,12 +23,13 @@ use crate::{chain::Chain, file};
 pub fn entry(tally: &mut Tally, case: Case, file: &[u8], from: Option<u64>) {
     let chain = near::read(file, from);
     let said = chain.as_ref().map(near::of_chain).map_err(|&refusal| refusal);
-    let told = told(&said);
+    let shares = |said: &Nearly| [&said.near, &said.miss].map(Share::of);
+    let told = told(said.as_ref().map(shares).map_err(|&refusal| refusal));
     let came = product::near(file, from);
     compare::same(tally, case, file, (&told, &came), &format!("near chances from {from:?}"));
     tally.number(Asked::Near, told.number);
     if let (Ok(chain), Ok(said), Ok(came @ Neared { number: 0, .. })) = (&chain, &said, &came) {
-        held_to(tally, case, file, chain, said.rows, came);
+        held_to(tally, case, file, (&Exact::of(chain, &Reach::of(chain)), said.rows), came);
         meet(tally, chain, said, &told);
     }
     if from.is_some() {
@@ -51,23 +53,24 @@ pub fn known(tally: &mut Tally, case: Case, file: &[u8], known: &Known) {
 }
 
 /// What the entry must return: on a refusal all but number and place is 0.
-fn told(said: &Result<Nearly, Refusal>) -> Neared {
+pub fn told(said: Result<[Share; 2], Refusal>) -> Neared {
     let file_unchanged = true;
     match said {
-        Ok(Nearly { near, miss, .. }) => {
-            let [near, miss] = [near, miss].map(Share::of);
-            Neared { number: 0, place: 0, near, miss, file_unchanged }
-        }
+        Ok([near, miss]) => Neared { number: 0, place: 0, near, miss, file_unchanged },
         Err(Refusal { number, place }) => {
-            let (number, place) = (*number, *place as u32);
-            Neared { number, place, file_unchanged, ..Neared::default() }
+            Neared { number, place: place as u32, file_unchanged, ..Neared::default() }
         }
     }
 }
 
-/// Holds both figures to the chance of the chain, which no order decides.
-fn held_to(tally: &mut Tally, case: Case, file: &[u8], chain: &Chain, rows: usize, came: &Neared) {
-    let exact = Exact::of(chain, &Reach::of(chain));
+/// Holds both figures to the chance of the chain, which no order decides, after so many rows.
+pub fn held_to(
+    tally: &mut Tally,
+    case: Case,
+    file: &[u8],
+    (exact, rows): (&Exact, usize),
+    came: &Neared,
+) {
     for (share, part) in [(&came.near, &exact.reached), (&came.miss, &exact.missed())] {
         let faults = faults(share, rows, part, &exact.whole);
         tally.check(case, file, faults.is_empty(), || {
@@ -103,11 +106,7 @@ pub fn program(tally: &mut Tally, case: Case, words: &[String], file: &[u8]) {
 pub fn text(tally: &mut Tally, case: Case, words: &[String], file: &[u8], expected: &str) {
     let wanted = words.len().min(1);
     compare::with_words(tally, case, (programs::NIGHTNEAR, wanted), words, file, expected);
-    let number = match expected.split(' ').collect::<Vec<_>>()[..] {
-        ["refused", number, "at", _] => number.parse().expect("a refusal's number"),
-        _ => 0,
-    };
-    tally.number(Asked::NearText, number);
+    tally.number(Asked::NearText, report::number(expected));
 }
 
 /// All that can be asked of a chain of n states by a state, and some that name none.

@@ -6,6 +6,7 @@ use crate::figures;
 use crate::file;
 use crate::live::Reach;
 use crate::met::Met;
+use crate::plan;
 use crate::product::{self, Reached};
 use crate::programs;
 use crate::random::Random;
@@ -73,4 +74,19 @@ pub fn steps(random: &mut Random) -> u64 {
     }
     let most = random.pick(&[3, 3, 24, 100]);
     random.below(most + 1) as u64
+}
+
+/// The words of a number of steps: at times none, two, or one that says no number.
+pub fn words(random: &mut Random) -> Vec<String> {
+    let mut words = vec![steps(random).to_string()];
+    if random.once_in(8) {
+        words[0] = random.pick(&plan::ODD).to_string();
+    }
+    if random.once_in(16) {
+        words.push(random.pick(&plan::ODD).to_string());
+    }
+    if random.once_in(16) {
+        words.clear();
+    }
+    words
 }

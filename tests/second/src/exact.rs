@@ -7,9 +7,12 @@
 
 use crate::chain::Chain;
 use crate::equations;
+use crate::fraction::Fraction;
 use crate::live::Reach;
 use crate::modular::{inverse, multiply, solved, subtract, MANY_PRIMES};
 use crate::natural::Natural;
+use crate::near_text::Decimal;
+use std::cmp::Ordering;
 
 /// A chance: `reached` over `whole`, which is above 0; not in lowest terms.
 #[derive(Debug)]
@@ -42,6 +45,28 @@ impl Exact {
         assert!(left == both(last), "too few primes for a determinant");
         assert!(exact.reached <= exact.whole && !exact.whole.is_zero(), "this is no chance");
         exact
+    }
+
+    /// A chance that is known as a fraction.
+    pub fn known(Fraction { numerator, denominator }: Fraction) -> Exact {
+        let [reached, whole] = [numerator, denominator]
+            .map(|number| Natural::new(number.try_into().expect("it is at most M")));
+        Exact { reached, whole }
+    }
+
+    /// How the chance stands to a decimal, by cross products.
+    pub fn beside(&self, decimal: Decimal) -> Ordering {
+        let ten_to = Natural::ten_to(decimal.tens as usize);
+        self.reached.product(&ten_to).cmp(&self.whole.times(decimal.digits))
+    }
+
+    pub fn at_most(&self, decimal: Decimal) -> bool {
+        self.beside(decimal).is_le()
+    }
+
+    /// Whether the chance is less than another, by cross products.
+    pub fn below(&self, other: &Exact) -> bool {
+        self.reached.product(&other.whole) < other.reached.product(&self.whole)
     }
 
     /// The chance of missing every goal, over the same number.
@@ -78,7 +103,6 @@ fn joined(primes: &[u64], left: &[u64]) -> Natural {
 #[cfg(test)]
 mod tests {
     use super::*;
-    use crate::fraction::Fraction;
     use crate::generate::{draw, FAMILIES};
     use crate::random::Random;
     use crate::worked::{address, chain, no_fit};

@@ -5,6 +5,7 @@ use crate::chain::{Chain, MOST_STATES};
 use crate::compare;
 use crate::compare_check;
 use crate::compare_file;
+use crate::compare_limit;
 use crate::compare_near;
 use crate::compare_salvage;
 use crate::compare_steps;
@@ -13,6 +14,9 @@ use crate::damage::Request;
 use crate::entry::{ANSWER, EXACT};
 use crate::examples::EXAMPLES;
 use crate::file;
+use crate::known_limits;
+use crate::limit::Judged;
+use crate::limit_known::words;
 use crate::near_known;
 use crate::plan::{self, Plan};
 use crate::tally::{Asked, Case, Tally};
@@ -64,13 +68,14 @@ pub fn answers(tally: &mut Tally) {
     }
     for (line, printed) in plan::KNOWN {
         let case = Case { family: "known plans", seed: 0 };
-        let words: Vec<String> = line.split(' ').map(str::to_string).collect();
+        let words = words(line);
         tally.check(case, &[], Plan::of_words(&words).line() == format!("{printed}\n"), || {
             format!("this implementation does not say {printed} of the plan {line}")
         });
         compare::plan(tally, case, &words);
     }
     near_chances(tally);
+    known_limits::answers(tally);
     let zeros = Case { family: "512 zero bytes", seed: 0 };
     compare::report_lines(tally, zeros, &[0; 512], &["refused 23 at 0"]);
     far_too_long(tally);
@@ -123,6 +128,9 @@ fn far_too_long(tally: &mut Tally) {
     for words in [vec![], vec!["0".to_string()], vec!["x".to_string()]] {
         compare_near::program(tally, case, &words, &file);
     }
+    let refusal = Judged::of_file(&file).err().expect("it is refused");
+    compare_limit::entry(tally, case, &file, Err(refusal), (1, 0));
+    compare_limit::program(tally, case, &words("1"), &file, Err(refusal));
     let request = Request { file, mode: EXACT, answer_length: ANSWER };
     compare::entry(tally, case, &request, Asked::EntryOnDamage);
 }

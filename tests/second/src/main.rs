@@ -2,13 +2,13 @@
 //!
 //! It makes chains and damaged requests from fixed seeds, calls the C entries of the product's static
 //! library on all of them and its programs `nightchance`, `nightsteps`, `reorder`, `nightwithin`,
-//! `checkshares`, `nightnear` and `salvage` on a part, runs its program `plancopies` on plans, and
-//! compares every answer with its own. Its last line is `second: N passed, 0 failed`, where N counts
-//! comparisons.
+//! `checkshares`, `nightnear`, `nightlimit` and `salvage` on a part, runs its programs `plancopies`,
+//! `plantable` and `fewestcopies` on plans, and compares every answer with its own. Its last line is
+//! `second: N passed, 0 failed`, where N counts comparisons.
 //!
-//! `cargo run --release` compares, with the word `sample` on a small part of it; `cargo test` tries
-//! this implementation alone on the chains that are worked by hand. The product is sought
-//! below the repository's `target`.
+//! `cargo run --release` compares, with the word `sample` on a small part of it, with `limits` on
+//! limits and plans alone beside what is known beforehand; `cargo test` tries this implementation
+//! alone on the chains that are worked by hand. The product is sought below the repository's `target`.
 
 mod block;
 mod chain;
@@ -18,7 +18,9 @@ mod compare;
 mod compare_check;
 mod compare_choice;
 mod compare_file;
+mod compare_limit;
 mod compare_near;
+mod compare_plans;
 mod compare_salvage;
 mod compare_steps;
 mod compare_within;
@@ -33,11 +35,18 @@ mod entry;
 mod equations;
 mod exact;
 mod examples;
+mod fewest;
 mod figures;
 mod file;
 mod fraction;
 mod generate;
 mod known;
+mod known_limits;
+mod limit;
+mod limit_cases;
+mod limit_chains;
+mod limit_known;
+mod limit_words;
 mod line;
 mod live;
 mod met;
@@ -49,7 +58,9 @@ mod near_held;
 mod near_known;
 mod near_text;
 mod plan;
+mod plan_table;
 mod product;
+mod product_limits;
 mod programs;
 mod random;
 mod refusal;
@@ -62,6 +73,7 @@ mod tables;
 mod tally;
 mod within;
 mod work;
+mod work_limits;
 mod worked;
 mod worked_refused;
 mod worked_salvage;
@@ -71,11 +83,12 @@ use std::env;
 use std::process::ExitCode;
 
 fn main() -> ExitCode {
-    let once_in = match env::args().nth(1).as_deref() {
+    let part = match env::args().nth(1).as_deref() {
         None => work::ALL,
         Some("sample") => work::SAMPLE,
+        Some("limits") => work::LIMITS,
         Some(_) => {
-            eprintln!("usage: second [sample]");
+            eprintln!("usage: second [sample | limits]");
             return ExitCode::FAILURE;
         }
     };
@@ -88,6 +101,9 @@ fn main() -> ExitCode {
         programs::NIGHTNEAR,
         programs::SALVAGE,
         programs::PLANCOPIES,
+        programs::NIGHTLIMIT,
+        programs::PLANTABLE,
+        programs::FEWESTCOPIES,
     ];
     for program in programs.map(programs::program).into_iter().chain([product::driver()]) {
         if !program.is_file() {
@@ -95,7 +111,7 @@ fn main() -> ExitCode {
             return ExitCode::FAILURE;
         }
     }
-    if work::run(once_in).print() {
+    if work::run(part).print() {
         ExitCode::SUCCESS
     } else {
         ExitCode::FAILURE

@@ -1,8 +1,9 @@
 //! The kinds of case that a run must have met.
 
 /// What a call of the step list's entry, of the one that chooses an order, of the one within so many
-/// steps, of the check of a table, of the one for near chances, `nightsteps`, `reorder` or `salvage`
-/// met; each is a line after the table.
+/// steps, of the check of a table, of the one for near chances, of the one for a limit, `nightsteps`,
+/// `reorder`, `salvage`, `nightlimit`, `fewestcopies` or a table of plans met; each is a line after the
+/// table.
 #[derive(Clone, Copy)]
 pub enum Met {
     Through,
@@ -57,10 +58,32 @@ pub enum Met {
     RoundedToOne,
     NearFrom,
     NearFromWrongStart,
+    KeptByFraction,
+    BrokenByFraction,
+    KeptByFigures,
+    BrokenByFigures,
+    OpenLimit,
+    KeptBetween,
+    BrokenBetween,
+    AtLower,
+    AtUpper,
+    AtChance,
+    AtOpenChance,
+    WordOfLimit,
+    WordOfNone,
+    WordOfFigure,
+    Unread,
+    Less,
+    FewestSure,
+    FewestOne,
+    FewestOpen,
+    FewestManyOpen,
+    FewestNone,
+    FewestNoneOpen,
 }
 
 /// Each kind in words, and how often a run meets it at least.
-pub const MET: [(&str, u64); 52] = [
+pub const MET: [(&str, u64); 74] = [
     ("step lists of answers", 5_000),
     ("step lists of answers with no step", 300),
     ("step lists that end in 12 after some steps", 2_000),
@@ -113,4 +136,26 @@ pub const MET: [(&str, u64); 52] = [
     ("near chances whose upper number only rounds to all", 30),
     ("near chances from a state", 1_000),
     ("near chances from a state where the file's start is wrong", 100),
+    ("limits kept by the fraction", 3_000),
+    ("limits broken by the fraction", 3_000),
+    ("limits kept by the figures", 2_000),
+    ("limits broken by the figures", 2_000),
+    ("limits left open", 2_000),
+    ("limits between the figures, kept by the fraction", 500),
+    ("limits between the figures, broken by the fraction", 500),
+    ("limits that are the lower figure, left open", 500),
+    ("limits that are the upper figure, kept by it", 500),
+    ("limits that are the chance, kept by the fraction", 500),
+    ("limits that are the chance, left open", 100),
+    ("words that say a limit", 500),
+    ("words that say none", 300),
+    ("words that are a figure of the chance as it is printed", 30),
+    ("words that say none while no file comes", 10),
+    ("plans whose chance is less than with one copy fewer", 62_000),
+    ("fewest copies with nothing left open", 150),
+    ("fewest copies that are one", 30),
+    ("fewest copies with some left open below", 50),
+    ("fewest copies with two or more left open", 10),
+    ("plans of which none is kept, with nothing left open", 30),
+    ("plans of which none is kept, with some left open", 5),
 ];

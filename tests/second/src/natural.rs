@@ -8,7 +8,8 @@ pub struct Natural(Vec<u64>);
 
 impl Natural {
     pub fn new(number: u64) -> Natural {
-        Natural::of(vec![number])
+        // Most numbers of a row are 0, which takes no memory here and in what is made of it.
+        Natural(if number == 0 { Vec::new() } else { vec![number] })
     }
 
     /// The number with these digits, of which the last may be 0.
@@ -25,7 +26,9 @@ impl Natural {
     }
 
     pub fn ten_to(power: usize) -> Natural {
-        (0..power).fold(Natural::new(1), |number, _| number.times(10))
+        // 19 tens at once, which is as many as 64 bits hold.
+        let many = (0..power / 19).fold(Natural::new(1), |many, _| many.times(10u64.pow(19)));
+        many.times(10u64.pow((power % 19) as u32))
     }
 
     pub fn is_zero(&self) -> bool {
@@ -44,6 +47,9 @@ impl Natural {
 
     /// This number times a small one.
     pub fn times(&self, factor: u64) -> Natural {
+        if self.is_zero() {
+            return Natural::new(0);
+        }
         let mut digits = Vec::with_capacity(self.0.len() + 1);
         let mut carry = 0;
         for &digit in &self.0 {
@@ -103,6 +109,9 @@ impl Natural {
 
     /// This number times 2^power.
     pub fn raised(&self, power: usize) -> Natural {
+        if self.is_zero() {
+            return Natural::new(0);
+        }
         let (whole, part) = (power / 64, power % 64);
         let mut digits = vec![0; whole];
         let mut carry = 0;
@@ -180,6 +189,11 @@ mod tests {
         assert_eq!(most.times(0), Natural::new(0));
         assert_eq!(Natural::ten_to(20).small(), None);
         assert_eq!(Natural::ten_to(19).small(), Some(10_000_000_000_000_000_000));
+        assert_eq!(Natural::ten_to(0), Natural::new(1));
+        assert_eq!(
+            Natural::ten_to(57).times(10),
+            Natural::ten_to(29).product(&Natural::ten_to(29))
+        );
     }
 
     #[test]

@@ -56,8 +56,8 @@ type Row = Vec<Natural>;
 
 /// D of a row: the weights that lead away from its own state, added up.
 fn outside(row: &Row, own: usize) -> Natural {
-    let others: Vec<&Natural> =
-        row.iter().enumerate().filter(|&(column, _)| column != own).map(|(_, x)| x).collect();
+    let others = row.iter().enumerate().filter(|&(column, x)| column != own && !x.is_zero());
+    let others: Vec<&Natural> = others.map(|(_, x)| x).collect();
     let most = others.iter().map(|x| x.digits()).max().unwrap_or(0);
     let lowest = most.saturating_sub(SUMMED);
     let sum = others.iter().fold(Natural::new(0), |sum, x| sum.plus(&cut(x, lowest)));
@@ -103,7 +103,8 @@ impl Table {
 /// A row with a weight to s after s is removed, whose row and D these are.
 fn anew(row: &Row, s: usize, removed: &Row, d: &Natural) -> Row {
     let weight = |column: usize| {
-        if column == s {
+        // Most columns have no weight in either row.
+        if column == s || (row[column].is_zero() && removed[column].is_zero()) {
             return Natural::new(0);
         }
         let sum = row[column].product(d).plus(&row[s].product(&removed[column]));

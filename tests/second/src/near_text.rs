@@ -69,6 +69,12 @@ impl Decimal {
         }
     }
 
+    /// Whether this number is at most the other, by cross products.
+    pub fn at_most(self, other: Decimal) -> bool {
+        let ten_to = |decimal: Decimal| Natural::ten_to(decimal.tens as usize);
+        ten_to(other).times(self.digits) <= ten_to(self).times(other.digits)
+    }
+
     /// As it is printed.
     pub fn text(self) -> String {
         if self == Decimal::ZERO || self == Decimal::ONE {
@@ -182,6 +188,18 @@ mod tests {
         // 2^-1970; 1,970 times the logarithm of 2 is 593.02909.
         let printed = decimals(1 << 30, 1 << 30, 2_000);
         assert_eq!(printed, ["9.35208e-594", "9.35209e-594"]);
+    }
+
+    #[test]
+    fn decimals_are_compared_by_what_they_say() {
+        let quarter =
+            [(25, 2), (250_000, 6), (2_500_000, 7)].map(|(digits, tens)| Decimal { digits, tens });
+        for decimal in quarter {
+            assert!(quarter.iter().all(|&other| decimal.at_most(other)));
+            assert!(decimal.at_most(Decimal { digits: 2_500_001, tens: 7 }));
+            assert!(!decimal.at_most(Decimal { digits: 249_999, tens: 6 }));
+            assert!(decimal.at_most(Decimal::ONE) && !decimal.at_most(Decimal::ZERO));
+        }
     }
 
     #[test]

@@ -35,7 +35,7 @@ impl Plan {
     }
 
     /// 30 for the copies, then 31 at the least place of a weight.
-    fn refusal(&self) -> Option<Refusal> {
+    pub fn refusal(&self) -> Option<Refusal> {
         if !(1..=MOST_COPIES).contains(&self.copies) {
             return Some(Refusal { number: 30, place: 0 });
         }

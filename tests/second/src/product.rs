@@ -15,7 +15,7 @@ pub fn driver() -> PathBuf {
 }
 
 /// A driver that waits for requests.
-struct Driver {
+pub struct Driver {
     process: Child,
     /// Taken away at the end, which tells the driver that no more come.
     requests: Option<ChildStdin>,
@@ -31,24 +31,22 @@ impl Driver {
     }
 
     /// Sends these numbers, these bytes and the memory; takes so many numbers and the memory.
-    fn ask<const N: usize>(
+    pub fn ask<const N: usize>(
         &mut self,
         numbers: &[usize],
         bytes: &[u8],
         memory: &mut [u8],
     ) -> io::Result<[u32; N]> {
+        let number = |&number: &usize| u32::try_from(number).expect("less than 4 GiB");
+        let numbers = numbers.iter().map(number).flat_map(u32::to_ne_bytes);
+        // All at once, because each write and each read is a turn of both processes.
+        let request: Vec<u8> =
+            numbers.chain(bytes.iter().copied()).chain(memory.iter().copied()).collect();
         let requests = self.requests.as_mut().expect("it is piped");
-        for &number in numbers {
-            let number = u32::try_from(number).expect("a request has less than 4 GiB");
-            requests.write_all(&number.to_ne_bytes())?;
-        }
-        requests.write_all(bytes)?;
-        requests.write_all(memory)?;
+        requests.write_all(&request)?;
         requests.flush()?;
         let mut reply = [[0; 4]; N];
-        for number in &mut reply {
-            self.replies.read_exact(number)?;
-        }
+        self.replies.read_exact(reply.as_flattened_mut())?;
         self.replies.read_exact(memory)?;
         Ok(reply.map(u32::from_ne_bytes))
     }
@@ -90,7 +88,8 @@ impl Driver {
     }
 
     fn within(&mut self, file: &[u8], steps: u64) -> io::Result<Reached> {
-        let numbers = [4, file.len(), steps as u32 as usize, (steps >> 32) as usize];
+        let [low, high] = halves(steps);
+        let numbers = [4, file.len(), low, high];
         let [number, place, parts, unchanged] = self.ask(&numbers, file, &mut [])?;
         Ok(Reached { number, place, parts, file_unchanged: unchanged == 1 })
     }
@@ -105,20 +104,9 @@ impl Driver {
     }
 
     fn near(&mut self, file: &[u8], from: Option<u64>) -> io::Result<Neared> {
-        let state = from.unwrap_or(0);
-        let halves = [state as u32 as usize, (state >> 32) as usize];
-        let numbers = [6, file.len(), usize::from(from.is_some()), halves[0], halves[1]];
-        let reply: [u32; 21] = self.ask(&numbers, file, &mut [])?;
-        let eight = |at: usize| u64::from(reply[at + 1]) << 32 | u64::from(reply[at]);
-        let decimal = |at| Decimal { digits: u64::from(reply[at]), tens: reply[at + 1] };
-        let [near, miss] = [3, 12].map(|at| Share {
-            lower: eight(at),
-            upper: eight(at + 2),
-            twos: reply[at + 4],
-            lowest: decimal(at + 5),
-            highest: decimal(at + 7),
-        });
-        Ok(Neared { number: reply[0], place: reply[1], near, miss, file_unchanged: reply[2] == 1 })
+        let [low, high] = halves(from.unwrap_or(0));
+        let numbers = [6, file.len(), usize::from(from.is_some()), low, high];
+        Ok(Neared::of(self.ask(&numbers, file, &mut [])?))
     }
 
     /// How a driver ended on which a call failed with this error.
@@ -158,7 +146,7 @@ pub struct Reply {
 
 /// What a call says. The next call finds a new driver, so that a crash is one failure and the run
 /// goes on.
-fn asked<T>(call: impl FnOnce(&mut Driver) -> io::Result<T>) -> io::Result<T> {
+pub fn asked<T>(call: impl FnOnce(&mut Driver) -> io::Result<T>) -> io::Result<T> {
     DRIVER.with_borrow_mut(|driver| {
         call(driver).map_err(|error| mem::replace(driver, Driver::new()).ended(error))
     })
@@ -260,6 +248,30 @@ pub struct Neared {
     pub near: Share,
     pub miss: Share,
     pub file_unchanged: bool,
+}
+
+impl Neared {
+    /// What the numbers of a reply say.
+    pub fn of(reply: [u32; 21]) -> Neared {
+        let decimal = |at| Decimal { digits: u64::from(reply[at]), tens: reply[at + 1] };
+        let [near, miss] = [3, 12].map(|at| Share {
+            lower: eight_bytes(&reply[at..]),
+            upper: eight_bytes(&reply[at + 2..]),
+            twos: reply[at + 4],
+            lowest: decimal(at + 5),
+            highest: decimal(at + 7),
+        });
+        Neared { number: reply[0], place: reply[1], near, miss, file_unchanged: reply[2] == 1 }
+    }
+}
+
+/// A number of 8 bytes as two of a request, the lower half first, and as two of a reply.
+pub fn halves(number: u64) -> [usize; 2] {
+    [number as u32 as usize, (number >> 32) as usize]
+}
+
+pub fn eight_bytes(reply: &[u32]) -> u64 {
+    u64::from(reply[1]) << 32 | u64::from(reply[0])
 }
 
 /// What the entry of near chances returns, or, where a state is given, the one that starts there.

@@ -7,7 +7,12 @@ use std::io::{self, Write};
 use std::path::{Path, PathBuf};
 use std::process::{self, Child, Command, Output, Stdio};
 use std::sync::atomic::{AtomicU64, Ordering};
-use std::sync::LazyLock;
+use std::sync::{mpsc, LazyLock};
+use std::thread;
+use std::time::Duration;
+
+/// How long a program may take that has nothing to read.
+const PATIENCE: Duration = Duration::from_secs(20);
 
 /// A path below the repository's root.
 pub fn below_root(path: &str) -> PathBuf {
@@ -26,8 +31,13 @@ pub const NIGHTWITHIN: &str = "nightwithin";
 pub const NIGHTNEAR: &str = "nightnear";
 /// The program that is given a table in its working folder too.
 pub const CHECKSHARES: &str = "checkshares";
+/// The program that is given a limit too.
+pub const NIGHTLIMIT: &str = "nightlimit";
 /// The program that is given a plan.
 pub const PLANCOPIES: &str = "plancopies";
+/// Those that are given its weights, and one of them a limit too.
+pub const PLANTABLE: &str = "plantable";
+pub const FEWESTCOPIES: &str = "fewestcopies";
 
 /// Where a program is.
 pub fn program(name: &str) -> PathBuf {
@@ -72,6 +82,26 @@ pub fn both(name: &str, words: &[String], file: &[u8]) -> io::Result<(Vec<u8>, V
     let _ = child.stdin.take().expect("it is piped").write_all(file);
     let output = ended(child)?;
     Ok((output.stdout, output.stderr))
+}
+
+/// The same while its standard input stays open and nothing comes: one that waits for it is told that
+/// nothing will, in the end, and shows as a failure.
+pub fn unread(name: &str, words: &[String]) -> io::Result<(Vec<u8>, Vec<u8>)> {
+    let mut child = start_in(Path::new("."), &program(name), words, Stdio::piped());
+    let input = child.stdin.take().expect("it is piped");
+    let (ends, end) = mpsc::channel();
+    let holder = thread::spawn(move || {
+        let ended = end.recv_timeout(PATIENCE).is_ok();
+        drop(input);
+        ended
+    });
+    let output = ended(child);
+    // Where the holder has gone, it says itself that it waited too long.
+    let _ = ends.send(());
+    if !holder.join().expect("it only waits") {
+        return Err(io::Error::other("it waits for standard input"));
+    }
+    output.map(|output| (output.stdout, output.stderr))
 }
 
 /// Whether a program that takes so many words told people how it is used, as it does where there are

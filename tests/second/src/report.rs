@@ -40,3 +40,11 @@ fn of_chain(chain: &Chain) -> String {
 pub fn refused(refusal: Refusal) -> String {
     format!("refused {} at {}", refusal.number, refusal.place)
 }
+
+/// The number of the refusal that is all that a program printed; 0 where it printed anything else.
+pub fn number(text: &str) -> u32 {
+    match text.split(' ').collect::<Vec<_>>()[..] {
+        ["refused", number, "at", _] => number.parse().expect("a refusal's number"),
+        _ => 0,
+    }
+}

@@ -26,10 +26,38 @@ pub enum Asked {
     SalvageText,
     Near,
     NearText,
+    Limit,
+    LimitText,
+    PlanNear,
+    Copies,
+    TableText,
+    FewestText,
 }
 
-/// The columns of the table.
-const ASKED: usize = 14;
+/// The columns of the table, each with room for the numbers below it.
+const ASKED: usize = 20;
+const HEADINGS: [&str; ASKED] = [
+    "entry on chains",
+    "entry on damage",
+    "reports",
+    "writer",
+    " steps",
+    "printed",
+    " plans",
+    "within",
+    "printed",
+    " check",
+    "printed",
+    "salvage",
+    "  near",
+    "printed",
+    "limits",
+    "printed",
+    "plans near",
+    "plans in C",
+    "tables",
+    "fewest",
+];
 
 /// The numbers that a file's bytes, a mode and an answer's length can give; 0 is an answer. 11 needs
 /// a reward above what two bytes hold; 12 comes from the exact mode alone.
@@ -39,7 +67,7 @@ const NOT_REPORTED: [u32; 2] = [1, 2];
 /// Those that need a mode, which the step list does not have.
 const NOT_LISTED: [u32; 1] = [1];
 /// For each other column the numbers that it can give, and what is asked there in words.
-const COVERED: [(Asked, &[RangeInclusive<u32>], &str); 9] = [
+const COVERED: [(Asked, &[RangeInclusive<u32>], &str); 15] = [
     (Asked::Writer, &[0..=11], "call of the writer"),
     (Asked::Within, &WITHIN, "call within so many steps"),
     (Asked::WithinText, &WITHIN, "text of nightwithin"),
@@ -48,7 +76,13 @@ const COVERED: [(Asked, &[RangeInclusive<u32>], &str); 9] = [
     (Asked::SalvageText, &ALWAYS, "text of salvage"),
     (Asked::Near, &ALWAYS, "call for near chances"),
     (Asked::NearText, &ALWAYS, "text of nightnear"),
-    (Asked::Planner, &[0..=0, 12..=12, 30..=31], "plan"),
+    (Asked::Planner, &PLANNED, "plan"),
+    (Asked::Limit, &LIMITED, "call for a limit"),
+    (Asked::LimitText, &LIMITED, "text of nightlimit"),
+    (Asked::PlanNear, &[0..=0, 30..=31], "call for a plan's near chances"),
+    (Asked::Copies, &PLANNED, "call for a plan"),
+    (Asked::TableText, &[0..=0, 31..=31], "text of plantable"),
+    (Asked::FewestText, &[0..=0, 31..=31, 35..=35], "text of fewestcopies"),
 ];
 /// What needs no mode and no room, and always fits.
 const ALWAYS: [RangeInclusive<u32>; 3] = [0..=0, 3..=10, 20..=24];
@@ -56,6 +90,9 @@ const ALWAYS: [RangeInclusive<u32>; 3] = [0..=0, 3..=10, 20..=24];
 const WITHIN: [RangeInclusive<u32>; 4] = [0..=0, 3..=9, 20..=24, 32..=32];
 /// Nor is it for a table.
 const CHECKED: [RangeInclusive<u32>; 5] = [0..=0, 2..=9, 20..=24, 33..=33, 34..=34];
+/// A limit is looked at before a file that is always answered or refused as such.
+const LIMITED: [RangeInclusive<u32>; 4] = [0..=0, 3..=10, 20..=24, 35..=35];
+const PLANNED: [RangeInclusive<u32>; 3] = [0..=0, 12..=12, 30..=31];
 /// How many different chains a run has at least, and how many that fit in different orders.
 const CHAINS: usize = 20_000;
 const REORDERED: u64 = 300;
@@ -206,20 +243,22 @@ impl Tally {
         self.open_bounds += other.open_bounds;
     }
 
+    /// Prints a line for each number, with how often each column expected it.
+    fn print_numbers(&self) {
+        println!("number   {}", HEADINGS.join("   "));
+        for (number, row) in &self.numbers {
+            let cell = |(heading, count): (&&str, &u64)| format!("{count:0$}", heading.len());
+            let cells: Vec<String> = HEADINGS.iter().zip(row).map(cell).collect();
+            println!("{number:6}   {}", cells.join("   "));
+        }
+    }
+
     /// Prints the failures, the table and the last line; true where nothing failed.
     pub fn print(&self) -> bool {
         for failure in &self.told {
             println!("{failure}");
         }
-        println!("number   entry on chains   entry on damage   reports   writer   steps   printed   plans   within   printed   check   printed   salvage   near    printed");
-        for (number, row) in &self.numbers {
-            let [chains, damage, reports, writes, lists, texts, plans, within, lines, checks, words, saved, near, nearly] =
-                row;
-            println!(
-                "{number:6}   {chains:15}   {damage:15}   {reports:7}   {writes:6}   \
-                 {lists:5}   {texts:7}   {plans:5}   {within:6}   {lines:7}   {checks:5}   {words:7}   {saved:7}   {near:5}   {nearly:7}"
-            );
-        }
+        self.print_numbers();
         let [fractions, infinite, refused] = self.rewards;
         println!("different generated chains: {}", self.chains.len());
         println!("chains that fit in two orders or more: {}", self.reordered);

@@ -22,6 +22,7 @@ use crate::plan::{self, Plan};
 use crate::random::Random;
 use crate::tables::Tables;
 use crate::tally::{Asked, Case, Tally};
+use crate::work_limits;
 use std::collections::HashSet;
 use std::sync::atomic::{AtomicU64, Ordering};
 use std::thread;
@@ -38,6 +39,7 @@ const GROWN: u64 = 600;
 const LOST: u64 = 450 * LOSSES.len() as u64;
 const NEAR: u64 = 300 * NEAR_FAMILIES.len() as u64;
 const PLANS: u64 = 120 * plan::COPIES;
+/// Behind these come those of limits.
 const UNITS: u64 = CHAINS + ORDERED + DAMAGED + LENT + GROWN + LOST + NEAR + PLANS;
 
 /// How many orders each chain of the ordered part is given.
@@ -46,24 +48,32 @@ const ORDERS: usize = 8;
 /// with the numbers of families, so that chains of every family reach the program.
 const REPORT_ONCE_IN: u64 = 23;
 
-/// How many of the units are done: all, or one in so many, which shares no factor with the others.
-pub const ALL: u64 = 1;
-pub const SAMPLE: u64 = 199;
+/// Which units are done: from one on, and one in so many, which shares no factor with the others.
+#[derive(Clone, Copy, PartialEq, Eq)]
+pub struct Part {
+    first: u64,
+    once_in: u64,
+}
 
-/// Does one unit in so many, on as many threads as the machine has cores.
-pub fn run(once_in: u64) -> Tally {
+pub const ALL: Part = Part { first: 0, once_in: 1 };
+pub const SAMPLE: Part = Part { first: 0, once_in: 199 };
+/// Limits and plans alone.
+pub const LIMITS: Part = Part { first: UNITS, once_in: 1 };
+
+/// Does these units, on as many threads as the machine has cores.
+pub fn run(part: Part) -> Tally {
     let mut tally = Tally::default();
     known::answers(&mut tally);
-    let next = AtomicU64::new(0);
+    let next = AtomicU64::new(part.first);
     let threads = thread::available_parallelism().map_or(1, usize::from);
     thread::scope(|scope| {
         let workers: Vec<_> =
-            (0..threads).map(|_| scope.spawn(|| worker(&next, once_in))).collect();
+            (0..threads).map(|_| scope.spawn(|| worker(&next, part.once_in))).collect();
         for worker in workers {
             tally.join(worker.join().expect("a thread of this program failed"));
         }
     });
-    if once_in == ALL {
+    if part == ALL {
         tally.judge_coverage();
     }
     tally
@@ -73,7 +83,7 @@ fn worker(next: &AtomicU64, once_in: u64) -> Tally {
     let mut tally = Tally::default();
     loop {
         let place = next.fetch_add(once_in, Ordering::Relaxed);
-        if place >= UNITS {
+        if place >= UNITS + work_limits::UNITS {
             return tally;
         }
         let seed = Random::new(SEED ^ place).next();
@@ -92,8 +102,10 @@ fn worker(next: &AtomicU64, once_in: u64) -> Tally {
             one_salvage(&mut tally, seed, place);
         } else if place < UNITS - PLANS {
             one_near(&mut tally, seed, place, with_report);
-        } else {
+        } else if place < UNITS {
             one_plan(&mut tally, seed, place);
+        } else {
+            work_limits::unit(&mut tally, seed, place - UNITS);
         }
     }
 }
@@ -123,7 +135,7 @@ fn one_chain(tally: &mut Tally, seed: u64, place: u64, with_report: bool) {
         compare::report(tally, case, &file);
         compare_steps::program(tally, case, &file);
         compare_choice::program(tally, case, &file);
-        compare_within::program(tally, case, &words(&mut random), &file);
+        compare_within::program(tally, case, &compare_within::words(&mut random), &file);
         compare_check::program(tally, case, &file, Some(&table));
         compare_salvage::program(tally, case, &file);
         let words = compare_near::words(&mut random, chain.states());
@@ -184,7 +196,7 @@ fn one_damage(tally: &mut Tally, seed: u64, place: u64, with_report: bool) {
         compare::report(tally, case, &request.file);
         compare_steps::program(tally, case, &request.file);
         compare_choice::program(tally, case, &request.file);
-        compare_within::program(tally, case, &words(&mut random), &request.file);
+        compare_within::program(tally, case, &compare_within::words(&mut random), &request.file);
         compare_check::program(tally, case, &request.file, Some(&table));
         compare_salvage::program(tally, case, &request.file);
         let words = compare_near::words(&mut random, own);
@@ -250,21 +262,6 @@ fn one_near(tally: &mut Tally, seed: u64, place: u64, with_report: bool) {
     if with_report {
         compare_near::program(tally, case, &compare_near::words(&mut random, n), &file);
     }
-}
-
-/// The words of a number of steps: at times none, two, or one that says no number.
-fn words(random: &mut Random) -> Vec<String> {
-    let mut words = vec![compare_within::steps(random).to_string()];
-    if random.once_in(8) {
-        words[0] = random.pick(&plan::ODD).to_string();
-    }
-    if random.once_in(16) {
-        words.push(random.pick(&plan::ODD).to_string());
-    }
-    if random.once_in(16) {
-        words.clear();
-    }
-    words
 }
 
 /// n records, one less, none, or more.
