@@ -1,10 +1,10 @@
 /*
  * The chance that a chain reaches a goal, from the bytes of a chain file; the steps by which it was
- * sought; near chances, which say six digits of a chance however small it is; an order that is chosen for
- * it; the chance within so many steps; whether a table is the chance at every state; and the chain file of
- * a chain, from its tables.
+ * sought; near chances, which say six digits of a chance however small it is; whether it is at most a limit;
+ * an order that is chosen for it; the chance within so many steps; whether a table is the chance at every
+ * state; the chain file of a chain, from its tables; and the chance that a plan loses all its copies.
  *
- * Link with libegorstream.a.
+ * Link with libegorstream.a, for the functions on plans with libegorplans.a.
  */
 #ifndef EGORSTREAM_H
 #define EGORSTREAM_H
@@ -124,6 +124,10 @@ extern "C" {
 
 /* The request is wrong: the caller must be mended. */
 
+/* The copies of a plan are not 1 to 32. Only egorstream_copies and egorstream_plan_near give this and the next. */
+#define EGORSTREAM_COPIES_WRONG UINT32_C(30)
+/* A weight of a plan is not 1 to 1,000,000; the place is 0 for the loss, 1 for the rebuild, 2 for the finish. */
+#define EGORSTREAM_PLAN_WEIGHT_WRONG UINT32_C(31)
 /* More than 1,000 steps. Only egorstream_within gives it, before every other number. */
 #define EGORSTREAM_STEPS_WRONG UINT32_C(32)
 
@@ -133,6 +137,11 @@ extern "C" {
 #define EGORSTREAM_TABLE_DENOMINATOR_WRONG UINT32_C(33)
 /* A numerator is above the table's denominator; the place is the first such state. */
 #define EGORSTREAM_TABLE_NUMERATOR_WRONG UINT32_C(34)
+
+/* The limit is wrong: the caller must be mended. */
+
+/* Digits and tens are no limit. Only egorstream_limit gives it, before every other number. */
+#define EGORSTREAM_LIMIT_WRONG UINT32_C(35)
 
 /*
  * Finds the chance that the chain in a file reaches a goal from its start.
@@ -250,7 +259,7 @@ struct egorstream_around {
 };
 
 /*
- * What egorstream_near and egorstream_near_from answer: 0, 0, the chance of reaching a goal and that of missing
+ * What egorstream_near, egorstream_near_from and egorstream_plan_near answer: 0, 0, the chance of reaching a goal and that of missing
  * every goal; or a refusal's number and place, and else 0.
  */
 struct egorstream_nearness {
@@ -270,7 +279,7 @@ struct egorstream_nearness {
  *                        start before anything of the chain is looked at; EGORSTREAM_START_WRONG where it is
  *                        no state of the chain.
  *
- * The lower number is below 2^32, the upper at most 2^33, the twos at most 2,110, the tens at most 839. Where
+ * The lower number is below 2^32, the upper at most 2^33, the twos at most 2,110, the tens at most 700. Where
  * no goal can be missed, all of the miss is 0.
  *
  * The file is tested first, then the chain, its order included. The place is a block, a state, the index of an
@@ -279,6 +288,36 @@ struct egorstream_nearness {
  */
 struct egorstream_nearness egorstream_near(const uint8_t *file, size_t file_length);
 struct egorstream_nearness egorstream_near_from(const uint8_t *file, size_t file_length, uint64_t state);
+
+/* The verdicts of egorstream_limit: the chance is at most the limit; it is above; it cannot be said. */
+#define EGORSTREAM_KEPT UINT32_C(1)
+#define EGORSTREAM_BROKEN UINT32_C(2)
+#define EGORSTREAM_OPEN UINT32_C(3)
+
+/* What egorstream_limit answers: 0, 0 and the verdict; or a refusal's number and place, and 0. */
+struct egorstream_limited {
+    uint32_t number;
+    uint32_t place;
+    uint32_t verdict;
+};
+
+/*
+ * Says whether the chance of reaching a goal is at most a limit, digits x 10^-tens.
+ *
+ * file, file_length      The bytes of a chain file, as above.
+ * digits, tens           Digits 1 to 9,999,999 and tens 0 to 700, at most 1 together; else EGORSTREAM_LIMIT_WRONG.
+ *                        What egorstream_near answers as digits and tens of a figure above 0 is a limit: to
+ *                        compare two nights, give last night's upper figure.
+ *
+ * Where the exact chance has room, as EGORSTREAM_MODE_EXACT finds it, that decides. Else the figures of
+ * egorstream_near do: kept where the upper one is at most the limit, broken where the lower one is above it,
+ * and open where the limit lies between.
+ *
+ * The limit is tested first, then the file, then the chain, its order included; EGORSTREAM_NO_FIT never comes.
+ * The place is as in egorstream_near. Its tables are its own, as those of egorstream_chance are: the same
+ * stack is enough.
+ */
+struct egorstream_limited egorstream_limit(const uint8_t *file, size_t file_length, uint64_t digits, uint64_t tens);
 
 /* What egorstream_within answers: 0, 0 and the parts; or a refusal's number and place, and 0. */
 struct egorstream_reached {
@@ -374,6 +413,29 @@ struct egorstream_written egorstream_write(uint64_t states, uint64_t start, uint
                                            const uint64_t *order, size_t order_length,
                                            const uint64_t *rewards, size_t rewards_length,
                                            uint8_t *buffer, size_t buffer_length);
+
+/* What egorstream_copies answers: 0, 0 and the chance in lowest terms; or a refusal's number and place, 0 and 0. */
+struct egorstream_planned {
+    uint32_t number;
+    uint32_t place;
+    uint64_t numerator;
+    uint64_t denominator;
+};
+
+/*
+ * Finds the chance that a job loses all its copies before its finish: egorstream_copies as an exact fraction, or
+ * EGORSTREAM_NO_FIT where it has no room, which is common; egorstream_plan_near as egorstream_near does, always.
+ *
+ * copies                 1 to 32, else EGORSTREAM_COPIES_WRONG.
+ * loss, rebuild, finish  1 to 1,000,000, which are compared with each other, else EGORSTREAM_PLAN_WEIGHT_WRONG at
+ *                        0, 1 or 2. With k copies left a loss counts k times and leaves one copy less; a rebuild
+ *                        adds one where some are missing; the finish ends the job well.
+ *
+ * With the same weights, more copies have a strictly smaller chance. The copies are tested first, then the
+ * weights; but for a weight's, a refusal's place is 0.
+ */
+struct egorstream_planned egorstream_copies(uint64_t copies, uint64_t loss, uint64_t rebuild, uint64_t finish);
+struct egorstream_nearness egorstream_plan_near(uint64_t copies, uint64_t loss, uint64_t rebuild, uint64_t finish);
 
 #ifdef __cplusplus
 }
