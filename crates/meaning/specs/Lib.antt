@@ -71,3 +71,7 @@ pub mod FileLimit
 pub mod PlanTable
 -- The fewest copies that keep a limit.
 pub mod Fewest
+-- The text form of chain files.
+pub mod ChainText
+-- The text form of chain files: what is shown, and what is made.
+pub mod Translate

@@ -21,3 +21,5 @@ pub mod Rounds
 pub mod Judging
 -- Limits: a word says one limit, a verdict holds, and what is said of a chain file and a limit is one.
 pub mod Limits
+-- The text form of chain files: a text is of at most one chain with its tables, and what is read from a text is one.
+pub mod Texts

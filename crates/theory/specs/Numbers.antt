@@ -9,6 +9,7 @@ pub mod Gcd
 pub mod Bits
 pub mod Digits
 pub mod Decimal
+pub mod Cut
 pub mod Shift
 pub mod Twos
 pub mod Every

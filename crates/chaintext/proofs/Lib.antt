@@ -1,0 +1,14 @@
+pub mod Reading
+pub mod Words
+pub mod Naming
+pub mod Edges
+pub mod Counts
+pub mod States
+pub mod Orders
+pub mod Goals
+pub mod Turning
+pub mod Adding
+pub mod Splitting
+pub mod Finishing
+pub mod Making
+pub mod Unique
