@@ -2,7 +2,8 @@
  * The chance that a chain reaches a goal, from the bytes of a chain file; the steps by which it was
  * sought; near chances, which say six digits of a chance however small it is; whether it is at most a limit;
  * an order that is chosen for it; the chance within so many steps; whether a table is the chance at every
- * state; the chain file of a chain, from its tables; and the chance that a plan loses all its copies.
+ * state; the chain file of a chain, from its tables; chain files as texts; and the chance that a plan loses
+ * all its copies.
  *
  * Link with libegorstream.a, for the functions on plans with libegorplans.a.
  */
@@ -39,6 +40,10 @@ extern "C" {
 /* The longest chain file: 69 blocks of 512 bytes. */
 #define EGORSTREAM_MOST_FILE_LENGTH (69 * 512)
 
+/* The longest text that egorstream_make takes, and the room that egorstream_show asks for. */
+#define EGORSTREAM_MOST_TEXT_LENGTH 262144
+#define EGORSTREAM_SHOWN_ROOM 429272
+
 /* The most states of a chain: a step list with so many records has room for every chain. */
 #define EGORSTREAM_MOST_STATES 64
 
@@ -51,7 +56,7 @@ extern "C" {
 
 /* What egorstream_chance returns, and the number that the other functions answer. */
 
-/* Not refused: the answer, the list or the file is written, or what is returned says it. */
+/* Not refused: the answer, the list, the file or the text is written, or what is returned says it. */
 #define EGORSTREAM_ANSWERED UINT32_C(0)
 
 /* The request is wrong: the caller must be mended. */
@@ -65,11 +70,12 @@ extern "C" {
 /*
  * The answer has fewer than 16 bytes. For egorstream_steps: the list has fewer records than the chain
  * has states. For egorstream_check: the table does not have four bytes for each state and four more.
- * For egorstream_write: the buffer is shorter than the file.
+ * For egorstream_write: the buffer is shorter than the file. For egorstream_show and egorstream_make: it
+ * has less than EGORSTREAM_SHOWN_ROOM or EGORSTREAM_MOST_FILE_LENGTH bytes.
  */
 #define EGORSTREAM_ANSWER_TOO_SHORT UINT32_C(2)
 
-/* The file is whole, but it or the tables hold no chain: what wrote them must be mended. */
+/* The file is whole, but it, the text or the tables hold no chain: what wrote them must be mended. */
 
 /* The start is no state of the chain. */
 #define EGORSTREAM_START_WRONG UINT32_C(3)
@@ -142,6 +148,16 @@ extern "C" {
 
 /* Digits and tens are no limit. Only egorstream_limit gives it, before every other number. */
 #define EGORSTREAM_LIMIT_WRONG UINT32_C(35)
+
+/* The text is no chain's: what wrote it must be mended. Only egorstream_make gives these. */
+
+/*
+ * A line is wrong; the place is its number, counted from 1 as editors count. Where lines are missing at
+ * the end, it is the number after the last.
+ */
+#define EGORSTREAM_LINE_WRONG UINT32_C(40)
+/* The text is longer than EGORSTREAM_MOST_TEXT_LENGTH. */
+#define EGORSTREAM_TEXT_TOO_LONG UINT32_C(41)
 
 /*
  * Finds the chance that the chain in a file reaches a goal from its start.
@@ -372,7 +388,10 @@ struct egorstream_checked {
 struct egorstream_checked egorstream_check(const uint8_t *file, size_t file_length,
                                            const uint8_t *table, size_t table_length);
 
-/* What egorstream_write answers: 0, 0 and the file's length; or a refusal's number and place, and 0. */
+/*
+ * What egorstream_write and egorstream_make answer: 0, 0 and the file's length; egorstream_show: 0, 0 and
+ * the text's; or a refusal's number and place, and 0.
+ */
 struct egorstream_written {
     uint32_t number;
     uint32_t place;
@@ -413,6 +432,39 @@ struct egorstream_written egorstream_write(uint64_t states, uint64_t start, uint
                                            const uint64_t *order, size_t order_length,
                                            const uint64_t *rewards, size_t rewards_length,
                                            uint8_t *buffer, size_t buffer_length);
+
+/*
+ * Writes the text of a chain file at the front of a buffer, as docs/FILES.md says: one line for each state
+ * and each edge. The chain need not be well formed, so that what the other functions refuse by 3 to 10 can
+ * be looked at: state i stands on line i + 4, and of a chain of n states the order on line n + 4, edge e on
+ * line n + 5 + e.
+ *
+ * file, file_length      The bytes of a chain file, as above.
+ * buffer, buffer_length  EGORSTREAM_SHOWN_ROOM bytes or more, at any alignment. It does not overlap the
+ *                        file.
+ *
+ * The buffer's length is tested first, then the file. On a refusal the whole buffer stays as it was.
+ * Otherwise bytes past the text, which ends in no zero, stay as they were. Its tables are its own, as those
+ * of egorstream_chance are: the same stack is enough.
+ */
+struct egorstream_written egorstream_show(const uint8_t *file, size_t file_length, uint8_t *buffer,
+                                          size_t buffer_length);
+
+/*
+ * Writes the chain file of a text at the front of a buffer. Of a shown text whose chain is well formed it
+ * makes the file again, byte for byte, or for a file of version 1 that of version 2.
+ *
+ * text, text_length      A text as egorstream_show writes it. Empty lines, and lines that begin with #, are
+ *                        passed over. It is only read. A null pointer with length 0 is an empty text.
+ * buffer, buffer_length  EGORSTREAM_MOST_FILE_LENGTH bytes or more, at any alignment. It does not overlap
+ *                        the text.
+ *
+ * The buffer's length is tested first, then the text's, then its lines, then the chain: the least of 3 to
+ * 10 that applies, with its place as egorstream_write has it. On a refusal the whole buffer stays as it was.
+ * Otherwise bytes past the file stay as they were. Its tables are its own: the same stack is enough.
+ */
+struct egorstream_written egorstream_make(const uint8_t *text, size_t text_length, uint8_t *buffer,
+                                          size_t buffer_length);
 
 /* What egorstream_copies answers: 0, 0 and the chance in lowest terms; or a refusal's number and place, 0 and 0. */
 struct egorstream_planned {

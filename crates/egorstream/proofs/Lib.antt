@@ -7,3 +7,4 @@ pub mod Reaching
 pub mod Checking
 pub mod Nearing
 pub mod Limiting
+pub mod Texting

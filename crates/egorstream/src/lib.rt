@@ -6,6 +6,7 @@ mod nearly;
 mod order;
 mod reply;
 mod steps;
+mod texts;
 mod within;
 mod write;
 
@@ -26,6 +27,8 @@ pub use order::egorstream_order;
 pub use reply::ANSWER_LENGTH;
 pub use steps::Stepped;
 pub use steps::egorstream_steps;
+pub use texts::egorstream_make;
+pub use texts::egorstream_show;
 pub use within::Reached;
 pub use within::egorstream_within;
 pub use write::BLOCK_LENGTH;
