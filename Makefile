@@ -1,6 +1,7 @@
 # What a target prints on standard output is what its program printed, and nothing else: building speaks on standard error. tests/answered runs the
 # program and says whether it answered.
 CHAIN ?= examples/address.chain
+TEXT ?= examples/address.text
 STEPS ?= 3
 SHARES ?= examples/address.shares
 COPIES ?= 3
@@ -13,12 +14,18 @@ OUT =
 STATE =
 
 # Recipes take these from the environment, so that a path may hold any byte.
-export CHAIN STEPS SHARES COPIES LOSS REBUILD FINISH LIMIT OUT STATE
+export CHAIN TEXT STEPS SHARES COPIES LOSS REBUILD FINISH LIMIT OUT STATE
 
-.PHONY: report near limit steps reorder within check salvage plan table fewest help test memory bench fmt clean
+.PHONY: report show chain near limit steps reorder within check salvage plan table fewest help test memory bench fmt clean
 
 report: target/bin/nightchance ## the report of a chain file (CHAIN=)
 	@tests/answered $< <"$$CHAIN"
+
+show: target/bin/showchain ## its text (CHAIN=)
+	@tests/answered $< <"$$CHAIN"
+
+chain: target/bin/makechain ## the chain file of a text, on standard output or in a file (TEXT=, OUT=)
+	@tests/answered --out "$$OUT" $< <"$$TEXT"
 
 near: target/bin/nightnear ## its chance, however small, and that of missing (CHAIN=, STATE= for another start)
 	@tests/answered $< $${STATE:+"$$STATE"} <"$$CHAIN"

@@ -1,7 +1,7 @@
 #!/usr/bin/env python3
 """Writes the chain file of a plan to standard output: the chain whose chance plancopies answers.
 
-With --examples it writes the example chain files, and a table of chances, beside this script instead.
+With --examples it writes the examples that makechain does not make of their texts, and plans, beside this script instead.
 Each run writes the same bytes.
 """
 
@@ -33,19 +33,17 @@ def block(version, kind, number, records):
     return body + bytes([first, second])
 
 
-def chain_file(rows, goals, rewards=None, paid=None, start=0, order=None, version=2):
-    """The bytes of a chain file.
+def chain_file(rows, goals, rewards=None, start=0, order=None, version=2):
+    """The bytes of a chain file whose edges have no reward.
 
     rows     for each state, a dictionary of the weight to each target; a row's sum is its
              denominator
     goals    the goal states
     rewards  the reward of each state that has one
-    paid     the reward of each edge, a pair of states, that has one: not in version 1
     order    the order in which states are removed, that of their numbers unless given
     version  of all its blocks; version 1, whose check is weaker, is still read
     """
     rewards = rewards or {}
-    paid = paid or {}
     order = order or list(range(len(rows)))
     edges = [(source, to, weight) for source, row in enumerate(rows) for to, weight in row.items()]
     states = [
@@ -55,23 +53,13 @@ def chain_file(rows, goals, rewards=None, paid=None, start=0, order=None, versio
     kinds = [
         (1, [struct.pack("<BBHI", len(rows), start, len(edges), 0)]),
         (2, states),
-        (3, [struct.pack("<BBHI", *edge[:2], paid.get(edge[:2], 0), edge[2]) for edge in edges]),
+        (3, [struct.pack("<BBHI", source, to, 0, weight) for source, to, weight in edges]),
     ]
     blocks = []
     for kind, records in kinds:
         for i in range(0, len(records), RECORDS_IN_A_BLOCK):
             blocks.append(block(version, kind, len(blocks), records[i : i + RECORDS_IN_A_BLOCK]))
     return b"".join(blocks)
-
-
-def address():
-    """A host picks an address and asks four times whether it is taken. Goal 5: it has a free one.
-
-    Chance 4375/4376.
-    """
-    rows = [{5: 7, 1: 1}] + [{0: 4, probe + 1: 1} for probe in (1, 2, 3)]
-    rows += [{0: 4, 6: 1}, {5: 1}, {6: 1}]
-    return chain_file(rows, goals={5})
 
 
 def dice():
@@ -83,54 +71,6 @@ def dice():
     faces = range(7, 13)
     rows = [{heads: 1, tails: 1} for heads, tails in turns] + [{face: 1} for face in faces]
     return chain_file(rows, goals=set(faces), rewards={state: 1 for state in range(7)}, version=1)
-
-
-def long():
-    """A night of twelve jobs. A job ends well 9,970 times in 10,000; 25 times the night begins
-    again from the first, and 5 times it is lost.
-
-    The exact numbers grow with every job and have no fit; the bounds answer.
-    """
-    jobs, done, lost = 12, 12, 13
-    rows = []
-    for job in range(jobs):
-        row = {job + 1: 9_970, lost: 5}
-        row[0] = row.get(0, 0) + 25
-        rows.append(row)
-    return chain_file(rows + [{done: 1}, {lost: 1}], goals={done})
-
-
-def gateway():
-    """A copy passes four stores in turn. A store hands it on 496 times in 500; 3 times it goes back to the gateway, which sends it to any of
-    the four, and once it is lost.
-
-    0 begun, 1 the gateway, 2 to 5 the stores, 6 all is well, 7 lost: the goal
-
-    The order removes the gateway first, and each store then leads to all four: the exact numbers have no fit after three steps. With the gateway last in the
-    order, as reorder chooses it, they fit: chance 2421953/481015391.
-    """
-    rows = [{1: 1}, {2: 1, 3: 1, 4: 1, 5: 1}]
-    rows += [{store + 1: 496, 1: 3, 7: 1} for store in (2, 3, 4, 5)]
-    return chain_file(rows + [{6: 1}, {7: 1}], goals={7})
-
-
-def backup():
-    """A backup night, in thousandths. The reward of a state is the minutes that a visit takes.
-
-    0 fetched       the day's data lie ready: 990 a copy is begun, 8 they are fetched again, 2 lost
-    1 half written  970 the copy is finished, 20 writing goes on, 9 back to fetched, 1 lost
-    2 copied        all is well
-    3 lost          the goal: nothing brings the data back
-
-    Chance 59/19265: that of a night that ends with no copy. The reward is infinite, because a night that ends well never comes to the goal.
-    """
-    rows = [
-        {1: 990, 0: 8, 3: 2},
-        {2: 970, 1: 20, 0: 9, 3: 1},
-        {2: 1},
-        {3: 1},
-    ]
-    return chain_file(rows, goals={3}, rewards={0: 4, 1: 7})
 
 
 def copies(count=5, loss=3, rebuild=40, finish=500):
@@ -154,21 +94,6 @@ def copies(count=5, loss=3, rebuild=40, finish=500):
 def many():
     """The plan with 32 copies, loss 1, rebuild 20, finish 100: its chance, some 2.7e-33, is far below what the report's bounds can say."""
     return copies(32, 1, 20, 100)
-
-
-def retries():
-    """A backup over a shaky line, in thousandths. The minutes are on the edges: a retry costs what its
-    waiting costs, and what goes well costs what it takes.
-
-    0 fetching   990 go on after 4 minutes, 10 wait 15 minutes and fetch again
-    1 writing    970 end after 7 minutes, 20 wait 30 minutes and write on, 10 fetch again after 12
-    2 done       the goal
-
-    Chance 1/1; the expected minutes of a night are 38209/3201, a little under 12.
-    """
-    rows = [{1: 990, 0: 10}, {2: 970, 1: 20, 0: 10}, {2: 1}]
-    minutes = {(0, 1): 4, (0, 0): 15, (1, 2): 7, (1, 1): 30, (1, 0): 12}
-    return chain_file(rows, goals={2}, paid=minutes)
 
 
 def damaged():
@@ -198,7 +123,7 @@ def address_shares():
 
 def write_examples():
     here = Path(__file__).resolve().parent
-    for make in (address, dice, long, gateway, backup, copies, many, retries, damaged):
+    for make in (dice, copies, many, damaged):
         (here / f"{make.__name__}.chain").write_bytes(make())
     (here / "address.shares").write_bytes(address_shares())
 

@@ -1,7 +1,7 @@
 # What tests/programs and tests/targets have in common, from the repository's root: a folder for what they make, and `said`.
 set -euo pipefail
 # As in a shell of its own, also where make test started it.
-unset MAKEFLAGS MFLAGS MAKELEVEL CHAIN STEPS SHARES COPIES LOSS REBUILD FINISH OUT
+unset MAKEFLAGS MFLAGS MAKELEVEL CHAIN TEXT STEPS SHARES COPIES LOSS REBUILD FINISH OUT
 export LC_ALL=C
 
 trap 'echo "$(basename "$0"): line $LINENO does not hold"' ERR

@@ -3,7 +3,7 @@
  *
  * A request begins with a 4-byte number in the machine's order: 0 for the chance, 1 for the writer, 2 for the step list, 3 for an order, 4 for
  * the chance within so many steps, 5 for the check of a table, 6 for near chances, 7 for a limit, 8 for the exact chance of a plan, 9 for its near
- * chances.
+ * chances; those from 20 on are in driver_text.h.
  *
  * The chance: five such numbers (mode, file length, memory length, where the answer begins in the memory, answer length), then the file,
  * then the memory. The reply: two such numbers (what the entry returned, whether the file is unchanged), then the memory as the entry left
@@ -257,7 +257,9 @@ static void plan_near(void)
     tell_numbers(reply, NEAR);
 }
 
-static void (*const KINDS[])(void) = {answer, write_file, list_steps, choose_order, reach, check_table, come_near, judge, plan, plan_near};
+#include "driver_text.h"
+
+static void (*const KINDS[])(void) = {answer, write_file, list_steps, choose_order, reach, check_table, come_near, judge, plan, plan_near, [20] = show_text, make_file};
 
 int main(void)
 {
@@ -265,5 +267,4 @@ int main(void)
     while (fread(&kind, sizeof kind, 1, stdin) == 1) {
         KINDS[kind]();
     }
-    return 0;
 }

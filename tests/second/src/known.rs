@@ -9,6 +9,7 @@ use crate::compare_limit;
 use crate::compare_near;
 use crate::compare_salvage;
 use crate::compare_steps;
+use crate::compare_text;
 use crate::compare_within;
 use crate::damage::Request;
 use crate::entry::{ANSWER, EXACT};
@@ -20,6 +21,7 @@ use crate::limit_known::words;
 use crate::near_known;
 use crate::plan::{self, Plan};
 use crate::tally::{Asked, Case, Tally};
+use crate::text_work;
 use crate::worked;
 use crate::worked_salvage;
 use crate::worked_steps;
@@ -76,6 +78,7 @@ pub fn answers(tally: &mut Tally) {
     }
     near_chances(tally);
     known_limits::answers(tally);
+    text_work::known(tally);
     let zeros = Case { family: "512 zero bytes", seed: 0 };
     compare::report_lines(tally, zeros, &[0; 512], &["refused 23 at 0"]);
     far_too_long(tally);
@@ -131,6 +134,8 @@ fn far_too_long(tally: &mut Tally) {
     let refusal = Judged::of_file(&file).err().expect("it is refused");
     compare_limit::entry(tally, case, &file, Err(refusal), (1, 0));
     compare_limit::program(tally, case, &words("1"), &file, Err(refusal));
+    compare_text::there_and_back(tally, case, &file, compare_text::ROOM);
+    compare_text::showchain(tally, case, &file);
     let request = Request { file, mode: EXACT, answer_length: ANSWER };
     compare::entry(tally, case, &request, Asked::EntryOnDamage);
 }

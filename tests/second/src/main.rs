@@ -3,12 +3,14 @@
 //! It makes chains and damaged requests from fixed seeds, calls the C entries of the product's static
 //! library on all of them and its programs `nightchance`, `nightsteps`, `reorder`, `nightwithin`,
 //! `checkshares`, `nightnear`, `nightlimit` and `salvage` on a part, runs its programs `plancopies`,
-//! `plantable` and `fewestcopies` on plans, and compares every answer with its own. Its last line is
+//! `plantable` and `fewestcopies` on plans, and compares every answer with its own; so it does with
+//! chains as text, through C, `showchain` and `makechain`. Its last line is
 //! `second: N passed, 0 failed`, where N counts comparisons.
 //!
 //! `cargo run --release` compares, with the word `sample` on a small part of it, with `limits` on
-//! limits and plans alone beside what is known beforehand; `cargo test` tries this implementation
-//! alone on the chains that are worked by hand. The product is sought below the repository's `target`.
+//! limits and plans and with `texts` on texts alone, beside what is known beforehand; `cargo test`
+//! tries this implementation alone on the chains that are worked by hand. The product is sought below
+//! the repository's `target`.
 
 mod block;
 mod chain;
@@ -23,6 +25,7 @@ mod compare_near;
 mod compare_plans;
 mod compare_salvage;
 mod compare_steps;
+mod compare_text;
 mod compare_within;
 mod damage;
 mod damage_check;
@@ -61,6 +64,7 @@ mod plan;
 mod plan_table;
 mod product;
 mod product_limits;
+mod product_text;
 mod programs;
 mod random;
 mod refusal;
@@ -71,6 +75,13 @@ mod step_list;
 mod steps;
 mod tables;
 mod tally;
+mod tally_text;
+mod text;
+mod text_damage;
+mod text_damage_words;
+mod text_known;
+mod text_known_lines;
+mod text_work;
 mod within;
 mod work;
 mod work_limits;
@@ -87,8 +98,9 @@ fn main() -> ExitCode {
         None => work::ALL,
         Some("sample") => work::SAMPLE,
         Some("limits") => work::LIMITS,
+        Some("texts") => work::TEXTS,
         Some(_) => {
-            eprintln!("usage: second [sample | limits]");
+            eprintln!("usage: second [sample | limits | texts]");
             return ExitCode::FAILURE;
         }
     };
@@ -104,6 +116,8 @@ fn main() -> ExitCode {
         programs::NIGHTLIMIT,
         programs::PLANTABLE,
         programs::FEWESTCOPIES,
+        programs::SHOWCHAIN,
+        programs::MAKECHAIN,
     ];
     for program in programs.map(programs::program).into_iter().chain([product::driver()]) {
         if !program.is_file() {

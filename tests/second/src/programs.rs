@@ -38,6 +38,9 @@ pub const PLANCOPIES: &str = "plancopies";
 /// Those that are given its weights, and one of them a limit too.
 pub const PLANTABLE: &str = "plantable";
 pub const FEWESTCOPIES: &str = "fewestcopies";
+/// The programs of a chain's text.
+pub const SHOWCHAIN: &str = "showchain";
+pub const MAKECHAIN: &str = "makechain";
 
 /// Where a program is.
 pub fn program(name: &str) -> PathBuf {

@@ -1,6 +1,7 @@
 //! Counts checks and tells of the first that fail.
 
 use crate::met::{Met, MET};
+use crate::tally_text::Texts;
 use std::collections::{BTreeMap, HashSet};
 use std::hash::{DefaultHasher, Hash, Hasher};
 use std::ops::RangeInclusive;
@@ -121,6 +122,8 @@ pub struct Tally {
     pub open_bounds: u64,
     /// Reports whose reward is a fraction, infinite, and refused.
     pub rewards: [u64; 3],
+    /// What the comparisons of texts met.
+    pub texts: Texts,
 }
 
 impl Tally {
@@ -209,6 +212,9 @@ impl Tally {
         let (chains, reordered) = (self.chains.len(), self.reordered);
         self.cover(chains >= CHAINS, || format!("only {chains} chains differ"));
         self.cover(reordered >= REORDERED, || format!("only {reordered} chains fit in two orders"));
+        for (holds, lacks) in self.texts.judged() {
+            self.cover(holds, || lacks);
+        }
     }
 
     /// Counts one check of what the run itself covers; it is told however many others failed.
@@ -241,6 +247,7 @@ impl Tally {
         self.chains.extend(other.chains);
         self.reordered += other.reordered;
         self.open_bounds += other.open_bounds;
+        self.texts.join(other.texts);
     }
 
     /// Prints a line for each number, with how often each column expected it.
@@ -267,6 +274,7 @@ impl Tally {
             println!("{kind}: {}", self.met(place));
         }
         println!("rewards: {fractions} fractions, {infinite} infinite, {refused} refused");
+        self.texts.print();
         println!("second: {} passed, {} failed", self.passed, self.failed);
         self.failed == 0
     }

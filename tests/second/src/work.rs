@@ -22,6 +22,7 @@ use crate::plan::{self, Plan};
 use crate::random::Random;
 use crate::tables::Tables;
 use crate::tally::{Asked, Case, Tally};
+use crate::text_work;
 use crate::work_limits;
 use std::collections::HashSet;
 use std::sync::atomic::{AtomicU64, Ordering};
@@ -39,8 +40,10 @@ const GROWN: u64 = 600;
 const LOST: u64 = 450 * LOSSES.len() as u64;
 const NEAR: u64 = 300 * NEAR_FAMILIES.len() as u64;
 const PLANS: u64 = 120 * plan::COPIES;
-/// Behind these come those of limits.
+/// Behind these come those of limits, then those of texts.
 const UNITS: u64 = CHAINS + ORDERED + DAMAGED + LENT + GROWN + LOST + NEAR + PLANS;
+const LIMITED: u64 = UNITS + work_limits::UNITS;
+const END: u64 = LIMITED + text_work::UNITS;
 
 /// How many orders each chain of the ordered part is given.
 const ORDERS: usize = 8;
@@ -48,17 +51,19 @@ const ORDERS: usize = 8;
 /// with the numbers of families, so that chains of every family reach the program.
 const REPORT_ONCE_IN: u64 = 23;
 
-/// Which units are done: from one on, and one in so many, which shares no factor with the others.
+/// Which units are done: from one up to another, one in so many, which shares no factor with others.
 #[derive(Clone, Copy, PartialEq, Eq)]
 pub struct Part {
     first: u64,
+    end: u64,
     once_in: u64,
 }
 
-pub const ALL: Part = Part { first: 0, once_in: 1 };
-pub const SAMPLE: Part = Part { first: 0, once_in: 199 };
-/// Limits and plans alone.
-pub const LIMITS: Part = Part { first: UNITS, once_in: 1 };
+pub const ALL: Part = Part { first: 0, end: END, once_in: 1 };
+pub const SAMPLE: Part = Part { first: 0, end: END, once_in: 199 };
+/// Limits and plans alone, and texts alone.
+pub const LIMITS: Part = Part { first: UNITS, end: LIMITED, once_in: 1 };
+pub const TEXTS: Part = Part { first: LIMITED, end: END, once_in: 1 };
 
 /// Does these units, on as many threads as the machine has cores.
 pub fn run(part: Part) -> Tally {
@@ -67,8 +72,7 @@ pub fn run(part: Part) -> Tally {
     let next = AtomicU64::new(part.first);
     let threads = thread::available_parallelism().map_or(1, usize::from);
     thread::scope(|scope| {
-        let workers: Vec<_> =
-            (0..threads).map(|_| scope.spawn(|| worker(&next, part.once_in))).collect();
+        let workers: Vec<_> = (0..threads).map(|_| scope.spawn(|| worker(&next, part))).collect();
         for worker in workers {
             tally.join(worker.join().expect("a thread of this program failed"));
         }
@@ -79,11 +83,11 @@ pub fn run(part: Part) -> Tally {
     tally
 }
 
-fn worker(next: &AtomicU64, once_in: u64) -> Tally {
+fn worker(next: &AtomicU64, part: Part) -> Tally {
     let mut tally = Tally::default();
     loop {
-        let place = next.fetch_add(once_in, Ordering::Relaxed);
-        if place >= UNITS + work_limits::UNITS {
+        let place = next.fetch_add(part.once_in, Ordering::Relaxed);
+        if place >= part.end {
             return tally;
         }
         let seed = Random::new(SEED ^ place).next();
@@ -104,8 +108,11 @@ fn worker(next: &AtomicU64, once_in: u64) -> Tally {
             one_near(&mut tally, seed, place, with_report);
         } else if place < UNITS {
             one_plan(&mut tally, seed, place);
-        } else {
+        } else if place < LIMITED {
             work_limits::unit(&mut tally, seed, place - UNITS);
+        } else {
+            let place = place - LIMITED;
+            text_work::unit(&mut tally, Random::new(SEED ^ place).next(), place);
         }
     }
 }
