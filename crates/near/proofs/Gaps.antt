@@ -1,28 +1,31 @@
 -- Columns that hold nothing: a row that is blended beside them, and what a removal makes of them.
-use Prim.Native.Nat.{ℕ, _+_, _*_, _≤_, _<_}
+use Prim.Native.Nat.{ℕ, zero, suc, _+_, _*_, _/_, _^_, _≤_, _<_}
 use mathlib.Core.Path.{_≡_, refl, sym, ap, subst, _∙_}
 use mathlib.Core.Logic.{⊎-elim}
 use mathlib.Core.Bool.{Bool, true, false}
 use mathlib.Core.List.{List}
 use native.Mathlib.Omega.{arith}
-use native.Mathlib.Nat.{eq-or-lt-of-le}
+use native.Mathlib.Nat.{eq-or-lt-of-le, zero-div}
 use lib.ListN.{length, getD, set, length-set}
 use lib.Dec.{eqb}
 use lib.Seq.{getD-set-same, getD-set-other}
 use borrow.Author.Tests.{eq-eqb, ne-eqb}
+use Rattle.meaning.specs.Number.{sumTo}
+use Rattle.meaning.specs.Near.{digits, longest}
 use Rattle.meaning.specs.Refusal.{workSize}
 use Rattle.theory.specs.Numbers.Sum.{same, below}
+use Rattle.theory.specs.Numbers.Binary.{digits-none}
 use Rattle.theory.specs.Numbers.Tab.{tab-of, getD-zeros}
 use Rattle.engines.specs.Table.{partAt}
 use Rattle.engines.proofs.Tables.{length-row}
 use Rattle.near.specs.Word.{word, value}
-use Rattle.near.specs.Row.{valueAt, leastExponent, lessBy, settledWords, blendedWords}
+use Rattle.near.specs.Row.{valueAt, exponent, leastExponent, lessBy, loweredWords, settledWords, blendedWords}
 use Rattle.near.specs.Step.{pivotAt, sumOf, RemovedWords}
 use Rattle.near.specs.Walk.{Turned}
 use Rattle.near.specs.Gap.{Within, Empty, Gone, Spanned, Widened}
 use Rattle.near.specs.declared.wide.Gap.{Gap}
-use Rattle.near.proofs.Words.{mix-none}
-use Rattle.near.proofs.Rows.{lowered-at, blended-at}
+use Rattle.near.proofs.Words.{value-none, mix-none}
+use Rattle.near.proofs.Rows.{least-most, lowered-at, blended-at}
 use Rattle.near.proofs.Steps.{renewed-own, renewed-none, renewed-some}
 
 -- A loop over some of the columns.
@@ -65,6 +68,53 @@ module _ (d w : ℕ) (p l v u : List ℕ) (g : Gap) (within : Within g (length l
       (λ (y : j < g .to).
       b .before j y ∙ a .after j x ∙ el .nothing j x y ∙ sym (mix-none (getD l j 0) (value d) (value w) (getD p j 0) (el .nothing j x y) (ep .nothing j x y)))
       (λ (y : g .to ≤ j). b .new j y h ∙ ap (λ z. word (value z * value d + value w * valueAt p j)) (a .after j x))
+      (below j (g .to)))
+      (below j (g .from)))
+
+-- What is the same after each number of a range is the same before and behind it.
+flat : (F : ℕ → ℕ) (a b : ℕ) → a ≤ b → ((j : ℕ) → a ≤ j → j < b → F (suc j) ≡ F j) → F b ≡ F a
+flat F a zero h e = let z : a ≡ 0 = omega arith in rw z refl
+flat F a (suc b) h e =
+    ⊎-elim (λ (l : a < suc b). e b (omega arith) (omega arith) ∙ flat F a b (omega arith) (λ j x y. e j x (omega arith)))
+    (λ (l : suc b ≤ a). let z : a ≡ suc b = omega arith in rw z refl)
+    (below a (suc b))
+
+-- The most digits, the sum and the least exponent of a row before the gap are those behind it.
+module _ {g : Gap} {r : List ℕ} (e : Empty g r) (h : g .from ≤ g .to) where
+  pub longest-flat : longest (valueAt r) (g .to) ≡ longest (valueAt r) (g .from)
+  unfolding longest
+  longest-flat =
+      flat (longest (valueAt r)) (g .from) (g .to) h
+      (λ j a b. let z : digits (valueAt r j) ≡ 0 = ap (λ x. digits (value x)) (e .nothing j a b) ∙ ap digits value-none ∙ digits-none in omega (arith, z))
+
+  pub sum-flat : (k : ℕ) → sumTo (λ j. valueAt r j / 2 ^ k) (g .to) ≡ sumTo (λ j. valueAt r j / 2 ^ k) (g .from)
+  unfolding sumTo
+  sum-flat k =
+      flat (sumTo (λ j. valueAt r j / 2 ^ k)) (g .from) (g .to) h
+      (λ j a b.
+      let z : valueAt r j / 2 ^ k ≡ 0 = ap (λ x. value x / 2 ^ k) (e .nothing j a b) ∙ ap (λ x. x / 2 ^ k) value-none ∙ zero-div (2 ^ k) in
+      omega (arith, z))
+
+  pub least-flat : leastExponent (λ j. getD r j 0) (g .to) ≡ leastExponent (λ j. getD r j 0) (g .from)
+  unfolding leastExponent
+  least-flat =
+      flat (leastExponent (λ j. getD r j 0)) (g .from) (g .to) h
+      (λ j a b. let z : exponent (getD r j 0) ≡ 2 ^ 33 = ap exponent (e .nothing j a b) in omega (arith, z, least-most (λ i. getD r i 0) j))
+
+-- A row is lowered before the gap and behind it.
+module _ (k : ℕ) (l v u : List ℕ) (g : Gap) (within : Within g (length l)) (el : Empty g l) where
+  pub spans-lower : Spanned (λ j. lessBy k (getD l j 0)) 0 (g .from) l v → Spanned (λ j. lessBy k (getD v j 0)) (g .to) (length l) v u
+      → u ≡ loweredWords k l
+  unfolding loweredWords
+  spans-lower a b =
+      tab-of 0 (length l) (λ j. lessBy k (getD l j 0)) u (b .len ∙ a .len)
+      (λ j h.
+      ⊎-elim
+      (λ (x : j < g .from). b .before j (omega (arith, within)) ∙ a .new j (omega arith) x)
+      (λ (x : g .from ≤ j).
+      ⊎-elim
+      (λ (y : j < g .to). b .before j y ∙ a .after j x ∙ el .nothing j x y ∙ sym (ap (lessBy k) (el .nothing j x y)))
+      (λ (y : g .to ≤ j). b .new j y h ∙ ap (lessBy k) (a .after j x))
       (below j (g .to)))
       (below j (g .from)))
 

@@ -7,6 +7,7 @@ pub mod Settled
 pub mod Standing
 pub mod Linked
 pub mod Steps
+pub mod Parts
 pub mod Gaps
 pub mod Walks
 pub mod Laid

@@ -23,6 +23,11 @@ unfolding leastExponent
 exponent-above f zero j h = absurd (omega arith)
 exponent-above f (suc n) j h = last-or-below h (λ e. rw e (omega arith)) (λ l. omega (arith, exponent-above f n j l))
 
+pub least-most : (f : ℕ → ℕ) (n : ℕ) → leastExponent f n ≤ 2 ^ 33
+unfolding leastExponent
+least-most f zero = omega arith
+least-most f (suc n) = omega (arith, least-most f n)
+
 -- A word that is 0, and one that is not.
 module _ (w : ℕ) (A : Type 0) (x y : A) where
   pub none-is : w ≡ 0 → choose (eqb w 0) x y ≡ x

@@ -13,7 +13,7 @@ use Rattle.theory.specs.Numbers.Tops.{top-none, top-cut, whole-cut, spare-cut}
 use Rattle.near.specs.Word.{word, value}
 use Rattle.near.specs.Row.{valueAt, exponent, leastExponent, lessBy, settledWords}
 use Rattle.near.proofs.Words.{word-none, value-word, exponent-word, less-word}
-use Rattle.near.proofs.Rows.{none-is, some-is, exponent-above, lowered-at}
+use Rattle.near.proofs.Rows.{none-is, some-is, least-most, exponent-above, lowered-at}
 
 -- The least exponent is that of a word, or more than any word has.
 least-one : (f : ℕ → ℕ) (n : ℕ) → (leastExponent f n ≡ 2 ^ 33) ⊎ ((j : ℕ) × (j < n) × (0 < f j) × (exponent (f j) ≡ leastExponent f n))
@@ -29,10 +29,6 @@ least-one f (suc n) =
     (λ (l : leastExponent f n ≤ exponent (f n)).
     ⊎-elim (λ e. inl (omega (arith, e))) (λ x. inr (x .0, omega (arith, x .1), x .2, omega (arith, x .3))) (least-one f n))
     (below (exponent (f n)) (leastExponent f n))
-  where
-    least-most : (f : ℕ → ℕ) (n : ℕ) → leastExponent f n ≤ 2 ^ 33
-    least-most f zero = omega arith
-    least-most f (suc n) = omega (arith, least-most f n)
 
 module _ (u : List ℕ) (m : ℕ) (len : length u ≡ m) (most : ℕ) (small : most ≤ 2 ^ 20) (proper : (j : ℕ) → j < m → getD u j 0 ≡ word (valueAt u j))
     (few : (j : ℕ) → j < m → digits (valueAt u j) ≤ most)

@@ -1,13 +1,13 @@
 -- The sum of two products, each cut so that the larger keeps 62 digits, has the word of the whole sum.
 use Prim.Native.Nat.{ℕ, _+_, _-_, _*_, _/_, _%_, _^_, _≤_, _<_, max}
 use mathlib.Core.Path.{_≡_, refl, sym, ap, _∙_}
-use mathlib.Core.Logic.{inl, inr, ⊎-elim}
+use mathlib.Core.Logic.{_⊎_, inl, inr, ⊎-elim}
 use native.Mathlib.Omega.{arith}
-use native.Mathlib.Nat.{add-comm, mul-one, div-one, le-div-iff-mul-le, div-eq-of-lt, mod-eq-of-lt, mul-add-div-right, mul-le-mul, mul-mul-mul-comm}
+use native.Mathlib.Nat.{add-comm, mul-comm, zero-mul, mul-one, div-one, le-div-iff-mul-le, div-eq-of-lt, mod-eq-of-lt, mul-add-div-right, mul-le-mul, mul-mul-mul-comm}
 use lib.Pow.{pow-pos, pow-mono, pow-add, shl-shr, shl-lt}
 use Rattle.meaning.specs.Near.{digits, spare}
 use Rattle.theory.specs.Numbers.Sum.{below}
-use Rattle.theory.specs.Numbers.Binary.{has-digits, digits-most, digits-least, digits-power, digits-mono, digits-shift, zeros-split, zeros-cut, cut-small}
+use Rattle.theory.specs.Numbers.Binary.{has-digits, digits-none, digits-most, digits-least, digits-power, digits-mono, digits-shift, zeros-split, zeros-cut, cut-small}
 use Rattle.theory.specs.Numbers.Tops.{Padded}
 use Rattle.near.specs.Word.{word, value}
 use Rattle.near.proofs.Words.{word-cut}
@@ -122,3 +122,31 @@ part-few p x k h l = omega (arith, digits-shift p x h, digits-least p 0 h)
 
 pub part-far : (p c : ℕ) → p < 2 ^ 64 → 64 ≤ c → p / 2 ^ c ≡ 0
 part-far p c h l = div-eq-of-lt (let m : 2 ^ 64 ≤ 2 ^ c = pow-mono l in omega arith)
+
+-- A number whose exponent is given 33 too high.
+pub raised-digits : (p x : ℕ) → 33 ≤ x → ((digits (p * 2 ^ x) ≡ 0) × (digits (p * 2 ^ (x - 33)) ≡ 0)) ⊎ (digits (p * 2 ^ x) ≡ digits (p * 2 ^ (x - 33)) + 33)
+raised-digits p x h =
+    ⊎-elim
+    (λ (o : 0 < p). inr (omega (arith, digits-shift p x o, digits-shift p (x - 33) o)))
+    (λ (o : p ≤ 0).
+    let e : p ≡ 0 = omega arith in
+    inl (ap (λ z. digits (z * 2 ^ x)) e ∙ ap digits (zero-mul (2 ^ x)) ∙ digits-none, ap (λ z. digits (z * 2 ^ (x - 33))) e ∙ ap digits (zero-mul (2 ^ (x - 33))) ∙ digits-none))
+    (below 0 p)
+
+pub raised-part : (p x k : ℕ) → 33 ≤ x → 33 ≤ k → p * 2 ^ x / 2 ^ k ≡ p * 2 ^ (x - 33) / 2 ^ (k - 33)
+raised-part p x k h l =
+    let e : 33 + (k - 33) ≡ k = omega arith in
+    ap (λ z. z / 2 ^ k) (zeros-split p x 33 h)
+    ∙ ap (λ z. p * 2 ^ (x - 33) * 2 ^ 33 / 2 ^ z) (sym e)
+    ∙ zeros-cut (p * 2 ^ (x - 33)) 33 (k - 33)
+
+pub times-small : (p m : ℕ) → p < 2 ^ 31 → m < 2 ^ 31 → p * m < 2 ^ 62
+times-small p m h l =
+    let k : p ≤ 2147483647 = omega arith in
+    let n : m ≤ 2147483647 = omega arith in
+    omega (arith, mul-le-mul k n)
+
+pub times-value : (p y m e : ℕ) → 33 ≤ e → m * 2 ^ (e - 33) * (p * 2 ^ y) ≡ p * m * 2 ^ (y + e - 33)
+times-value p y m e h =
+    let k : y + e - 33 ≡ y + (e - 33) = omega arith in
+    rw (k, pow-add 2 y (e - 33)) (mul-comm _ _ ∙ mul-mul-mul-comm p (2 ^ y) m (2 ^ (e - 33)))

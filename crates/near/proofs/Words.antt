@@ -89,3 +89,6 @@ word-cut v k h =
 -- The sum of two products of which each has a word 0.
 pub mix-none : (x D W p : ℕ) → x ≡ 0 → p ≡ 0 → word (value x * D + W * value p) ≡ 0
 mix-none x D W p e f = rw (e, f, value-none, zero-mul D, mul-zero W) word-none
+
+pub parts-none : (x D W p y : ℕ) → x ≡ 0 → p ≡ 0 → word (value x * D + W * (p * 2 ^ y)) ≡ 0
+parts-none x D W p y e f = rw (e, f, value-none, zero-mul D, zero-mul (2 ^ y), mul-zero W) word-none

@@ -1,5 +1,6 @@
 -- A row of words: what they stand for, its division by a power of two, and the row that takes its place when a state is removed.
-use Prim.Native.Nat.{ℕ, zero, suc, _+_, _-_, _*_, _/_, _^_, min}
+use Prim.Native.Nat.{ℕ, zero, suc, _+_, _-_, _*_, _/_, _^_, _<_, min}
+use mathlib.Core.Path.{_≡_}
 use mathlib.Core.List.{List}
 use lib.ListN.{length, getD, set}
 use lib.Dec.{eqb}
@@ -38,3 +39,13 @@ blendedWords d w p r = tabFrom 0 (length r) (λ j. word (valueAt r j * value d +
 -- A row once state s is removed, whose row p has no weight to itself any more.
 abbrev pub replacedWords : ℕ → ℕ → List ℕ → List ℕ → List ℕ
 replacedWords s d p r = blendedWords d (getD r s 0) p (set r s 0)
+
+-- A list of 68 words in their parts: first digits, and 68 places on how many are left out behind them.
+pub record Parts (l : List ℕ) : Type 0 where
+  pub room : length l ≡ 136
+  pub first : (j : ℕ) → j < 68 → getD l j 0 < 2 ^ 31
+  pub behind : (j : ℕ) → j < 68 → getD l (j + 68) 0 < 2 ^ 33
+
+-- The words.
+unfoldable pub joined : List ℕ → List ℕ
+joined l = tabFrom 0 68 (λ j. getD l (j + 68) 0 * 2 ^ 31 + getD l j 0)

@@ -23,6 +23,7 @@ use crate::answer::missing;
 use crate::row::total;
 use crate::step::pivot_of;
 use crate::walk::eliminate;
+use crate::wide::Gap;
 use chain::Chain;
 use chain::set::holds;
 use engines::laying::Laid;
@@ -41,7 +42,7 @@ fn read_off(work: &[u64], n: usize, start: usize, rows: u64) -> Figures
 {
     let p = pivot_of(work, n, start);
     let m = n + Chain::BESIDE;
-    let d = total(&p[..m]);
+    let d = total(&p[..m], Gap { from: 0, to: 0 });
     let chance = bounds(p[n], d, rows);
     let miss = missing(p[n + 1], d, rows);
     Figures { chance, miss }

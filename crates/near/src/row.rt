@@ -5,7 +5,9 @@ ghost use lib.ListN.{length, getD};
 ghost use Rattle.meaning.specs.Number.{sumTo};
 ghost use Rattle.meaning.specs.Near.{digits, longest, cutSum};
 ghost use Rattle.near.specs.Word.{word, value};
-ghost use Rattle.near.specs.Row.{valueAt, exponent, leastExponent, lessBy, loweredWords, settledWords};
+ghost use Rattle.near.specs.Row.{valueAt, exponent, leastExponent, lessBy, settledWords, Parts, joined};
+ghost use Rattle.near.specs.Gap.{Spanned, Empty, Within};
+use crate::wide::Gap;
 use crate::word::packed;
 use crate::word::part;
 use crate::word::reach;
@@ -25,34 +27,55 @@ fn cut(w: u64, k: u64) -> u64
     part(w % 2147483648, w >> 31, k)
 }
 
-// The most digits that a weight of a row has.
-fn most(row: &[u64]) -> u64
-    ensures { λ r. ⌜ (r ≡ longest (valueAt (now (row .entry))) (length (now (row .entry)))) × (r < 2 ^ 34) ⌝ }
+// The most digits that a weight of a row has in the columns before `to`, where m are the most in those before `from`.
+fn most_on(row: &[u64], m: u64, from: usize, to: usize) -> u64
+    requires { ⌜ (from ≤ to) × (to ≤ length (now row)) × (m ≡ longest (valueAt (now row)) from) × (m < 2 ^ 34) ⌝ }
+    ensures { λ r. ⌜ (r ≡ longest (valueAt (now (row .entry))) to) × (r < 2 ^ 34) ⌝ }
 {
-    let mut m = 0;
-    let mut j = 0;
-    while j < row.len() {
+    let mut most = m;
+    let mut j = from;
+    while j < to {
         let n = weight_digits(row[j]);
-        if m < n {
-            m = n;
+        if most < n {
+            most = n;
         }
         j += 1;
     }
-    m
+    most
+}
+
+// The most digits that a weight of a row has. Nothing stands in the gap.
+fn most(row: &[u64], gap: Gap) -> u64
+    requires { ⌜ Within gap (length (now row)) × Empty gap (now row) ⌝ }
+    ensures { λ r. ⌜ (r ≡ longest (valueAt (now (row .entry))) (length (now (row .entry)))) × (r < 2 ^ 34) ⌝ }
+{
+    let m = most_on(row, 0, 0, gap.from);
+    most_on(row, m, gap.to, row.len())
+}
+
+// The sum of the weights in the columns before `to`, each without its last k digits, where t is that in the columns before `from`.
+fn added_on(row: &[u64], k: u64, t: u64, from: usize, to: usize) -> u64
+    requires { ⌜ (from ≤ to) × (to ≤ length (now row)) × (length (now row) ≤ 128) × (longest (valueAt (now row)) (length (now row)) ≤ k + 56) ⌝ }
+    requires { ⌜ (t ≡ sumTo (λ (j : ℕ). valueAt (now row) j / 2 ^ k) from) × (t ≤ from * 2 ^ 56) ⌝ }
+    ensures { λ r. ⌜ (r ≡ sumTo (λ (j : ℕ). valueAt (now (row .entry)) j / 2 ^ k) to) × (r ≤ to * 2 ^ 56) ⌝ }
+{
+    let mut sum = t;
+    let mut j = from;
+    while j < to {
+        sum += cut(row[j], k);
+        j += 1;
+    }
+    sum
 }
 
 // The sum of the weights of a row, each without its last k digits.
-fn added(row: &[u64], k: u64) -> u64
+fn added(row: &[u64], k: u64, gap: Gap) -> u64
     requires { ⌜ (length (now row) ≤ 128) × (longest (valueAt (now row)) (length (now row)) ≤ k + 56) ⌝ }
+    requires { ⌜ Within gap (length (now row)) × Empty gap (now row) ⌝ }
     ensures { λ r. ⌜ r ≡ sumTo (λ (j : ℕ). valueAt (now (row .entry)) j / 2 ^ k) (length (now (row .entry))) ⌝ }
 {
-    let mut t = 0;
-    let mut j = 0;
-    while j < row.len() {
-        t += cut(row[j], k);
-        j += 1;
-    }
-    t
+    let t = added_on(row, k, 0, 0, gap.from);
+    added_on(row, k, t, gap.to, row.len())
 }
 
 // How many digits are left out where 56 are kept.
@@ -63,12 +86,12 @@ fn past(m: u64) -> u64
 }
 
 // The word of the sum of the weights of a row, each cut where the largest keeps 56 digits.
-pub(crate) fn total(row: &[u64]) -> u64
-    requires { ⌜ length (now row) ≤ 128 ⌝ }
+pub(crate) fn total(row: &[u64], gap: Gap) -> u64
+    requires { ⌜ (length (now row) ≤ 128) × Within gap (length (now row)) × Empty gap (now row) ⌝ }
     ensures { λ r. ⌜ r ≡ word (cutSum (valueAt (now (row .entry))) (length (now (row .entry)))) ⌝ }
 {
-    let k = past(most(row));
-    packed(added(row, k), k)
+    let k = past(most(row, gap));
+    packed(added(row, k, gap), k)
 }
 
 // A word's exponent; for 0 one more than any word has.
@@ -78,22 +101,32 @@ fn exponent_of(w: u64) -> u64
     if w == 0 { 8589934592 } else { w >> 31 }
 }
 
+// The least exponent of the words in the columns before `to`, where k is that of the words before `from`.
+fn least_on(row: &[u64], k: u64, from: usize, to: usize) -> u64
+    requires { ⌜ (from ≤ to) × (to ≤ length (now row)) × (k ≡ leastExponent (λ (j : ℕ). getD (now row) j 0) from) ⌝ }
+    ensures { λ r. ⌜ r ≡ leastExponent (λ (j : ℕ). getD (now (row .entry)) j 0) to ⌝ }
+{
+    let mut least = k;
+    let mut j = from;
+    while j < to {
+        let e = exponent_of(row[j]);
+        if e < least {
+            least = e;
+        }
+        j += 1;
+    }
+    least
+}
+
 // The least exponent of the words of a row.
-fn least(row: &[u64]) -> u64
+fn least(row: &[u64], gap: Gap) -> u64
+    requires { ⌜ Within gap (length (now row)) × Empty gap (now row) ⌝ }
     ensures { λ r.
         let l = now (row .entry) in
         ⌜ r ≡ leastExponent (λ (j : ℕ). getD l j 0) (length l) ⌝ }
 {
-    let mut k = 8589934592;
-    let mut j = 0;
-    while j < row.len() {
-        let e = exponent_of(row[j]);
-        if e < k {
-            k = e;
-        }
-        j += 1;
-    }
-    k
+    let k = least_on(row, 8589934592, 0, gap.from);
+    least_on(row, k, gap.to, row.len())
 }
 
 // The word of the weight divided by 2 ^ k.
@@ -104,25 +137,54 @@ fn less(w: u64, k: u64) -> u64
     if w == 0 { 0 } else { w - (k << 31) }
 }
 
-// Divides each weight of a row by 2 ^ k.
-fn lower(row: &mut [u64], k: u64)
-    requires { ⌜ k ≤ leastExponent (λ (j : ℕ). getD (now row) j 0) (length (now row)) ⌝ }
-    ensures { λ _. ⌜ now (row .exit) ≡ loweredWords k (now (row .entry)) ⌝ }
+// Divides each weight from the column `from` to before `to` by 2 ^ k.
+fn lower_on(row: &mut [u64], k: u64, from: usize, to: usize)
+    requires { ⌜ (from ≤ to) × (to ≤ length (now row)) × ((j : ℕ) → from ≤ j → j < to → k ≤ exponent (getD (now row) j 0)) ⌝ }
+    ensures { λ _.
+        let l = now (row .entry) in
+        ⌜ Spanned (λ (j : ℕ). lessBy k (getD l j 0)) from to l (now (row .exit)) ⌝ }
 {
-    let mut j = 0;
-    while j < row.len() {
+    let mut j = from;
+    while j < to {
         row[j] = less(row[j], k);
         j += 1;
     }
 }
 
 // Divides a row by the power of two with which one of its words leaves out nothing.
-pub(crate) fn settle(row: &mut [u64])
+pub(crate) fn settle(row: &mut [u64], gap: Gap)
+    requires { ⌜ Within gap (length (now row)) × Empty gap (now row) ⌝ }
     ensures { λ _. ⌜ now (row .exit) ≡ settledWords (now (row .entry)) ⌝ }
 {
-    let k = least(row);
+    let k = least(row, gap);
     if k == 0 {
         return;
     }
-    lower(row, k);
+    let m = row.len();
+    lower_on(row, k, 0, gap.from);
+    lower_on(row, k, gap.to, m);
+}
+
+// How many digits a word leaves out.
+fn left_out(w: u64) -> u64
+    ensures { λ r. ⌜ (r ≡ w / 2 ^ 31) × (r < 2 ^ 33) ⌝ }
+{
+    w >> 31
+}
+
+// The words of a row in their parts: first digits, and 68 places on how many are left out behind them.
+pub(crate) fn parts(row: &[u64]) -> [u64; 136]
+    requires { ⌜ length (now row) ≤ 68 ⌝ }
+    ensures { λ r. ⌜ Parts r × ((j : ℕ) → getD (joined r) j 0 ≡ getD (now (row .entry)) j 0) ⌝ }
+{
+    let mut p = [0u64; 136];
+    let mut j = 0;
+    while j < row.len() {
+        let w = row[j];
+        let e = left_out(w);
+        p[j] = w % 2147483648;
+        p[j + 68] = e;
+        j += 1;
+    }
+    p
 }

@@ -10,9 +10,10 @@ ghost use Rattle.meaning.specs.Row.{width};
 ghost use Rattle.meaning.specs.Refusal.{workSize};
 ghost use Rattle.engines.specs.Table.{partAt};
 ghost use Rattle.engines.specs.Gather.{Changed};
-ghost use Rattle.near.specs.Row.{settledWords};
+ghost use Rattle.near.specs.Row.{settledWords, Parts, joined};
 ghost use Rattle.near.specs.Gap.{Within, Empty, Gone};
 ghost use Rattle.near.specs.Step.{renews, renewedWords, rowsAnew, RenewedRows, RemovedBy, RemovedWords};
+use crate::row::parts;
 use crate::row::settle;
 use crate::row::total;
 use crate::wide::Gap;
@@ -22,11 +23,11 @@ use engines::work::clear;
 
 // A row once s is removed: the row of s itself where `own` holds. Answers how many rows are made anew, 1 or 0.
 fn renew(part: &mut [u64], own: bool, s: usize, d: u64, pivot: &[u64], gap: Gap) -> u64
-    requires { ⌜ (length (now part) ≤ length (now pivot)) × (s < length (now part)) × Within gap (length (now part)) ⌝ }
-    requires { ⌜ Empty gap (now part) × Empty gap (now pivot) ⌝ }
+    requires { ⌜ (length (now part) ≤ 68) × (s < length (now part)) × Within gap (length (now part)) × Parts (now pivot) ⌝ }
+    requires { ⌜ Empty gap (now part) × Empty gap (joined (now pivot)) ⌝ }
     ensures { λ r.
         let z = now (part .entry) in
-        ⌜ (now (part .exit) ≡ renewedWords s d (now (pivot .entry)) own z) × (r ≡ only (renews s own z) 1) × (r ≤ 1) ⌝ }
+        ⌜ (now (part .exit) ≡ renewedWords s d (joined (now (pivot .entry))) own z) × (r ≡ only (renews s own z) 1) × (r ≤ 1) ⌝ }
 {
     if own {
         clear(part);
@@ -49,12 +50,12 @@ pub(crate) fn row_start(n: usize, i: usize) -> usize
 
 // Renews row i of the table. The rest of the work table is as it was.
 fn renew_row(work: &mut [u64], i: usize, n: usize, s: usize, d: u64, pivot: &[u64], gap: Gap) -> u64
-    requires { ⌜ (n ≤ mostStates) × (workSize n ≤ length (now work)) × (i < n) × (s < n) × (length (now pivot) ≡ width n) ⌝ }
-    requires { ⌜ Within gap n × Empty gap (partAt n (now work) i) × Empty gap (now pivot) ⌝ }
+    requires { ⌜ (n ≤ mostStates) × (workSize n ≤ length (now work)) × (i < n) × (s < n) × Parts (now pivot) ⌝ }
+    requires { ⌜ Within gap n × Empty gap (partAt n (now work) i) × Empty gap (joined (now pivot)) ⌝ }
     ensures { λ r.
         let w = now (work .entry) in
         let z = partAt n w i in
-        ⌜ Changed n w i (renewedWords s d (now (pivot .entry)) (eqb i s) z) (now (work .exit)) × (r ≡ only (renews s (eqb i s) z) 1) × (r ≤ 1) ⌝ }
+        ⌜ Changed n w i (renewedWords s d (joined (now (pivot .entry))) (eqb i s) z) (now (work .exit)) × (r ≡ only (renews s (eqb i s) z) 1) × (r ≤ 1) ⌝ }
 {
     let a = row_start(n, i);
     let e = a + n + Chain::BESIDE;
@@ -63,9 +64,9 @@ fn renew_row(work: &mut [u64], i: usize, n: usize, s: usize, d: u64, pivot: &[u6
 
 // Renews each row of the table, and answers how many were made anew.
 fn renew_all(work: &mut [u64], n: usize, s: usize, d: u64, pivot: &[u64], gap: Gap) -> u64
-    requires { ⌜ (n ≤ mostStates) × (workSize n ≤ length (now work)) × (s < n) × (length (now pivot) ≡ width n) ⌝ }
-    requires { ⌜ Gone n gap (now work) × Empty gap (now pivot) ⌝ }
-    ensures { λ r. ⌜ RenewedRows n s d (now (pivot .entry)) n (now (work .entry)) (now (work .exit)) r ⌝ }
+    requires { ⌜ (n ≤ mostStates) × (workSize n ≤ length (now work)) × (s < n) × Parts (now pivot) ⌝ }
+    requires { ⌜ Gone n gap (now work) × Empty gap (joined (now pivot)) ⌝ }
+    ensures { λ r. ⌜ RenewedRows n s d (joined (now (pivot .entry))) n (now (work .entry)) (now (work .exit)) r ⌝ }
 {
     let mut rows = 0;
     let mut i = 0;
@@ -107,9 +108,10 @@ fn remove_by(work: &mut [u64], n: usize, s: usize, pivot: &mut [u64], gap: Gap) 
     requires { ⌜ Gone n gap (now work) × Empty gap (now pivot) ⌝ }
     ensures { λ r. ⌜ RemovedBy n s (settledWords (now (pivot .entry))) (now (work .entry)) (now (work .exit)) r ⌝ }
 {
-    settle(pivot);
-    let d = total(pivot);
-    renew_all(work, n, s, d, pivot, gap)
+    settle(pivot, gap);
+    let d = total(pivot, gap);
+    let p = parts(pivot);
+    renew_all(work, n, s, d, &p, gap)
 }
 
 // Removes the state s from the table, and answers how many rows were made anew.

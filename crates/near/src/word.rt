@@ -5,6 +5,7 @@ ghost use Prim.Native.Nat.{_+_, _-_, _*_, _/_, _%_, _^_, _<_, _≤_, max};
 ghost use Rattle.meaning.specs.Near.{digits};
 ghost use Rattle.near.specs.Word.{word, value};
 ghost use Rattle.near.specs.Split.{Small, valueOf};
+use std::num::wrapping_sub_u64;
 
 // How many binary digits a number has.
 pub(crate) fn digits_of(p: u64) -> u64
@@ -21,15 +22,16 @@ pub(crate) fn reach(p: u64, x: u64) -> u64
     if p == 0 { 0 } else { x + digits_of(p) }
 }
 
-// How many digits two numbers are cut by such that the larger keeps 62.
+// How many digits two numbers are cut by such that the larger keeps 62. It is given 33 too high, as x and y are.
 fn cut_at(p: u64, x: u64, q: u64, y: u64) -> u64
-    requires { ⌜ (x < 2 ^ 35) × (y < 2 ^ 35) ⌝ }
-    ensures { λ r. ⌜ (r ≡ max (digits (p * 2 ^ x)) (digits (q * 2 ^ y)) - 62) × (r < 2 ^ 36) ⌝ }
+    requires { ⌜ (33 ≤ x) × (x < 2 ^ 35) × (33 ≤ y) × (y < 2 ^ 35) ⌝ }
+    ensures { λ r. ⌜ (r ≡ max (digits (p * 2 ^ (x - 33))) (digits (q * 2 ^ (y - 33))) - 62 + 33) × (r < 2 ^ 36)
+        × (digits (p * 2 ^ x) ≤ r + 62) × (digits (q * 2 ^ y) ≤ r + 62) ⌝ }
 {
     let a = reach(p, x);
     let b = reach(q, y);
     let m = if a < b { b } else { a };
-    if m < 62 { 0 } else { m - 62 }
+    if m < 95 { 33 } else { m - 62 }
 }
 
 // p * 2 ^ x without its last k digits.
@@ -60,21 +62,21 @@ pub(crate) fn packed(s: u64, k: u64) -> u64
     ((k + c) << 31) + (s >> c)
 }
 
-// The word of p * 2 ^ x + q * 2 ^ y, whatever the two are: each is cut such that the larger keeps 62 digits.
+// The word of p * 2 ^ x + q * 2 ^ y, where x and y are given 33 too high, whatever the two are: each is cut such that the larger keeps 62 digits.
 fn sum_cut(p: u64, x: u64, q: u64, y: u64) -> u64
-    requires { ⌜ (p < 2 ^ 62) × (x < 2 ^ 35) × (q < 2 ^ 62) × (y < 2 ^ 35) ⌝ }
-    ensures { λ r. ⌜ r ≡ word (p * 2 ^ x + q * 2 ^ y) ⌝ }
+    requires { ⌜ (p < 2 ^ 62) × (33 ≤ x) × (x < 2 ^ 35) × (q < 2 ^ 62) × (33 ≤ y) × (y < 2 ^ 35) ⌝ }
+    ensures { λ r. ⌜ r ≡ word (p * 2 ^ (x - 33) + q * 2 ^ (y - 33)) ⌝ }
 {
     let k = cut_at(p, x, q, y);
-    packed(part(p, x, k) + part(q, y, k), k)
+    packed(part(p, x, k) + part(q, y, k), k - 33)
 }
 
-// The same, where the sum has few digits: mostly it is that of first weights, which leave out none.
+// The same, where the sum may have few digits: mostly it is that of first weights, which leave out none.
 fn sum_short(p: u64, x: u64, q: u64, y: u64) -> u64
-    requires { ⌜ (p < 2 ^ 62) × (x < 2 ^ 35) × (q < 2 ^ 62) × (y ≤ x) ⌝ }
-    ensures { λ r. ⌜ r ≡ word (p * 2 ^ x + q * 2 ^ y) ⌝ }
+    requires { ⌜ (p < 2 ^ 62) × (33 ≤ x) × (x < 2 ^ 35) × (q < 2 ^ 62) × (33 ≤ y) × (y < 2 ^ 35) ⌝ }
+    ensures { λ r. ⌜ r ≡ word (p * 2 ^ (x - 33) + q * 2 ^ (y - 33)) ⌝ }
 {
-    if x == 0 {
+    if x + y == 66 {
         return packed(p + q, 0);
     }
     sum_cut(p, x, q, y)
@@ -89,32 +91,20 @@ fn packed_long(s: u64, k: u64) -> u64
     ((k - z) << 31) + ((s << z) >> 33)
 }
 
-// The word of p * 2 ^ x + q * 2 ^ y, where x and y are given 33 too high and x is no less than y: without its last x digits the sum is p and what is
-// left of q, and mostly has its 31 digits.
-fn sum_aligned(p: u64, x: u64, q: u64, y: u64) -> u64
-    requires { ⌜ (p < 2 ^ 62) × (x < 2 ^ 35) × (q < 2 ^ 62) × (33 ≤ y) × (y ≤ x) ⌝ }
-    ensures { λ r. ⌜ r ≡ word (p * 2 ^ (x - 33) + q * 2 ^ (y - 33)) ⌝ }
-{
-    let c = x - y;
-    if 64 <= c {
-        return sum_cut(p, x - 33, q, y - 33);
-    }
-    let s = p + (q >> c);
-    if s < 1073741824 {
-        return sum_short(p, x - 33, q, y - 33);
-    }
-    packed_long(s, x)
-}
-
-// The same, whatever the two are. Mostly it is the row's own weight that leaves out more.
+// The same. Mostly x is no less than y: without its last x digits the sum is p and what is left of q then, and mostly has its 31 digits.
 fn sum(p: u64, x: u64, q: u64, y: u64) -> u64
     requires { ⌜ (p < 2 ^ 62) × (33 ≤ x) × (x < 2 ^ 35) × (q < 2 ^ 62) × (33 ≤ y) × (y < 2 ^ 35) ⌝ }
     ensures { λ r. ⌜ r ≡ word (p * 2 ^ (x - 33) + q * 2 ^ (y - 33)) ⌝ }
 {
-    if x < y {
-        return sum_cut(p, x - 33, q, y - 33);
+    let c = wrapping_sub_u64(x, y);
+    if 64 <= c {
+        return sum_short(p, x, q, y);
     }
-    sum_aligned(p, x, q, y)
+    let s = p + (q >> c);
+    if s < 1073741824 {
+        return sum_short(p, x, q, y);
+    }
+    packed_long(s, x)
 }
 
 // A word in two parts: its first digits, and how many it leaves out, 33 too high.
@@ -140,25 +130,33 @@ fn product(a: u64, m: u64) -> u64
     (a % 2147483648) * m
 }
 
-// The word of one product, of the words p and w.
-pub(crate) fn lone(p: u64, w: Split) -> u64
-    requires { ⌜ Small w ⌝ }
-    ensures { λ r. ⌜ r ≡ word (valueOf w * value p) ⌝ }
+// The product of the first digits of two weights.
+fn times(p: u64, m: u64) -> u64
+    requires { ⌜ (p < 2 ^ 31) × (m < 2 ^ 31) ⌝ }
+    ensures { λ r. ⌜ (r ≡ p * m) × (r < 2 ^ 62) ⌝ }
 {
-    let s = product(p, w.first);
-    let f = (p >> 31) + w.behind;
+    p * m
+}
+
+// The word of one product, of p * 2 ^ y and w.
+pub(crate) fn lone(p: u64, y: u64, w: Split) -> u64
+    requires { ⌜ (p < 2 ^ 31) × (y < 2 ^ 33) × Small w ⌝ }
+    ensures { λ r. ⌜ r ≡ word (valueOf w * (p * 2 ^ y)) ⌝ }
+{
+    let s = times(p, w.first);
+    let f = y + w.behind;
     if s < 1073741824 {
-        return sum_cut(s, f - 33, 0, 0);
+        return sum_cut(s, f, 0, 33);
     }
     packed_long(s, f)
 }
 
-// The word of the sum of two products: of the words x and d, and of p and w.
-pub(crate) fn mix(x: u64, d: Split, p: u64, w: Split) -> u64
-    requires { ⌜ Small d × Small w ⌝ }
-    ensures { λ r. ⌜ r ≡ word (value x * valueOf d + valueOf w * value p) ⌝ }
+// The word of the sum of two products: of the word x and d, and of p * 2 ^ y and w.
+pub(crate) fn mix(x: u64, d: Split, p: u64, y: u64, w: Split) -> u64
+    requires { ⌜ Small d × (p < 2 ^ 31) × (y < 2 ^ 33) × Small w ⌝ }
+    ensures { λ r. ⌜ r ≡ word (value x * valueOf d + valueOf w * (p * 2 ^ y)) ⌝ }
 {
     let e = (x >> 31) + d.behind;
-    let f = (p >> 31) + w.behind;
-    sum(product(x, d.first), e, product(p, w.first), f)
+    let f = y + w.behind;
+    sum(product(x, d.first), e, times(p, w.first), f)
 }

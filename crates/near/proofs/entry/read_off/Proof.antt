@@ -16,11 +16,8 @@ total-requires : tie.Need-total-requires
 total-requires c κs =
     let t = c .before .before .before in
     let p = c .before .pivot-of in
-    omega (
-      arith,
-      t .pre .states,
-      copy-length (t .args .n) (t .args .start) (t .args .work .now) (t .pre .states) (t .pre .room) (t .pre .inside) (p .result) (p .ensures .0),
-    )
+    let l = copy-length (t .args .n) (t .args .start) (t .args .work .now) (t .pre .states) (t .pre .room) (t .pre .inside) (p .result) (p .ensures .0) in
+    (omega (arith, t .pre .states, l), (omega arith, omega arith), record { nothing = λ j a b. absurd (omega arith) })
 
 bounds-requires : tie.Need-bounds-requires
 bounds-requires c κs =

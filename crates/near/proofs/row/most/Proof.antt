@@ -1,50 +1,18 @@
-use Prim.Native.Nat.{_-_, _^_, _≤_, _<_}
-use mathlib.Core.Path.{_≡_}
-use mathlib.Core.Logic.{⊎-elim}
-use native.Mathlib.Numerals.{add-one}
 use native.Mathlib.Omega.{arith}
-use lib.ListN.{length}
 use borrow.Author.Needs.{needs}
 use Rattle.meaning.specs.Near.{longest}
-use Rattle.near.specs.Row.{valueAt}
-use Rattle.theory.specs.Numbers.Cuts.{longest-next}
+use Rattle.near.proofs.Gaps.{longest-flat}
 use Rattle.near.proofs.row.most.Statement.{statement}
 use Rattle.near.proofs.row.most.Tie as tie
 
-abbrev Inv-loop : tie.InvT-loop
-Inv-loop row m₀ j₀ m j = (j ≤ length row) × (m ≡ longest (valueAt row) j) × (m < 2 ^ 34)
-
-abbrev μ-loop : tie.MeasureT-loop
-μ-loop row m₀ j₀ m j = length row - j
-
-loop-holds : tie.Need-loop-holds Inv-loop μ-loop
+most-on-requires : tie.Need-most-on-requires
 unfolding longest
-loop-holds c = search needs
+most-on-requires c κs = search needs
 
-loop-again : tie.Need-loop-again Inv-loop μ-loop
-loop-again c =
-    let l = c .before .before .before .before .loop in
-    let n = longest-next (valueAt (c .before .before .before .before .before .before .args .row .now)) (l .j) _ (add-one (l .j)) in
-    ⊎-elim (λ w. (omega arith, omega (arith, n, c .before .weight-digits .ensures .0), omega (arith, c .before .weight-digits .ensures .1)))
-    (λ w. (omega arith, omega (arith, n, c .before .weight-digits .ensures .0), omega arith))
-    (c .if1 .came)
-
-returns : tie.Need-returns Inv-loop μ-loop
-returns c =
-    let e : c .before .loop .j ≡ length (c .before .before .before .args .row .now) = omega arith in
-    (rw e at (c .before .loop .inv .1), omega arith)
+most-on-requires-2 : tie.Need-most-on-requires-2
+most-on-requires-2 c κs =
+    let h = c .before .before .pre in
+    (h .0 .1, omega arith, omega (arith, longest-flat (h .1) (h .0 .0), c .most-on .ensures .0), c .most-on .ensures .1)
 
 pub most-spec : {M : Type 1} → statement M
-most-spec =
-    tie.close
-    (tie.spec
-    Inv-loop
-    μ-loop
-    loop-holds
-    (λ c. search needs)
-    (λ c. search needs)
-    (λ c κs. search needs)
-    (λ c. search needs)
-    (λ c. search needs)
-    loop-again
-    returns)
+most-spec = tie.close (tie.spec most-on-requires most-on-requires-2 (λ c. search needs))

@@ -17,7 +17,9 @@ here : (c : tie.After-past)
 here c = omega (arith, c .past .ensures, c .before .most .ensures .0)
 
 added-requires : tie.Need-added-requires
-added-requires c κs = (omega arith, omega (arith, here c))
+added-requires c κs =
+    let h = c .before .before .before .pre in
+    ((h .0, omega (arith, here c)), (h .1, h .2))
 
 packed-requires : tie.Need-packed-requires
 packed-requires c κs =

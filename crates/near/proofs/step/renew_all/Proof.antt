@@ -1,13 +1,14 @@
 use Prim.Native.Nat.{_-_}
 use native.Mathlib.Omega.{arith}
 use borrow.Author.Needs.{needs}
+use Rattle.near.specs.Row.{joined}
 use Rattle.near.specs.Step.{RenewedRows}
 use Rattle.near.proofs.Steps.{few-renewed, rows-none, rows-more, rows-all}
 use Rattle.near.proofs.step.renew_all.Statement.{statement}
 use Rattle.near.proofs.step.renew_all.Tie as tie
 
 abbrev Inv-loop : tie.InvT-loop
-Inv-loop work₀ n s d pivot gap rows₀ i₀ work rows i = RenewedRows n s d pivot i work₀ work rows
+Inv-loop work₀ n s d pivot gap rows₀ i₀ work rows i = RenewedRows n s d (joined pivot) i work₀ work rows
 
 abbrev μ-loop : tie.MeasureT-loop
 μ-loop work₀ n s d pivot gap rows₀ i₀ work rows i = n - i

@@ -2,6 +2,7 @@ use mathlib.Core.Path.{_∙_}
 use native.Mathlib.Omega.{arith}
 use lib.ListN.{length-set}
 use borrow.Author.Needs.{needs}
+use Rattle.near.specs.Row.{joined}
 use Rattle.near.proofs.Gaps.{spans-blend, empty-set}
 use Rattle.near.proofs.wide.replace.Statement.{statement}
 use Rattle.near.proofs.wide.replace.Tie as tie
@@ -10,7 +11,7 @@ blend-requires : tie.Need-blend-requires
 blend-requires c κs =
     let t = c .before .before .before .before in
     let e = length-set (t .args .row .now) (t .args .s) 0 in
-    (omega arith, omega (arith, t .pre .0, e), omega (arith, t .pre .0, e))
+    (omega arith, omega (arith, t .pre .0 .2, e), omega (arith, t .pre .0 .0, e), t .pre .0 .3)
 
 blend-requires-2 : tie.Need-blend-requires-2
 blend-requires-2 c κs =
@@ -18,7 +19,7 @@ blend-requires-2 c κs =
     let t = at .before .before .before .before .before in
     let e = length-set (t .args .row .now) (t .args .s) 0 in
     let l = at .blend .ensures .len in
-    (omega (arith, t .pre .0, e), omega (arith, l, e), omega (arith, t .pre .0, l, e))
+    (omega (arith, t .pre .0 .2, e), omega (arith, l, e), omega (arith, t .pre .0 .0, l, e), t .pre .0 .3)
 
 same-length : tie.Need-same-length
 same-length c =
@@ -34,7 +35,7 @@ returns c =
     let t = one .before .before .before .before .before in
     let a = t .args in
     let e = length-set (a .row .now) (a .s) 0 in
-    spans-blend (a .d) _ (a .pivot .now) _ _ _ (a .gap) (omega (arith, t .pre .0), omega (arith, t .pre .0, e))
+    spans-blend (a .d) _ (joined (a .pivot .now)) _ _ _ (a .gap) (t .pre .0 .2 .0, omega (arith, t .pre .0 .2 .1, e))
     (empty-set (t .pre .1 .0) (a .s) (t .pre .0 .1)) (t .pre .1 .1) (one .blend .ensures) (at .blend2 .ensures)
 
 pub replace-spec : {M : Type 1} → statement M

@@ -1,9 +1,8 @@
 use Prim.Native.Nat.{_+_, _-_, _*_, _/_, _^_}
 use mathlib.Core.Path.{sym, ap, ap₂, _∙_}
-use native.Mathlib.Nat.{mul-comm}
 use borrow.Author.Needs.{needs}
 use Rattle.near.specs.Word.{word}
-use Rattle.near.proofs.Sums.{product-value}
+use Rattle.near.proofs.Sums.{product-value, times-value}
 use Rattle.near.proofs.word.mix.Statement.{statement}
 use Rattle.near.proofs.word.mix.Tie as tie
 
@@ -15,9 +14,8 @@ returns c =
     ∙ ap word
     (ap₂ (λ y z. y + z)
     (ap (λ z. z * 2 ^ (a .x / 2 ^ 31 + a .d .behind - 33)) (c .before .before .product .ensures .0) ∙ sym (product-value (a .x) (a .d .first) (a .d .behind) (h .0 .1)))
-    (ap (λ z. z * 2 ^ (a .p / 2 ^ 31 + a .w .behind - 33)) (c .before .product2 .ensures .0)
-    ∙ sym (product-value (a .p) (a .w .first) (a .w .behind) (h .1 .1))
-    ∙ mul-comm _ _))
+    (ap (λ z. z * 2 ^ (a .y + a .w .behind - 33)) (c .before .times .ensures .0)
+    ∙ sym (times-value (a .p) (a .y) (a .w .first) (a .w .behind) (h .3 .1))))
 
 pub mix-spec : {M : Type 1} → statement M
 mix-spec =
