@@ -7,11 +7,10 @@ use mathlib.Core.List.{List}
 use native.Mathlib.Omega.{arith}
 use native.Mathlib.Nat.{eq-or-lt-of-le, zero-div}
 use lib.ListN.{length, getD, set, length-set}
-use lib.Dec.{eqb}
 use lib.Seq.{getD-set-same, getD-set-other}
-use borrow.Author.Tests.{eq-eqb, ne-eqb}
 use Rattle.meaning.specs.Number.{sumTo}
 use Rattle.meaning.specs.Near.{digits, longest}
+use Rattle.meaning.specs.Row.{width}
 use Rattle.meaning.specs.Refusal.{workSize}
 use Rattle.theory.specs.Numbers.Sum.{same, below}
 use Rattle.theory.specs.Numbers.Binary.{digits-none}
@@ -22,11 +21,11 @@ use Rattle.near.specs.Word.{word, value}
 use Rattle.near.specs.Row.{valueAt, exponent, leastExponent, lessBy, loweredWords, settledWords, blendedWords}
 use Rattle.near.specs.Step.{pivotAt, sumOf, RemovedWords}
 use Rattle.near.specs.Walk.{Turned}
-use Rattle.near.specs.Gap.{Within, Empty, Gone, Spanned, Widened}
+use Rattle.near.specs.Gap.{Within, Empty, Gone, Going, Spanned, Widened}
 use Rattle.near.specs.declared.wide.Gap.{Gap}
 use Rattle.near.proofs.Words.{value-none, mix-none}
 use Rattle.near.proofs.Rows.{least-most, lowered-at, blended-at}
-use Rattle.near.proofs.Steps.{renewed-own, renewed-none, renewed-some}
+use Rattle.near.proofs.Steps.{renewed-none, renewed-some}
 
 -- A loop over some of the columns.
 module _ {f : ℕ → ℕ} {from : ℕ} {l : List ℕ} where
@@ -118,20 +117,19 @@ module _ (k : ℕ) (l v u : List ℕ) (g : Gap) (within : Within g (length l)) (
       (below j (g .to)))
       (below j (g .from)))
 
-module _ {g : Gap} {r : List ℕ} (e : Empty g r) where
-  pub empty-set : (s : ℕ) → s < length r → Empty g (set r s 0)
-  empty-set s l =
-      record {
-        nothing = λ j a b.
-            ⊎-elim (λ (q : j ≡ s). ap (λ i. getD (set r s 0) i 0) q ∙ getD-set-same r s 0 0 l)
-            (λ (q : j ≡ s → ⊥). getD-set-other r s j 0 0 q ∙ e .nothing j a b)
-            (same j s);
-      }
+pub empty-settled : {g : Gap} {r : List ℕ} → Empty g r → g .to ≤ length r → Empty g (settledWords r)
+empty-settled {g} {r} e h =
+    let k = leastExponent (λ j. getD r j 0) (length r) in
+    record { nothing = λ j a b. lowered-at k r j (omega arith) ∙ ap (lessBy k) (e .nothing j a b) }
 
-  pub empty-settled : g .to ≤ length r → Empty g (settledWords r)
-  empty-settled h =
-      let k = leastExponent (λ j. getD r j 0) (length r) in
-      record { nothing = λ j a b. lowered-at k r j (omega arith) ∙ ap (lessBy k) (e .nothing j a b) }
+-- A row without its weight to s has nothing where it had nothing but that.
+pub set-none : (r : List ℕ) (s j : ℕ) → s < length r → ((j ≡ s → ⊥) → getD r j 0 ≡ 0) → getD (set r s 0) j 0 ≡ 0
+set-none r s j l z =
+    ⊎-elim (λ (q : j ≡ s). ap (λ i. getD (set r s 0) i 0) q ∙ getD-set-same r s 0 0 l) (λ (q : j ≡ s → ⊥). getD-set-other r s j 0 0 q ∙ z q) (same j s)
+
+pub going-set : {n s : ℕ} {g : Gap} {w : List ℕ} → Going n s g w → workSize n ≤ length w → s < n → (i : ℕ) → i < n → Empty g (set (partAt n w i) s 0)
+going-set {n} {s} {g} {w} G room inside i l =
+    record { nothing = λ j a b. set-none (partAt n w i) s j (omega (arith, length-row n w room i l)) (G .columns i l j a b) }
 
 -- A column that held nothing holds nothing once a state is removed, and its own column holds nothing then.
 module _ (n s : ℕ) {w v : List ℕ} {rows : ℕ} (R : RemovedWords n s w v rows) (room : workSize n ≤ length w) (inside : s < n) (j : ℕ) (h : j < n)
@@ -141,10 +139,7 @@ module _ (n s : ℕ) {w v : List ℕ} {rows : ℕ} (R : RemovedWords n s w v row
     p = settledWords (pivotAt n s w)
 
     left : (i : ℕ) → i < n → getD (set (partAt n w i) s 0) j 0 ≡ 0
-    left i l =
-        ⊎-elim (λ (q : j ≡ s). ap (λ k. getD (set (partAt n w i) s 0) k 0) q ∙ getD-set-same (partAt n w i) s 0 0 (omega (arith, length-row n w room i l)))
-        (λ (q : j ≡ s → ⊥). getD-set-other (partAt n w i) s j 0 0 q ∙ zero q i l)
-        (same j s)
+    left i l = set-none (partAt n w i) s j (omega (arith, length-row n w room i l)) (λ q. zero q i l)
 
     wide : (i : ℕ) → i < n → j < length (set (partAt n w i) s 0)
     wide i l = omega (arith, length-set (partAt n w i) s 0, length-row n w room i l)
@@ -158,38 +153,55 @@ module _ (n s : ℕ) {w v : List ℕ} {rows : ℕ} (R : RemovedWords n s w v row
     column-gone i l =
         let r = partAt n w i in
         ⊎-elim
-        (λ (q : i ≡ s).
-        ap (λ (z : List ℕ). getD z j 0) (R .new i l ∙ renewed-own s (sumOf p) p (eqb i s) r (eq-eqb i s q) .0) ∙ getD-zeros (length r) j)
+        (λ (q : i ≡ s). rw q (ap (λ (z : List ℕ). getD z j 0) (R .own) ∙ getD-zeros (width n) j))
         (λ (q : i ≡ s → ⊥).
         ⊎-elim
         (λ (x : 0 < getD r s 0).
-        ap (λ (z : List ℕ). getD z j 0) (R .new i l ∙ renewed-some s (sumOf p) p (eqb i s) r (ne-eqb i s q) x .0)
+        ap (λ (z : List ℕ). getD z j 0) (R .new i l q ∙ renewed-some s (sumOf p) p r x .0)
         ∙ blended-at (sumOf p) (getD r s 0) p (set r s 0) j (wide i l)
         ∙ mix-none (getD (set r s 0) j 0) (value (sumOf p)) (value (getD r s 0)) (getD p j 0) (left i l) pivot-none)
         (λ (x : getD r s 0 ≤ 0).
-        ap (λ (z : List ℕ). getD z j 0) (R .new i l ∙ renewed-none s (sumOf p) p (eqb i s) r (ne-eqb i s q) (omega arith) .0)
+        ap (λ (z : List ℕ). getD z j 0) (R .new i l q ∙ renewed-none s (sumOf p) p r (omega arith) .0)
         ∙ ⊎-elim (λ (y : j ≡ s). ap (λ k. getD r k 0) y ∙ omega arith) (λ (y : j ≡ s → ⊥). zero y i l) (same j s))
         (below 0 (getD r s 0)))
         (same i s)
 
--- The gap after a turn.
-pub gone-next : (n s : ℕ) {w v : List ℕ} {rows : ℕ} {go : Bool} {g r : Gap} → Turned n go s w v rows → Gone n g w → workSize n ≤ length w → s < n
-    → (go ≡ true → Widened g s r) × (go ≡ false → r ≡ g) → Gone n r v
-gone-next n s {w} {v} {rows} {go} {g} {r} T G room inside x = by go refl
-  where
-    by : (b : Bool) → go ≡ b → Gone n r v
-    by true e =
-        let y = x .0 e in
-        let top = y .most n (G .within .1) inside in
-        record {
-          within = (y .ordered (G .within .0), top);
-          rows = λ i l.
-              record {
-                nothing = λ j a b.
-                    column-gone n s (T .gone e) room inside j (omega arith)
-                    (λ d k h. let o = y .each j a b d in G .rows k h .nothing j (o .0) (o .1))
-                    i
-                    l;
-              };
-        }
-    by false e = subst (λ (z : List ℕ). Gone n r z) (sym (T .stays e .0)) (subst (λ (z : Gap). Gone n z w) (sym (x .1 e)) G)
+-- The gap at a turn, and after it.
+module _ (n s : ℕ) {w : List ℕ} {go : Bool} {g r : Gap} (G : Gone n g w) (inside : s < n) (x : (go ≡ true → Widened g s r) × (go ≡ false → r ≡ g)) where
+  pub going : Going n s r w
+  going = by go refl
+    where
+      by : (b : Bool) → go ≡ b → Going n s r w
+      by true e =
+          let y = x .0 e in
+          record {
+            within = (y .ordered (G .within .0), y .most n (G .within .1) inside);
+            columns = λ i l j a b d. let o = y .each j a b d in G .columns i l .nothing j (o .0) (o .1);
+            rows = λ i a b d. let o = y .each i a b d in G .rows i (o .0) (o .1);
+          }
+      by false e =
+          rw (x .1 e)
+          (record { within = G .within; columns = λ i l j a b d. G .columns i l .nothing j a b; rows = λ i a b d. G .rows i a b })
+
+  pub gone-next : {v : List ℕ} {rows : ℕ} → Turned n go s w v rows → workSize n ≤ length w → Gone n r v
+  gone-next {v} {rows} T room = by go refl
+    where
+      row-gone : RemovedWords n s w v rows → (i : ℕ) → r .from ≤ i → i < r .to → (j : ℕ) → getD (partAt n v i) j 0 ≡ 0
+      row-gone R i a b j =
+          let p = settledWords (pivotAt n s w) in
+          ⊎-elim (λ (q : i ≡ s). rw q (ap (λ (z : List ℕ). getD z j 0) (R .own) ∙ getD-zeros (width n) j))
+          (λ (q : i ≡ s → ⊥).
+          ap (λ (z : List ℕ). getD z j 0)
+          (R .new i (omega (arith, going .within)) q ∙ renewed-none s (sumOf p) p (partAt n w i) (going .rows i a b q s) .0)
+          ∙ going .rows i a b q j)
+          (same i s)
+
+      by : (b : Bool) → go ≡ b → Gone n r v
+      by true e =
+          record {
+            within = going .within;
+            columns = λ i l.
+                record { nothing = λ j a b. column-gone n s (T .gone e) room inside j (omega (arith, going .within)) (λ d k h. going .columns k h j a b d) i l };
+            rows = row-gone (T .gone e);
+          }
+      by false e = subst (λ (z : List ℕ). Gone n r z) (sym (T .stays e .0)) (subst (λ (z : Gap). Gone n z w) (sym (x .1 e)) G)

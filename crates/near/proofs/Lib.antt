@@ -9,6 +9,7 @@ pub mod Linked
 pub mod Steps
 pub mod Parts
 pub mod Gaps
+pub mod Renewed
 pub mod Walks
 pub mod Laid
 pub mod Last

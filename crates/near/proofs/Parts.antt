@@ -2,7 +2,6 @@
 use Prim.Native.Nat.{ℕ, _+_, _*_, _/_, _%_, _^_, _≤_, _<_}
 use mathlib.Core.Path.{_≡_, refl, sym, ap, _∙_}
 use mathlib.Core.Logic.{⊎-elim}
-use mathlib.Core.Bool.{Bool}
 use mathlib.Core.List.{List}
 use native.Mathlib.Omega.{arith}
 use lib.ListN.{length, getD, set, replicate, length-set, length-replicate, List·getD-eq-default}
@@ -10,11 +9,10 @@ use lib.Pow.{low, high}
 use lib.Seq.{getD-set-same, getD-set-other}
 use Rattle.theory.specs.Numbers.Sum.{same, below}
 use Rattle.theory.specs.Numbers.Tab.{tab-at, tab-length, getD-zeros}
-use lib.Dec.{ltb}
 use Rattle.meaning.specs.Number.{choose, tabFrom}
 use Rattle.near.specs.Word.{word, value}
 use Rattle.near.specs.Row.{valueAt, Parts, joined, blendedWords}
-use Rattle.near.specs.Step.{renewedWords, RenewedRows}
+use Rattle.near.specs.Step.{leadsTo, renewedWords, RenewedRows}
 
 pub joined-at : (l : List ℕ) (j : ℕ) → j < 68 → getD (joined l) j 0 ≡ getD l (j + 68) 0 * 2 ^ 31 + getD l j 0
 unfolding joined
@@ -117,13 +115,13 @@ module _ {r : List ℕ} {j : ℕ} {p : List ℕ} (P : Parted r j p) (few : lengt
 
 -- Rows that are renewed by the same words are the same.
 module _ (p q : List ℕ) (e : (j : ℕ) → getD p j 0 ≡ getD q j 0) where
-  renewed-alike : (s d : ℕ) (own : Bool) (r : List ℕ) → renewedWords s d p own r ≡ renewedWords s d q own r
+  renewed-alike : (s d : ℕ) (r : List ℕ) → renewedWords s d p r ≡ renewedWords s d q r
   unfolding renewedWords blendedWords
-  renewed-alike s d own r = ap (λ (f : ℕ → ℕ). by f) (λ i j. e j i)
+  renewed-alike s d r = ap (λ (f : ℕ → ℕ). by f) (λ i j. e j i)
     where
       by : (ℕ → ℕ) → List ℕ
-      by f = choose own (replicate (length r) 0) (choose (ltb 0 (getD r s 0)) (tabFrom 0 (length (set r s 0)) (λ j. word (valueAt (set r s 0) j * value d + value (getD r s 0) * value (f j)))) r)
+      by f = choose (leadsTo s r) (tabFrom 0 (length (set r s 0)) (λ j. word (valueAt (set r s 0) j * value d + value (getD r s 0) * value (f j)))) r
 
-  pub rows-alike : {n s d i rows : ℕ} {w v : List ℕ} → RenewedRows n s d p i w v rows → RenewedRows n s d q i w v rows
-  rows-alike {n} {s} {d} {i} {rows} {w} {v} z =
-      record { soFar = z .soFar; kept = z .kept; new = λ k h. z .new k h ∙ renewed-alike s d _ _; old = z .old; count = z .count }
+  pub rows-alike : {n s d rows : ℕ} {w v : List ℕ} → RenewedRows n s d p w v rows → RenewedRows n s d q w v rows
+  rows-alike {n} {s} {d} {rows} {w} {v} z =
+      record { kept = z .kept; own = z .own; new = λ k h l. z .new k h l ∙ renewed-alike s d _; few = z .few; count = z .count }

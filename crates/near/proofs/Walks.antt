@@ -6,9 +6,9 @@ use mathlib.Core.Bool.{Bool, true, false}
 use mathlib.Core.List.{List}
 use native.Mathlib.Omega.{arith}
 use native.Mathlib.Numerals.{add-one}
-use lib.Dec.{eqb, ltb}
+use lib.Dec.{ltb}
 use lib.ListN.{getD, replicate, length-replicate, getD-replicate}
-use borrow.Author.Tests.{eq-eqb, ne-eqb, lt-ltb}
+use borrow.Author.Tests.{lt-ltb}
 use Rattle.meaning.specs.Number.{sumTo, only, choose}
 use Rattle.meaning.specs.Chain.{Chain}
 use Rattle.meaning.specs.Row.{cell}
@@ -28,7 +28,7 @@ use Rattle.near.specs.Walk.{Turned, Walkable, Walked}
 use Rattle.near.proofs.Words.{value-none, word-none}
 use Rattle.near.proofs.Standing.{word-zero, word-above}
 use Rattle.near.proofs.Linked.{Wordy, new-stands, stage-wordy, stage-outside}
-use Rattle.near.proofs.Steps.{renewed-own, renewed-none, renewed-some}
+use Rattle.near.proofs.Steps.{renewed-none, renewed-some}
 
 -- A row of zeros stands for one that is not kept.
 zeros-stand : (n most : ℕ) → Stands (n + 4) (cell (noRow n)) (replicate (n + 4) 0) most
@@ -81,7 +81,7 @@ module _ (m : Chain) (k : Sets) (o : List ℕ) (a : Walkable m k o) (p : ℕ) (h
     some i l e = word-above (W .rows i l) s (omega (arith, inside)) (omega (arith, most-few)) e
 
     -- A row of words is made anew exactly where the definition's is.
-    renews-is : (i : ℕ) → i < n → only (renews s (eqb i s) (partAt n w i)) 1 ≡ only (madeAnew s i (row t i)) 1
+    renews-is : (i : ℕ) → i < n → only (renews s i (partAt n w i)) 1 ≡ only (madeAnew s i (row t i)) 1
     renews-is i l =
         let e : ltb 0 (getD (partAt n w i) s 0) ≡ ltb 0 (cell (row t i) s) =
         ⊎-elim
@@ -102,20 +102,19 @@ module _ (m : Chain) (k : Sets) (o : List ℕ) (a : Walkable m k o) (p : ℕ) (h
       own-row i l e =
           let gone : row (nearRemoved n s t) i ≡ noRow n =
           removes n s t (λ r. i ≡ s → r ≡ noRow n) i l (λ _. refl) (λ d _ q. absurd (d q)) (λ d _ q. absurd (d q)) e in
-          let zeros : partAt n v i ≡ replicate (n + 4) 0 =
-          R .new i l ∙ renewed-own s (sumOf pivot) pivot (eqb i s) (partAt n w i) (eq-eqb i s e) .0 ∙ ap (λ z. replicate z 0) (W .rows i l .wide) in
+          let zeros : partAt n v i ≡ replicate (n + 4) 0 = rw e (R .own) in
           rw (gone, zeros) (zeros-stand n (mostDigits (suc p)))
 
       old-row : (i : ℕ) → i < n → (i ≡ s → ⊥) → cell (row t i) s ≡ 0 → After i
       old-row i l d e =
           let kept : partAt n v i ≡ partAt n w i =
-          R .new i l ∙ renewed-none s (sumOf pivot) pivot (eqb i s) (partAt n w i) (ne-eqb i s d) (none i l e) .0 in
+          R .new i l d ∙ renewed-none s (sumOf pivot) pivot (partAt n w i) (none i l e) .0 in
           rw (kept, old-is n s t i l d (anew-none n s t i d e)) (stands-next p (W .rows i l))
 
       new-row : (i : ℕ) → i < n → (i ≡ s → ⊥) → 0 < cell (row t i) s → After i
       new-row i l d e =
           let made : partAt n v i ≡ replacedWords s (sumOf pivot) pivot (partAt n w i) =
-          R .new i l ∙ renewed-some s (sumOf pivot) pivot (eqb i s) (partAt n w i) (ne-eqb i s d) (some i l e) .0 in
+          R .new i l d ∙ renewed-some s (sumOf pivot) pivot (partAt n w i) (some i l e) .0 in
           let S = new-stands n s (row t s) (row t i) inside (wordy s inside) (wordy i l) low (partAt n w s) (partAt n w i) (mostDigits p) most-few (W .rows s inside) (W .rows i l) in
           let most : mostDigits p + 2150 ≡ mostDigits (suc p) = omega arith in
           rw (made, new-is n s t i l (anew-some n s t i d e), ← most) S

@@ -2,7 +2,7 @@
 use Prim.Native.Nat.{ℕ, _≤_, _<_}
 use mathlib.Core.Path.{_≡_}
 use mathlib.Core.List.{List}
-use lib.ListN.{length, getD}
+use lib.ListN.{length, getD, set}
 use Rattle.engines.specs.Table.{partAt}
 use Rattle.near.specs.declared.wide.Gap.{Gap}
 
@@ -10,13 +10,27 @@ use Rattle.near.specs.declared.wide.Gap.{Gap}
 abbrev pub Within : Gap → ℕ → Type 0
 Within g m = (g .from ≤ g .to) × (g .to ≤ m)
 
--- A row has nothing in the gap; and none of the table's has.
+-- A row has nothing in the gap.
 pub record Empty (g : Gap) (r : List ℕ) : Type 0 where
   pub nothing : (j : ℕ) → g .from ≤ j → j < g .to → getD r j 0 ≡ 0
 
+-- The states of the gap are gone from the table: no row has a weight to them, and theirs have none.
 pub record Gone (n : ℕ) (g : Gap) (w : List ℕ) : Type 0 where
   pub within : Within g n
-  pub rows : (i : ℕ) → i < n → Empty g (partAt n w i)
+  pub columns : (i : ℕ) → i < n → Empty g (partAt n w i)
+  pub rows : (i : ℕ) → g .from ≤ i → i < g .to → (j : ℕ) → getD (partAt n w i) j 0 ≡ 0
+
+-- All but s are gone, which may be among them.
+pub record Going (n s : ℕ) (g : Gap) (w : List ℕ) : Type 0 where
+  pub within : Within g n
+  pub columns : (i : ℕ) → i < n → (j : ℕ) → g .from ≤ j → j < g .to → (j ≡ s → ⊥) → getD (partAt n w i) j 0 ≡ 0
+  pub rows : (i : ℕ) → g .from ≤ i → i < g .to → (i ≡ s → ⊥) → (j : ℕ) → getD (partAt n w i) j 0 ≡ 0
+
+-- The rows of the gap have no weight to s, and the others none to its states but s.
+pub record Cleared (n s : ℕ) (g : Gap) (w : List ℕ) : Type 0 where
+  pub within : Within g n
+  pub columns : (i : ℕ) → i < n → Empty g (set (partAt n w i) s 0)
+  pub rows : (i : ℕ) → g .from ≤ i → i < g .to → getD (partAt n w i) s 0 ≡ 0
 
 -- In v the numbers of l from `from` to before `to` are new, and the others as they were.
 pub record Spanned (f : ℕ → ℕ) (from to : ℕ) (l v : List ℕ) : Type 0 where

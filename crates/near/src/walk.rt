@@ -6,7 +6,7 @@ ghost use lib.ListN.{length, getD};
 ghost use Rattle.meaning.specs.Chain.{mostStates};
 ghost use Rattle.meaning.specs.Refusal.{workSize};
 ghost use Rattle.meaning.specs.Step.{goes};
-ghost use Rattle.near.specs.Gap.{Gone, Widened};
+ghost use Rattle.near.specs.Gap.{Going, Widened};
 ghost use Rattle.near.specs.Walk.{Turned, Walked};
 use crate::step::remove;
 use crate::wide::Gap;
@@ -40,12 +40,12 @@ fn widened(gap: Gap, s: usize) -> Gap
     gap
 }
 
-// The gap after the turn of s, which went or did not.
-fn gap_after(gap: Gap, s: usize, went: bool) -> Gap
+// The gap at the turn of s, which goes or does not.
+fn gap_at(gap: Gap, s: usize, go: bool) -> Gap
     requires { ⌜ s < mostStates ⌝ }
-    ensures { λ r. ⌜ (went ≡ true → Widened gap s r) × (went ≡ false → r ≡ gap) ⌝ }
+    ensures { λ r. ⌜ (go ≡ true → Widened gap s r) × (go ≡ false → r ≡ gap) ⌝ }
 {
-    if went {
+    if go {
         return widened(gap, s);
     }
     gap
@@ -53,7 +53,7 @@ fn gap_after(gap: Gap, s: usize, went: bool) -> Gap
 
 // The turn of the state s. Answers how many rows were made anew.
 fn turn(work: &mut [u64], c: Chain, live: u64, s: usize, gap: Gap) -> u64
-    requires { ⌜ (c .states ≤ mostStates) × (workSize (c .states) ≤ length (now work)) × (s < c .states) × Gone (c .states) gap (now work) ⌝ }
+    requires { ⌜ (c .states ≤ mostStates) × (workSize (c .states) ≤ length (now work)) × (s < c .states) × Going (c .states) s gap (now work) ⌝ }
     ensures { λ r. ⌜ Turned (c .states) (goes (c .start) live s) s (now (work .entry)) (now (work .exit)) r ⌝ }
 {
     if goes(s, c.start, live) {
@@ -74,8 +74,8 @@ pub(crate) fn eliminate(work: &mut [u64], c: Chain, live: u64, order: &[u64]) ->
     let mut p = 0;
     while p < n {
         let s = order[p] as usize;
+        gap = gap_at(gap, s, goes(s, c.start, live));
         rows += turn(work, c, live, s, gap);
-        gap = gap_after(gap, s, goes(s, c.start, live));
         p += 1;
     }
     rows

@@ -1,7 +1,7 @@
 // A row with a place for each column: what becomes of it when a state is removed.
 ghost use mathlib.Core.Path.{_≡_};
 ghost use Prim.Native.Nat.{ℕ, _+_, _*_, _^_, _<_, _≤_};
-ghost use lib.ListN.{length};
+ghost use lib.ListN.{length, set};
 ghost use Rattle.near.specs.Word.{word, value};
 ghost use Rattle.near.specs.Split.{Small, valueOf};
 ghost use Rattle.near.specs.Row.{valueAt, replacedWords, Parts, joined};
@@ -47,10 +47,10 @@ fn blend(row: &mut [u64], pivot: &[u64], d: u64, w: u64, from: usize, to: usize)
     }
 }
 
-// A row once state s is removed: pivot is a copy of its row in its parts, without its weight to itself, and d its D. Nothing stands in the gap.
+// A row once state s is removed: pivot is a copy of its row in its parts, without its weight to itself, and d its D. Nothing stands in the gap but the weight to s.
 pub(crate) fn replace(row: &mut [u64], pivot: &[u64], s: usize, d: u64, gap: Gap)
     requires { ⌜ (length (now row) ≤ 68) × (s < length (now row)) × Within gap (length (now row)) × Parts (now pivot) ⌝ }
-    requires { ⌜ Empty gap (now row) × Empty gap (joined (now pivot)) ⌝ }
+    requires { ⌜ Empty gap (set (now row) s 0) × Empty gap (joined (now pivot)) ⌝ }
     ensures { λ _. ⌜ now (row .exit) ≡ replacedWords s d (joined (now (pivot .entry))) (now (row .entry)) ⌝ }
 {
     let w = row[s];

@@ -1,8 +1,7 @@
 use mathlib.Core.Path.{sym}
 use native.Mathlib.Omega.{arith}
 use borrow.Author.Needs.{needs}
-use Rattle.engines.proofs.Tables.{length-row}
-use Rattle.near.proofs.Gaps.{empty-set}
+use Rattle.near.proofs.Gaps.{going-set}
 use Rattle.near.proofs.Steps.{copy-length, copy-is}
 use Rattle.near.proofs.step.remove.Statement.{statement}
 use Rattle.near.proofs.step.remove.Tie as tie
@@ -18,10 +17,9 @@ remove-by-requires c κs =
     let p = c .before .before .pivot-of in
     let a = t .args in
     let h = t .pre in
-    let l = length-row (a .n) (a .work .now) (h .1) (a .s) (h .2) in
     let e = copy-is (a .n) (a .s) (a .work .now) (h .0) (h .1) (h .2) (p .result) (p .ensures .0) (p .ensures .1) in (
       (h .0, h .1, h .2, copy-length (a .n) (a .s) (a .work .now) (h .0) (h .1) (h .2) (p .result) (p .ensures .0)),
-      (h .3, rw e (empty-set (h .3 .rows (a .s) (h .2)) (a .s) (omega (arith, l)))),
+      (h .3, rw e (going-set (h .3) (h .1) (h .2) (a .s) (h .2))),
     )
 
 returns : tie.Need-returns

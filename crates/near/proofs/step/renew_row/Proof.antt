@@ -1,5 +1,4 @@
 use mathlib.Core.Path.{_≡_, _∙_}
-use lib.Dec.{eqb}
 use lib.ListN.{length}
 use native.Mathlib.Omega.{arith}
 use borrow.Author.Needs.{needs}
@@ -29,8 +28,8 @@ returns c =
     let a = t .args in
     let h = t .pre in
     let e = rw (lent (a .n) (a .i) _ (at .row-start .ensures .0) (a .work .now)) at (c .before .before .renew .ensures) in
-    let q = renewedWords (a .s) (a .d) (joined (a .pivot .now)) (eqb (a .i) (a .s)) (partAt (a .n) (a .work .now) (a .i)) in
-    let l : length q ≡ width (a .n) = renewed-length (a .s) (a .d) (joined (a .pivot .now)) (eqb (a .i) (a .s)) (partAt (a .n) (a .work .now) (a .i)) ∙ length-row (a .n) (a .work .now) (h .0 .1) (a .i) (h .0 .2) in
+    let q = renewedWords (a .s) (a .d) (joined (a .pivot .now)) (partAt (a .n) (a .work .now) (a .i)) in
+    let l : length q ≡ width (a .n) = renewed-length (a .s) (a .d) (joined (a .pivot .now)) (partAt (a .n) (a .work .now) (a .i)) ∙ length-row (a .n) (a .work .now) (h .0 .1) (a .i) (h .0 .2) in
     (rw (e .0) (row-changed (a .n) (a .work .now) (h .0 .1) (a .i) (h .0 .2) _ (at .row-start .ensures .0) q l), e .1, e .2)
 
 pub renew-row-spec : {M : Type 1} → statement M

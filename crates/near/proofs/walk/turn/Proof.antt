@@ -3,7 +3,6 @@ use native.Mathlib.Omega.{arith}
 use borrow.Author.Needs.{needs}
 use Rattle.engines.proofs.Rows.{apart}
 use Rattle.engines.proofs.Tables.{kept-same}
-use Rattle.near.proofs.Steps.{few-renewed}
 use Rattle.near.proofs.walk.turn.Statement.{statement}
 use Rattle.near.proofs.walk.turn.Tie as tie
 
@@ -12,12 +11,11 @@ same-length c = c .before .before .remove .ensures .kept .len
 
 returns : tie.Need-returns
 returns c =
-    let a = c .before .before .before .before .before .before .before .args in
     let z = c .before .before .remove .ensures in
     let e = sym (c .before .before .before .before .before .goes .ensures) ∙ c .before .before .before .before .if1 .taken in
     record {
       kept = z .kept;
-      few = omega (arith, z .count, few-renewed (a .c .states) (a .s) (a .work .now) (a .c .states));
+      few = z .few;
       gone = λ _. z;
       stays = λ f. absurd (apart (sym f ∙ e));
     }

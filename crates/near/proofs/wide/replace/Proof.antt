@@ -3,7 +3,7 @@ use native.Mathlib.Omega.{arith}
 use lib.ListN.{length-set}
 use borrow.Author.Needs.{needs}
 use Rattle.near.specs.Row.{joined}
-use Rattle.near.proofs.Gaps.{spans-blend, empty-set}
+use Rattle.near.proofs.Gaps.{spans-blend}
 use Rattle.near.proofs.wide.replace.Statement.{statement}
 use Rattle.near.proofs.wide.replace.Tie as tie
 
@@ -36,7 +36,7 @@ returns c =
     let a = t .args in
     let e = length-set (a .row .now) (a .s) 0 in
     spans-blend (a .d) _ (joined (a .pivot .now)) _ _ _ (a .gap) (t .pre .0 .2 .0, omega (arith, t .pre .0 .2 .1, e))
-    (empty-set (t .pre .1 .0) (a .s) (t .pre .0 .1)) (t .pre .1 .1) (one .blend .ensures) (at .blend2 .ensures)
+    (t .pre .1 .0) (t .pre .1 .1) (one .blend .ensures) (at .blend2 .ensures)
 
 pub replace-spec : {M : Type 1} → statement M
 replace-spec =
