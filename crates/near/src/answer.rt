@@ -6,6 +6,7 @@ ghost use Rattle.near.specs.Word.{value};
 ghost use Rattle.theory.specs.Numbers.Sure.{quotient, sure, upperOf};
 ghost use Rattle.near.specs.Answer.{Answers, Misses};
 use crate::row::weight_digits;
+use crate::word::FIRST;
 use crate::word::digits_of;
 
 // Two fractions with a chance between them: the numerators, and the power of two that is the denominator of both.
@@ -39,7 +40,7 @@ fn over(g: u64, d: u64) -> u64
     requires { ⌜ (0 < value g) × (value g ≤ value d) ⌝ }
     ensures { λ r. ⌜ (r ≡ quotient (value g) (value d)) × (r < 2 ^ 32) ⌝ }
 {
-    (full(g % 2147483648) << 31) / full(d % 2147483648)
+    (full(g % FIRST) << 31) / full(d % FIRST)
 }
 
 // The parts that are sure.

@@ -8,15 +8,20 @@ ghost use Rattle.near.specs.Word.{word, value};
 ghost use Rattle.near.specs.Row.{valueAt, exponent, leastExponent, lessBy, settledWords, Parts, joined};
 ghost use Rattle.near.specs.Gap.{Spanned, Empty, Within};
 use crate::wide::Gap;
+use crate::word::FIRST;
 use crate::word::packed;
 use crate::word::part;
 use crate::word::reach;
+use chain::Chain;
+
+// One more than any word leaves out.
+const NONE: u64 = 1 << 33;
 
 // How many digits a weight has.
 pub(crate) fn weight_digits(w: u64) -> u64
     ensures { λ r. ⌜ (r ≡ digits (value w)) × (r < 2 ^ 34) ⌝ }
 {
-    reach(w % 2147483648, w >> 31)
+    reach(w % FIRST, w >> 31)
 }
 
 // A weight without its last k digits.
@@ -24,7 +29,7 @@ fn cut(w: u64, k: u64) -> u64
     requires { ⌜ digits (value w) ≤ k + 56 ⌝ }
     ensures { λ r. ⌜ (r ≡ value w / 2 ^ k) × (r < 2 ^ 56) ⌝ }
 {
-    part(w % 2147483648, w >> 31, k)
+    part(w % FIRST, w >> 31, k)
 }
 
 // The most digits that a weight of a row has in the columns before `to`, where m are the most in those before `from`.
@@ -98,7 +103,7 @@ pub(crate) fn total(row: &[u64], gap: Gap) -> u64
 fn exponent_of(w: u64) -> u64
     ensures { λ r. ⌜ r ≡ exponent w ⌝ }
 {
-    if w == 0 { 8589934592 } else { w >> 31 }
+    if w == 0 { NONE } else { w >> 31 }
 }
 
 // The least exponent of the words in the columns before `to`, where k is that of the words before `from`.
@@ -125,7 +130,7 @@ fn least(row: &[u64], gap: Gap) -> u64
         let l = now (row .entry) in
         ⌜ r ≡ leastExponent (λ (j : ℕ). getD l j 0) (length l) ⌝ }
 {
-    let k = least_on(row, 8589934592, 0, gap.from);
+    let k = least_on(row, NONE, 0, gap.from);
     least_on(row, k, gap.to, row.len())
 }
 
@@ -173,17 +178,17 @@ fn left_out(w: u64) -> u64
 }
 
 // The words of a row in their parts: first digits, and 68 places on how many are left out behind them.
-pub(crate) fn parts(row: &[u64]) -> [u64; 136]
+pub(crate) fn parts(row: &[u64]) -> [u64; 2 * Chain::WIDTH]
     requires { ⌜ length (now row) ≤ 68 ⌝ }
     ensures { λ r. ⌜ Parts r × ((j : ℕ) → getD (joined r) j 0 ≡ getD (now (row .entry)) j 0) ⌝ }
 {
-    let mut p = [0u64; 136];
+    let mut p = [0u64; 2 * Chain::WIDTH];
     let mut j = 0;
     while j < row.len() {
         let w = row[j];
         let e = left_out(w);
-        p[j] = w % 2147483648;
-        p[j + 68] = e;
+        p[j] = w % FIRST;
+        p[j + Chain::WIDTH] = e;
         j += 1;
     }
     p

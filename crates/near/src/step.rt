@@ -57,7 +57,16 @@ fn renew_row(work: &mut [u64], i: usize, n: usize, s: usize, d: u64, pivot: &[u6
 }
 
 // Renews the rows from `from` to before `to`, and answers how many were made anew.
-fn renew_on(work: &mut [u64], n: usize, s: usize, d: u64, pivot: &[u64], gap: Gap, from: usize, to: usize) -> u64
+fn renew_on(
+    work: &mut [u64],
+    n: usize,
+    s: usize,
+    d: u64,
+    pivot: &[u64],
+    gap: Gap,
+    from: usize,
+    to: usize,
+) -> u64
     requires { ⌜ (n ≤ mostStates) × (workSize n ≤ length (now work)) × (s < n) × Parts (now pivot) × (from ≤ to) × (to ≤ n) ⌝ }
     requires { ⌜ Within gap n × ((i : ℕ) → from ≤ i → i < to → Empty gap (set (partAt n (now work) i) s 0)) × Empty gap (joined (now pivot)) ⌝ }
     ensures { λ r. ⌜ RenewedOn n s d (joined (now (pivot .entry))) from to (now (work .entry)) (now (work .exit)) r ⌝ }

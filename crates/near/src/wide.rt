@@ -10,6 +10,7 @@ use crate::word::Split;
 use crate::word::lone;
 use crate::word::mix;
 use crate::word::split_of;
+use chain::Chain;
 
 // The columns from `from` to before `to`: of states that are gone, so that no row has a weight there.
 pub(crate) struct Gap {
@@ -42,7 +43,7 @@ fn blend(row: &mut [u64], pivot: &[u64], d: u64, w: u64, from: usize, to: usize)
     let weight = split_of(w);
     let mut j = from;
     while j < to {
-        row[j] = cell(row[j], by, pivot[j], pivot[j + 68], weight);
+        row[j] = cell(row[j], by, pivot[j], pivot[j + Chain::WIDTH], weight);
         j += 1;
     }
 }

@@ -7,6 +7,12 @@ ghost use Rattle.near.specs.Word.{word, value};
 ghost use Rattle.near.specs.Split.{Small, valueOf};
 use std::num::wrapping_sub_u64;
 
+// Above all that a word's first digits can be: 2 ^ 31.
+pub(crate) const FIRST: u64 = 1 << 31;
+
+// The least number that has 31 digits.
+const LONG: u64 = 1 << 30;
+
 // How many binary digits a number has.
 pub(crate) fn digits_of(p: u64) -> u64
     ensures { λ r. ⌜ (r ≡ digits p) × (r ≤ 64) ⌝ }
@@ -101,7 +107,7 @@ fn sum(p: u64, x: u64, q: u64, y: u64) -> u64
         return sum_short(p, x, q, y);
     }
     let s = p + (q >> c);
-    if s < 1073741824 {
+    if s < LONG {
         return sum_short(p, x, q, y);
     }
     packed_long(s, x)
@@ -117,7 +123,7 @@ pub(crate) fn split_of(w: u64) -> Split
     ensures { λ r. ⌜ (valueOf r ≡ value w) × Small r ⌝ }
 {
     Split {
-        first: w % 2147483648,
+        first: w % FIRST,
         behind: (w >> 31) + 33,
     }
 }
@@ -127,7 +133,7 @@ fn product(a: u64, m: u64) -> u64
     requires { ⌜ m < 2 ^ 31 ⌝ }
     ensures { λ r. ⌜ (r ≡ a % 2 ^ 31 * m) × (r < 2 ^ 62) ⌝ }
 {
-    (a % 2147483648) * m
+    (a % FIRST) * m
 }
 
 // The product of the first digits of two weights.
@@ -145,7 +151,7 @@ pub(crate) fn lone(p: u64, y: u64, w: Split) -> u64
 {
     let s = times(p, w.first);
     let f = y + w.behind;
-    if s < 1073741824 {
+    if s < LONG {
         return sum_cut(s, f, 0, 33);
     }
     packed_long(s, f)
