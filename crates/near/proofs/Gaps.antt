@@ -8,7 +8,7 @@ use native.Mathlib.Omega.{arith}
 use native.Mathlib.Nat.{eq-or-lt-of-le, zero-div}
 use lib.ListN.{length, getD, set, length-set}
 use lib.Seq.{getD-set-same, getD-set-other}
-use Rattle.meaning.specs.Number.{sumTo}
+use Rattle.meaning.specs.Number.{sumTo, tabFrom}
 use Rattle.meaning.specs.Near.{digits, longest}
 use Rattle.meaning.specs.Row.{width}
 use Rattle.meaning.specs.Refusal.{workSize}
@@ -50,25 +50,40 @@ module _ {f : ℕ → ℕ} {from : ℕ} {l : List ℕ} where
           after = λ j a. getD-set-other v k j x 0 (λ q. omega arith) ∙ s .after j (omega arith);
         }
 
--- The columns before the gap and those behind it are all that change.
-module _ (d w : ℕ) (p l v u : List ℕ) (g : Gap) (within : Within g (length l)) (el : Empty g l) (ep : Empty g p) where
-  abbrev fresh : List ℕ → ℕ → ℕ
-  fresh r j = word (valueAt r j * value d + value w * valueAt p j)
+-- The columns before the gap and those behind it are all that change: the number in column j becomes f j, told behind the gap of the list as it is then.
+module _ (f f' : ℕ → ℕ) (l v u : List ℕ) (g : Gap) (within : Within g (length l)) (el : Empty g l)
+    (none : (j : ℕ) → g .from ≤ j → j < g .to → f j ≡ 0) (alike : (j : ℕ) → getD v j 0 ≡ getD l j 0 → f' j ≡ f j)
+  where
+    spans-beside : Spanned f 0 (g .from) l v → Spanned f' (g .to) (length l) v u → u ≡ tabFrom 0 (length l) f
+    spans-beside a b =
+        tab-of 0 (length l) f u (b .len ∙ a .len)
+        (λ j h.
+        ⊎-elim
+        (λ (x : j < g .from). b .before j (omega (arith, within)) ∙ a .new j (omega arith) x)
+        (λ (x : g .from ≤ j).
+        ⊎-elim (λ (y : j < g .to). b .before j y ∙ a .after j x ∙ el .nothing j x y ∙ sym (none j x y))
+        (λ (y : g .to ≤ j). b .new j y h ∙ alike j (a .after j x))
+        (below j (g .to)))
+        (below j (g .from)))
 
-  pub spans-blend : Spanned (fresh l) 0 (g .from) l v → Spanned (fresh v) (g .to) (length l) v u → u ≡ blendedWords d w p l
-  unfolding blendedWords
-  spans-blend a b =
-      tab-of 0 (length l) (fresh l) u (b .len ∙ a .len)
-      (λ j h.
-      ⊎-elim
-      (λ (x : j < g .from). b .before j (omega (arith, within)) ∙ a .new j (omega arith) x)
-      (λ (x : g .from ≤ j).
-      ⊎-elim
-      (λ (y : j < g .to).
-      b .before j y ∙ a .after j x ∙ el .nothing j x y ∙ sym (mix-none (getD l j 0) (value d) (value w) (getD p j 0) (el .nothing j x y) (ep .nothing j x y)))
-      (λ (y : g .to ≤ j). b .new j y h ∙ ap (λ z. word (value z * value d + value w * valueAt p j)) (a .after j x))
-      (below j (g .to)))
-      (below j (g .from)))
+-- A row is blended, or lowered, before the gap and behind it.
+module _ (l v u : List ℕ) (g : Gap) (within : Within g (length l)) (el : Empty g l) where
+  module _ (d w : ℕ) (p : List ℕ) (ep : Empty g p) where
+    abbrev fresh : List ℕ → ℕ → ℕ
+    fresh r j = word (valueAt r j * value d + value w * valueAt p j)
+
+    pub spans-blend : Spanned (fresh l) 0 (g .from) l v → Spanned (fresh v) (g .to) (length l) v u → u ≡ blendedWords d w p l
+    unfolding blendedWords
+    spans-blend =
+        spans-beside (fresh l) (fresh v) l v u g within el
+        (λ j x y. mix-none (getD l j 0) (value d) (value w) (getD p j 0) (el .nothing j x y) (ep .nothing j x y))
+        (λ j e. ap (λ z. word (value z * value d + value w * valueAt p j)) e)
+
+  pub spans-lower : (k : ℕ) → Spanned (λ j. lessBy k (getD l j 0)) 0 (g .from) l v → Spanned (λ j. lessBy k (getD v j 0)) (g .to) (length l) v u
+      → u ≡ loweredWords k l
+  unfolding loweredWords
+  spans-lower k =
+      spans-beside (λ j. lessBy k (getD l j 0)) (λ j. lessBy k (getD v j 0)) l v u g within el (λ j x y. ap (lessBy k) (el .nothing j x y)) (λ j e. ap (lessBy k) e)
 
 -- What is the same after each number of a range is the same before and behind it.
 flat : (F : ℕ → ℕ) (a b : ℕ) → a ≤ b → ((j : ℕ) → a ≤ j → j < b → F (suc j) ≡ F j) → F b ≡ F a
@@ -99,23 +114,6 @@ module _ {g : Gap} {r : List ℕ} (e : Empty g r) (h : g .from ≤ g .to) where
   least-flat =
       flat (leastExponent (λ j. getD r j 0)) (g .from) (g .to) h
       (λ j a b. let z : exponent (getD r j 0) ≡ 2 ^ 33 = ap exponent (e .nothing j a b) in omega (arith, z, least-most (λ i. getD r i 0) j))
-
--- A row is lowered before the gap and behind it.
-module _ (k : ℕ) (l v u : List ℕ) (g : Gap) (within : Within g (length l)) (el : Empty g l) where
-  pub spans-lower : Spanned (λ j. lessBy k (getD l j 0)) 0 (g .from) l v → Spanned (λ j. lessBy k (getD v j 0)) (g .to) (length l) v u
-      → u ≡ loweredWords k l
-  unfolding loweredWords
-  spans-lower a b =
-      tab-of 0 (length l) (λ j. lessBy k (getD l j 0)) u (b .len ∙ a .len)
-      (λ j h.
-      ⊎-elim
-      (λ (x : j < g .from). b .before j (omega (arith, within)) ∙ a .new j (omega arith) x)
-      (λ (x : g .from ≤ j).
-      ⊎-elim
-      (λ (y : j < g .to). b .before j y ∙ a .after j x ∙ el .nothing j x y ∙ sym (ap (lessBy k) (el .nothing j x y)))
-      (λ (y : g .to ≤ j). b .new j y h ∙ ap (lessBy k) (a .after j x))
-      (below j (g .to)))
-      (below j (g .from)))
 
 pub empty-settled : {g : Gap} {r : List ℕ} → Empty g r → g .to ≤ length r → Empty g (settledWords r)
 empty-settled {g} {r} e h =

@@ -43,7 +43,7 @@ returns-2 c =
     let at = c .before .before in
     let one = at .before .before .before .before in
     let t = one .before .before .before .before .before .before in
-    spans-lower _ (t .args .row .now) _ _ (t .args .gap) (t .pre .0) (t .pre .1) (one .lower-on .ensures) (at .lower-on2 .ensures)
+    spans-lower (t .args .row .now) _ _ (t .args .gap) (t .pre .0) (t .pre .1) _ (one .lower-on .ensures) (at .lower-on2 .ensures)
     ∙ ap (λ k. loweredWords k (t .args .row .now)) (one .before .before .before .least .ensures)
 
 pub settle-spec : {M : Type 1} → statement M

@@ -1,5 +1,4 @@
 use mathlib.Core.Path.{sym}
-use native.Mathlib.Omega.{arith}
 use borrow.Author.Needs.{needs}
 use Rattle.near.proofs.Gaps.{going-set}
 use Rattle.near.proofs.Steps.{copy-length, copy-is}

@@ -35,8 +35,8 @@ returns c =
     let t = one .before .before .before .before .before in
     let a = t .args in
     let e = length-set (a .row .now) (a .s) 0 in
-    spans-blend (a .d) _ (joined (a .pivot .now)) _ _ _ (a .gap) (t .pre .0 .2 .0, omega (arith, t .pre .0 .2 .1, e))
-    (t .pre .1 .0) (t .pre .1 .1) (one .blend .ensures) (at .blend2 .ensures)
+    spans-blend _ _ _ (a .gap) (t .pre .0 .2 .0, omega (arith, t .pre .0 .2 .1, e)) (t .pre .1 .0) (a .d) _ (joined (a .pivot .now)) (t .pre .1 .1)
+    (one .blend .ensures) (at .blend2 .ensures)
 
 pub replace-spec : {M : Type 1} → statement M
 replace-spec =
