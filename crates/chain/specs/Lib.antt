@@ -1,3 +1,4 @@
 pub mod Edge
 pub mod Lent
 pub mod Reduce
+pub mod Rising

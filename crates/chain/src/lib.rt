@@ -1,5 +1,7 @@
 ghost use mathlib.Core.Path.{_≡_};
 
+pub mod bits;
+pub mod divisor;
 pub mod edge;
 pub mod fraction;
 pub mod set;

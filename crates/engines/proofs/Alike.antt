@@ -12,7 +12,8 @@ use borrow.Author.Tests.{eq-eqb, ne-eqb}
 use Rattle.meaning.specs.Chain.{mostStates}
 use Rattle.meaning.specs.Number.{sumTo, bit}
 use Rattle.theory.specs.Numbers.Sum.{same, below, last-or-below}
-use Rattle.engines.specs.Packed.{targetsOf, placeOf, weightsAt, endOfPart, weightOf}
+use Rattle.chain.specs.Rising.{placeOf}
+use Rattle.engines.specs.Packed.{targetsOf, weightsAt, endOfPart, weightOf}
 use Rattle.engines.specs.Filled.{countTo, targetsTo, mixed, Filled, Beside, Closed, Emptied, Merged, Replaceable, Alike}
 use Rattle.engines.proofs.Places.{place-none, place-suc, place-rises, place-all}
 use Rattle.engines.proofs.Fill.{targets-suc, count-suc, only-none, only-some}

@@ -19,8 +19,9 @@ use Rattle.meaning.specs.Row.{width}
 use Rattle.theory.specs.Numbers.Bits.{in-either}
 use Rattle.theory.specs.Numbers.Sum.{same, below, last-or-below}
 use Rattle.theory.specs.Numbers.Tab.{getD-zeros}
-use Rattle.engines.specs.Packed.{targetsOf, placeOf, weightsAt, weightOf, Modest, Spread}
-use Rattle.engines.specs.Filled.{Lowest, Others, countTo, targetsTo, mixed, blend, Columns, Filled}
+use Rattle.chain.specs.Rising.{placeOf, Lowest, Others}
+use Rattle.engines.specs.Packed.{targetsOf, weightsAt, weightOf, Modest, Spread}
+use Rattle.engines.specs.Filled.{countTo, targetsTo, mixed, blend, Columns, Filled}
 use Rattle.engines.proofs.Places.{place-none, place-suc, place-stays, place-rises, place-most}
 use Rattle.engines.proofs.Fill.{
   count-place,

@@ -13,7 +13,8 @@ use lib.Seq.{getD-set-same, getD-set-other}
 use borrow.Author.Tests.{lt-ltb, le-ltb}
 use Rattle.meaning.specs.Number.{sumTo, only, bit}
 use Rattle.theory.specs.Numbers.Sum.{same, below, last-or-below, sum-up}
-use Rattle.engines.specs.Packed.{weightsAt, placeOf}
+use Rattle.chain.specs.Rising.{placeOf}
+use Rattle.engines.specs.Packed.{weightsAt}
 use Rattle.engines.specs.Filled.{countTo, targetsTo, Filled}
 use Rattle.engines.proofs.Places.{place-suc, bit-ones}
 

@@ -19,7 +19,8 @@ use Rattle.theory.specs.Numbers.Tab.{getD-zeros}
 use Rattle.theory.specs.Numbers.Sum.{same, below, sum-term}
 use Rattle.theory.specs.Chains.Sets.{bits-same}
 use Rattle.theory.specs.Numbers.Bits.{in-either, set-below}
-use Rattle.engines.specs.Packed.{targetsOf, placeOf, unknownAt, weightsAt, endOfPart, weightOf, unpacked, Below, Packed, Modest, Room}
+use Rattle.chain.specs.Rising.{placeOf}
+use Rattle.engines.specs.Packed.{targetsOf, unknownAt, weightsAt, endOfPart, weightOf, unpacked, Below, Packed, Modest, Room}
 use Rattle.engines.specs.Row.{Small, Fit}
 use Rattle.engines.proofs.Places.{place-find, place-all, place-room}
 use Rattle.engines.proofs.Along.{weight-some, weight-none}

@@ -8,8 +8,6 @@ pub mod Replacing
 pub mod Laws
 pub mod Middle
 pub mod Stored
-pub mod Lowest
-pub mod Divisors
 pub mod Rows
 pub mod Settling
 pub mod Shifts

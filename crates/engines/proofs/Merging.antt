@@ -20,7 +20,8 @@ use Rattle.theory.specs.Chains.Sets.{bit-below}
 use Rattle.theory.specs.Numbers.Bits.{in-either}
 use Rattle.theory.specs.Numbers.Sum.{below}
 use Rattle.theory.specs.Numbers.Tab.{getD-zeros}
-use Rattle.engines.specs.Packed.{targetsOf, placeOf, weightsAt, weightOf, unpacked, Packed, Spread}
+use Rattle.chain.specs.Rising.{placeOf}
+use Rattle.engines.specs.Packed.{targetsOf, weightsAt, weightOf, unpacked, Packed, Spread}
 use Rattle.engines.specs.Filled.{targetsTo, mixed, blend, Filled, Beside, Emptied, Merged}
 use Rattle.engines.proofs.Middle.{put-length, put-before, put-within, put-past}
 use Rattle.engines.proofs.Fill.{weighed, count-ones, place-count, bit-none, bit-some, targets-lt}

@@ -19,7 +19,8 @@ use Rattle.meaning.specs.Row.{cell}
 use Rattle.meaning.specs.Steps.{StepRecord, rowsTo, columnsOf, largestTaken, recordOf}
 use Rattle.theory.specs.Numbers.Sum.{same, last-or-below, sum-next}
 use Rattle.theory.specs.Numbers.Tab.{getD-zeros}
-use Rattle.engines.specs.Packed.{targetsOf, placeOf, goalAt, trapAt, unpacked, Packed}
+use Rattle.chain.specs.Rising.{placeOf}
+use Rattle.engines.specs.Packed.{targetsOf, goalAt, trapAt, unpacked, Packed}
 use Rattle.engines.specs.Table.{rowAt, tableOf}
 use Rattle.engines.proofs.Places.{place-none, place-suc, place-all}
 use Rattle.engines.proofs.Unpacked.{goal-stands, trap-stands}

@@ -1,20 +1,16 @@
--- Laws of packed places, and of the lowest state of a set.
-use Prim.Native.Nat.{ℕ, zero, suc, _+_, _-_, _/_, _%_, _^_, _≤_, _<_, min}
-use mathlib.Core.Path.{_≡_, refl, sym, ap, _∙_}
+-- Laws of packed places.
+use Prim.Native.Nat.{ℕ, zero, suc, _+_, _-_, _/_, _%_, _^_, _≤_, _<_}
+use mathlib.Core.Path.{_≡_, refl, ap, _∙_}
 use mathlib.Core.Logic.{⊎-elim}
 use native.Mathlib.Omega.{arith}
-use native.Mathlib.Nat.{mod-lt, mod-one, mod-eq-of-lt, zero-div}
+use native.Mathlib.Nat.{mod-lt, mod-one, mod-eq-of-lt}
 use lib.Pow.{mod-pow-add, pow-pos, split}
-use lib.Bits.{bitAnd, and-step, and-self}
-use lib.Count.{ones, onesIn, ones-cat, trailingZeros}
+use lib.Count.{ones, onesIn, ones-cat}
 use lib.Dec.{eqb}
 use borrow.Author.Tests.{eq-eqb, ne-eqb}
 use Rattle.meaning.specs.Number.{sumTo, only, bit}
 use Rattle.theory.specs.Numbers.Sum.{same, below, last-or-below}
-use Rattle.theory.specs.Numbers.Twos.{twos}
-use Rattle.theory.specs.Chains.Sets.{bit-zero, bit-suc}
-use Rattle.engines.specs.Packed.{placeOf}
-use Rattle.engines.specs.Filled.{Lowest}
+use Rattle.chain.specs.Rising.{placeOf}
 
 pub place-none : (s : ℕ) → placeOf s 0 ≡ 0
 unfolding ones onesIn
@@ -93,68 +89,3 @@ place-stays s j zero h = ap (placeOf s) (omega arith)
 place-stays s j (suc t) h =
     let e : j + suc t ≡ suc (j + t) = omega arith in
     ap (placeOf s) e ∙ omega (arith, place-suc s (j + t), place-stays s j t (λ i l. h i (omega arith)), h t (omega arith))
-
--- The count of zeros below the lowest one.
-even : (k s i : ℕ) → i < trailingZeros (suc k) s → s % 2 ≡ 0
-unfolding trailingZeros
-even k s i h =
-    ⊎-elim
-    (λ (e : s % 2 ≡ 0). e)
-    (λ (d : s % 2 ≡ 0 → ⊥). let e : s % 2 ≡ 1 = omega arith in absurd (omega (arith, rw e at h)))
-    (same (s % 2) 0)
-
-pub zeros-below : (k s i : ℕ) → i < trailingZeros k s → bit s i ≡ 0
-unfolding trailingZeros
-zeros-below zero s i h = absurd (omega arith)
-zeros-below (suc k) s zero h = bit-zero s ∙ even k s 0 h
-zeros-below (suc k) s (suc i) h =
-    let l : suc i < suc (trailingZeros k (s / 2)) = rw (even k s (suc i) h) at h in
-    bit-suc s i ∙ zeros-below k (s / 2) i (omega arith)
-
-pub one-at : (k s : ℕ) → 0 < s → s < 2 ^ k → (bit s (trailingZeros k s) ≡ 1) × (trailingZeros k s < k)
-one-at k s h l = let w = twos k s h l in (w .odd, w .less)
-
--- A set and the number before it have the others of its states in common.
-module _ (s : ℕ) where
-  and-half : (b : ℕ) → bitAnd s b / 2 ≡ bitAnd (s / 2) (b / 2)
-  and-half b = omega (arith, and-step s b)
-
-  and-low : (b : ℕ) → bitAnd s b % 2 ≡ min (s % 2) (b % 2)
-  and-low b = omega (arith, and-step s b)
-
-lowest-half : (s t : ℕ) → Lowest s (suc t) → Lowest (s / 2) t
-lowest-half s t h =
-    record {
-      inside = sym (bit-suc s t) ∙ h .inside;
-      least = λ i l. sym (bit-suc s i) ∙ h .least (suc i) (omega arith);
-      small = omega (arith, h .small);
-    }
-
-some-state : (s i : ℕ) → bit s i ≡ 1 → 0 < s
-some-state zero i b = absurd (omega (arith, rw (zero-div (2 ^ i)) at b))
-some-state (suc s) i b = omega arith
-
-pub others-gone : (t s : ℕ) → Lowest s t → bit (bitAnd s (s - 1)) t ≡ 0
-others-gone zero s h =
-    let o : s % 2 ≡ 1 = sym (bit-zero s) ∙ h .inside in
-    bit-zero _ ∙ omega (arith, and-low s (s - 1))
-others-gone (suc t) s h =
-    let e : s % 2 ≡ 0 = sym (bit-zero s) ∙ h .least 0 (omega arith) in
-    let p = some-state s (suc t) (h .inside) in
-    let q : (s - 1) / 2 ≡ s / 2 - 1 = omega arith in
-    bit-suc _ t ∙ rw (and-half s (s - 1), q) (others-gone t (s / 2) (lowest-half s t h))
-
-pub others-kept : (t s i : ℕ) → Lowest s t → (i ≡ t → ⊥) → bit (bitAnd s (s - 1)) i ≡ bit s i
-others-kept zero s zero h d = absurd (d refl)
-others-kept zero s (suc i) h d =
-    let o : s % 2 ≡ 1 = sym (bit-zero s) ∙ h .inside in
-    let q : (s - 1) / 2 ≡ s / 2 = omega arith in
-    bit-suc _ i ∙ rw (and-half s (s - 1), q, and-self (s / 2)) (sym (bit-suc s i))
-others-kept (suc t) s zero h d =
-    let e : s % 2 ≡ 0 = sym (bit-zero s) ∙ h .least 0 (omega arith) in
-    bit-zero _ ∙ omega (arith, and-low s (s - 1), bit-zero s)
-others-kept (suc t) s (suc i) h d =
-    let e : s % 2 ≡ 0 = sym (bit-zero s) ∙ h .least 0 (omega arith) in
-    let p = some-state s (suc t) (h .inside) in
-    let q : (s - 1) / 2 ≡ s / 2 - 1 = omega arith in
-    bit-suc _ i ∙ rw (and-half s (s - 1), q) (others-kept t (s / 2) i (lowest-half s t h) (λ z. d (omega arith))) ∙ sym (bit-suc s i)

@@ -15,9 +15,10 @@ use Rattle.meaning.specs.Row.{Row, width}
 use Rattle.meaning.specs.Step.{row, outside, renewed, removed}
 use Rattle.meaning.specs.Steps.{takenOut, largestTaken}
 use Rattle.theory.specs.Numbers.Tab.{tab-at, tab-ext}
+use Rattle.chain.specs.Rising.{placeOf}
 use Rattle.engines.specs.declared.row.Settled.{Settled}
 use Rattle.engines.specs.Row.{Fit, Removable}
-use Rattle.engines.specs.Packed.{targetsOf, placeOf, weightsAt, weightOf, Below, Packed, Spread, Room}
+use Rattle.engines.specs.Packed.{targetsOf, weightsAt, weightOf, Below, Packed, Spread, Room}
 use Rattle.engines.specs.Table.{partAt, rowAt, tableOf, Fitting, Kept, Placed, Renewed}
 use Rattle.engines.specs.Turn.{Made}
 use Rattle.engines.proofs.Rows.{apart}

@@ -14,7 +14,8 @@ use Rattle.meaning.specs.Number.{choose, bit}
 use Rattle.meaning.specs.Row.{Row, cell, width}
 use Rattle.meaning.specs.Step.{combined}
 use Rattle.theory.specs.Numbers.Tab.{tab-of, getD-zeros}
-use Rattle.engines.specs.Packed.{targetsOf, placeOf, weightsAt, weightOf, unpacked, Modest, Spread, Room}
+use Rattle.chain.specs.Rising.{placeOf}
+use Rattle.engines.specs.Packed.{targetsOf, weightsAt, weightOf, unpacked, Modest, Spread, Room}
 use Rattle.engines.specs.Filled.{Columns, Merged, Replaced, Squeezable, Squeezed}
 use Rattle.engines.proofs.Places.{place-rises, place-most}
 use Rattle.engines.proofs.Along.{weight-none, weight-small}

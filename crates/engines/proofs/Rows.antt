@@ -23,7 +23,7 @@ use Rattle.theory.specs.Rows.Terms.{over-cell}
 use Rattle.engines.specs.declared.row.Settled.{Settled}
 use Rattle.engines.specs.Packed.{unpacked, Packed}
 use Rattle.engines.specs.Row.{Summable, Fit, Removable, Tested, Became}
-use Rattle.engines.proofs.Lowest.{over-parts}
+use Rattle.chain.proofs.Lowest.{over-parts}
 use Rattle.engines.proofs.Unpacked.{unpacked-length}
 use Rattle.engines.proofs.Laws.{packed-held, fit-small}
 

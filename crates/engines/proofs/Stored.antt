@@ -20,7 +20,7 @@ use Rattle.engines.proofs.Places.{place-sum, place-all, place-rises}
 use Rattle.engines.proofs.Along.{weight-some, weight-none}
 use Rattle.engines.proofs.Unpacked.{unpacked-length, unpacked-weight, each-column, each-front, goal-stands, trap-stands, unknown-stands}
 use Rattle.engines.proofs.Middle.{put-length, put-before, put-within, put-past, mid-at}
-use Rattle.engines.proofs.Lowest.{over-sum}
+use Rattle.chain.proofs.Lowest.{over-sum}
 use Rattle.engines.proofs.Laws.{packed-bit, unpacked-over, each-weight}
 
 -- The total is the sum of Goal, Trap, Unknown and the weights as they are stored.

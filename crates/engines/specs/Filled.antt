@@ -8,19 +8,8 @@ use Rattle.meaning.specs.Chain.{mostStates, M}
 use Rattle.meaning.specs.Number.{sumTo, only, choose, bit}
 use Rattle.meaning.specs.Row.{cell, width}
 use Rattle.meaning.specs.Step.{combined}
-use Rattle.engines.specs.Packed.{targetsOf, placeOf, weightsAt, endOfPart, weightOf, unpacked, Below, Packed, Modest, Room}
-
--- t is the lowest state of a set.
-pub record Lowest (set t : ℕ) : Type 0 where
-  pub inside : bit set t ≡ 1
-  pub least : (i : ℕ) → i < t → bit set i ≡ 0
-  pub small : t < mostStates
-
--- A set without its lowest state.
-pub record Others (set r : ℕ) : Type 0 where
-  pub less : r < set
-  pub gone : (t : ℕ) → Lowest set t → bit r t ≡ 0
-  pub kept : (t : ℕ) → Lowest set t → (i : ℕ) → (i ≡ t → ⊥) → bit r i ≡ bit set i
+use Rattle.chain.specs.Rising.{placeOf}
+use Rattle.engines.specs.Packed.{targetsOf, weightsAt, endOfPart, weightOf, unpacked, Below, Packed, Modest, Room}
 
 -- How many of the weights c 0, .., c (j - 1) are above 0, and the set of their columns.
 abbrev pub countTo : (ℕ → ℕ) → ℕ → ℕ

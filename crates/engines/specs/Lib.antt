@@ -6,7 +6,6 @@ pub mod Turn
 pub mod Log
 pub mod Order
 pub mod Answer
-pub mod Looking
 pub mod Laying
 pub mod Told
 pub mod Pay

@@ -1,7 +1,7 @@
 -- How a row lies in its own part of the work table.
 -- A part is the number of its live targets, then Reward, Goal, Trap and Unknown, then the weights of its targets side by side, in rising order
 -- of target, and zeros after them.
-use Prim.Native.Nat.{ℕ, _+_, _-_, _%_, _^_, _≤_, _<_}
+use Prim.Native.Nat.{ℕ, _+_, _-_, _^_, _≤_, _<_}
 use mathlib.Core.Path.{_≡_}
 use mathlib.Core.List.{List}
 use lib.Bits.{bitOr}
@@ -11,14 +11,11 @@ use lib.ListN.{length, getD}
 use Rattle.meaning.specs.Chain.{mostStates, M}
 use Rattle.meaning.specs.Number.{only, choose, bit, tabFrom}
 use Rattle.meaning.specs.Row.{Row, width, goalColumn, trapColumn, unknownColumn}
+use Rattle.chain.specs.Rising.{placeOf}
 
 -- The 64-bit number of a part's live targets.
 abbrev pub targetsOf : List ℕ → ℕ
 targetsOf p = getD p 0 0
-
--- A target's place is the count of ones below its bit.
-abbrev pub placeOf : ℕ → ℕ → ℕ
-placeOf targets j = ones (targets % 2 ^ j)
 
 -- Where each number of a part stands.
 abbrev pub rewardAt : ℕ

@@ -1,14 +1,13 @@
 // The entries: each does its own looking, and answers or refuses.
 ghost use mathlib.Core.Path.{_≡_};
-ghost use mathlib.Core.Bool.{Bool, true, false};
+ghost use mathlib.Core.Bool.{true, false};
 ghost use mathlib.Core.List.{[]};
-ghost use Prim.Native.Nat.{ℕ};
 ghost use Rattle.meaning.specs.Outcome.{ChanceOutcome, BoundsOutcomeOf, BoundsOutcome};
 ghost use Rattle.meaning.specs.Row.{rounding as rounds};
 ghost use Rattle.meaning.specs.Refusal.{withList, eliminating};
 ghost use Rattle.meaning.specs.Left.{LeftOutcome};
 ghost use Rattle.chain.specs.Lent.{lent};
-ghost use Rattle.look.specs.Says.{counted};
+ghost use Rattle.survey.specs.Looking.{asked, sizeOf};
 ghost use Rattle.engines.specs.Answer.{toldChance, toldBounds};
 ghost use Rattle.engines.specs.Log.{Logged};
 ghost use Rattle.engines.specs.Run.{entered, chanceOf};
@@ -19,18 +18,19 @@ use crate::answer::Bounds;
 use crate::answer::Chance;
 use crate::answer::Reward;
 use crate::answer::Trace;
-use crate::looking::Looked;
-use crate::looking::look;
-use crate::looking::look_paid;
 use crate::run::Course;
 use crate::run::Elimination;
 use crate::run::run;
 use crate::work::clear_work;
 use chain::Chain;
 use chain::fraction::Fraction;
+use survey::looking::Length;
+use survey::looking::Looked;
+use survey::looking::look;
+use survey::looking::look_paid;
 
-// What the chance and the bounds are read off: these entries are lent no rewards. Of a step list only the length counts here; the caller gives n
-// where none is lent. What is told of the work table holds of a lent one.
+// What the chance and the bounds are read off: these entries are lent no rewards. Of a step list only the length counts here. What
+// is told of the work table holds of a lent one.
 fn unpaid(
     c: Chain,
     denominators: &[u64],
@@ -40,14 +40,13 @@ fn unpaid(
     rounding: bool,
     short: bool,
     own: bool,
-    list: usize,
+    list: Length,
     log: &mut [u64],
 ) -> Course
     requires { ⌜ Logged (now log) [] × (short ≡ true → rounding ≡ rounds) × Fresh own (now work) ⌝ }
     ensures { λ r.
         let l = lent c (now (denominators .entry)) (now (edges .entry)) (now (order .entry)) [] (now (work .entry)) in
-        ⌜ ((t : Bool) (k : ℕ) → counted t k (c .states) list
-        → Used own (now (work .exit)) (λ w. entered (eliminating false t short) rounding (withList k l) w (now (log .exit)) r)) ⌝ }
+        ⌜ Used own (now (work .exit)) (λ w. entered (eliminating false (asked list) short) rounding (withList (sizeOf list) l) w (now (log .exit)) r) ⌝ }
 {
     match look(c, denominators, edges, order, work, list, short) {
         Looked::Refused { number, place } => Course::Stops { number, place },
@@ -105,7 +104,7 @@ fn exactly(
         false,
         false,
         own,
-        c.states,
+        Length::None,
         &mut none,
     ))
 }
@@ -158,7 +157,7 @@ pub fn trace(
         false,
         false,
         false,
-        list,
+        Length::Of(list),
         &mut numbers,
     );
     Trace {
@@ -233,7 +232,7 @@ fn between(
         true,
         short,
         own,
-        c.states,
+        Length::None,
         &mut none,
     ) {
         Course::Ends {

@@ -3,10 +3,11 @@ ghost use mathlib.Core.List.{[]};
 ghost use Rattle.chain.specs.Lent.{lent};
 ghost use Rattle.engines.specs.Laying.{laid};
 use crate::gather::gather;
-use crate::looking::Looked;
-use crate::looking::look;
 use chain::Chain;
 use survey::Sets;
+use survey::looking::Length;
+use survey::looking::Looked;
+use survey::looking::look;
 
 // The chain's sets where its rows are laid out; or the refusal, which leaves the work table.
 pub enum Laid {
@@ -20,7 +21,7 @@ pub fn lay(c: Chain, denominators: &[u64], edges: &[u64], order: &[u64], work: &
         let l = lent c (now (denominators .entry)) (now (edges .entry)) (now (order .entry)) [] (now (work .entry)) in
         ⌜ laid l (now (work .exit)) r ⌝ }
 {
-    match look(c, denominators, edges, order, work, c.states, false) {
+    match look(c, denominators, edges, order, work, Length::None, false) {
         Looked::Refused { number, place } => Laid::Refused { number, place },
         Looked::Clear(sets) => {
             gather(work, c.states, sets, edges, false);

@@ -1,13 +1,10 @@
 // The elimination on the rows of a table of 64-bit numbers: exact, or with rows rounded where they do not fit.
 pub mod answer;
-mod bits;
-mod divisor;
 pub mod entry;
 mod first;
 mod gather;
 pub mod laying;
 mod log;
-mod looking;
 mod merge;
 mod part;
 mod pay;

@@ -14,12 +14,12 @@ ghost use Rattle.engines.specs.Table.{partAt, tableOf, rowAt, Fitting};
 ghost use Rattle.engines.specs.Turn.{Made};
 ghost use Rattle.engines.specs.Log.{logSize, HoldsRecords, Roomy, LoggedMore};
 use crate::answer::Trace;
-use crate::bits::count;
 use crate::part::GOAL;
 use crate::part::TRAP;
 use crate::step::remove;
 use crate::work::row_start;
 use chain::Chain;
+use chain::bits::count;
 use chain::set::holds;
 
 // 1 where a set holds the state s, and 0 where it does not or is that of the state's own row.

@@ -1,20 +1,15 @@
 // Packed rows that are written: the row that comes about when a state is removed, and a row without its weights of 0.
 ghost use mathlib.Core.Path.{_≡_};
 ghost use mathlib.Core.Bool.{true};
-ghost use Prim.Native.Nat.{ℕ, _+_, _*_, _≤_, _<_};
+ghost use Prim.Native.Nat.{ℕ, _+_, _*_, _^_, _≤_, _<_};
 ghost use lib.Count.{ones};
+ghost use lib.Dec.{ltb};
 ghost use lib.ListN.{length, getD};
 ghost use Rattle.meaning.specs.Chain.{mostStates, M};
-ghost use Rattle.meaning.specs.Number.{choose};
+ghost use Rattle.meaning.specs.Number.{only, choose};
 ghost use Rattle.meaning.specs.Row.{width};
 ghost use Rattle.engines.specs.Packed.{weightsAt, Modest, Spread, Room};
 ghost use Rattle.engines.specs.Filled.{Columns, blend, targetsTo, Filled, Beside, Closed, Merged, Replaceable, Alike, Replaced, Squeezable, Squeezed};
-use crate::bits::alone;
-use crate::bits::lowest;
-use crate::bits::mark;
-use crate::bits::others;
-use crate::bits::place;
-use crate::bits::some;
 use crate::part::REWARD;
 use crate::part::WEIGHTS;
 use crate::part::end;
@@ -22,6 +17,25 @@ use crate::part::spread;
 use crate::part::weight;
 use crate::work::clear;
 use chain::Chain;
+use chain::bits::alone;
+use chain::bits::lowest;
+use chain::bits::others;
+use chain::bits::place;
+
+// 1 where a weight is above 0, else 0.
+pub(crate) fn some(v: u64) -> usize
+    ensures { λ r. ⌜ r ≡ only (ltb 0 v) 1 ⌝ }
+{
+    if 0 < v { 1 } else { 0 }
+}
+
+// The set of state j alone where its weight is above 0, else the empty one.
+fn mark(v: u64, j: usize) -> u64
+    requires { ⌜ j < mostStates ⌝ }
+    ensures { λ r. ⌜ r ≡ only (ltb 0 v) (2 ^ j) ⌝ }
+{
+    if 0 < v { alone(j) } else { 0 }
+}
 
 // The product of two numbers of kept rows: each has at most 32 bits, so that the compiler can multiply several at once.
 fn product(a: u64, b: u64) -> u64

@@ -5,11 +5,11 @@ ghost use lib.ListN.{length, getD};
 ghost use Rattle.meaning.specs.Chain.{mostStates};
 ghost use Rattle.meaning.specs.Row.{width};
 ghost use Rattle.engines.specs.Packed.{endOfPart, weightOf, Spread};
-use crate::bits::count;
-use crate::bits::lowest;
-use crate::bits::others;
-use crate::bits::place;
 use chain::Chain;
+use chain::bits::count;
+use chain::bits::lowest;
+use chain::bits::others;
+use chain::bits::place;
 use chain::set::holds;
 
 // Where Reward, Goal, Trap and Unknown stand, and where the weights begin. The number of the targets stands at 0.

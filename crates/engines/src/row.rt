@@ -9,7 +9,6 @@ ghost use Rattle.meaning.specs.Number.{sumTo, only};
 ghost use Rattle.meaning.specs.Row.{cell, total, reward, divisor, over, upTo, shiftOf, rounded, bounded, settled};
 ghost use Rattle.engines.specs.Packed.{endOfPart, statesOf, unpacked, Packed};
 ghost use Rattle.engines.specs.Row.{Summable, Tested, Shifted, Became};
-use crate::divisor::reduce;
 use crate::merge::squeeze;
 use crate::part::GOAL;
 use crate::part::REWARD;
@@ -18,6 +17,7 @@ use crate::part::UNKNOWN;
 use crate::part::WEIGHTS;
 use crate::part::end;
 use chain::Chain;
+use chain::divisor::reduce;
 
 // What became of a new row: whether it fits, and the divisor that was taken out of it. Of a table of rows that all fit it is the largest of these.
 pub(crate) struct Settled {
@@ -87,7 +87,7 @@ fn shift(t: u64) -> u64
     k
 }
 
-// What `some` of bits says, of a weight that fits: with no test, so that the compiler takes several at once.
+// What `some` of merge says, of a weight that fits: with no test, so that the compiler takes several at once.
 fn above(x: u64) -> u64
     requires { ⌜ x ≤ M ⌝ }
     ensures { λ r. ⌜ r ≡ only (ltb 0 x) 1 ⌝ }

@@ -1,3 +1,4 @@
 pub mod Grow
+pub mod Looking
 pub mod Sets
 pub mod Told

@@ -8,6 +8,7 @@ ghost use Rattle.survey.specs.Told.{told};
 use chain::Chain;
 use look::Finding;
 
+pub mod looking;
 mod reach;
 
 // The states with a path to an end, the live ones, and whether a state is reached that has no path to one.

@@ -1,6 +1,6 @@
 use mathlib.Core.Path.{refl}
 use mathlib.Core.Logic.{inl}
-use mathlib.Core.Bool.{Bool, false}
+use mathlib.Core.Bool.{Bool}
 use mathlib.Core.List.{[]}
 use native.Mathlib.Omega.{arith}
 use borrow.Author.Needs.{needs}
@@ -25,13 +25,13 @@ add-new : tie.Need-add-new
 add-new c =
     let goal = c .before .before .before in
     let at = goal .before .before .before .before .before in
-    omega (arith, bounds-sum (short at) (l at) _ _ (goal .goal .given .1) (at .unpaid .ensures false 0 (refl, refl) .outcome))
+    omega (arith, bounds-sum (short at) (l at) _ _ (goal .goal .given .1) (at .unpaid .ensures .outcome))
 
 returns : tie.Need-returns
 returns c =
     let goal = c .before .before .before .before .before in
     let at = goal .before .before .before .before .before in
-    let z = at .unpaid .ensures false 0 (refl, refl) in
+    let z = at .unpaid .ensures in
     record {
       work = z .work;
       outcome =
@@ -44,7 +44,7 @@ returns-2 : tie.Need-returns-2
 returns-2 c =
     let number = c .before in
     let at = number .before .before .before .before .before in
-    let z = at .unpaid .ensures false 0 (refl, refl) in
+    let z = at .unpaid .ensures in
     record { work = z .work; outcome = refuses-bounds (short at) (l at) _ _ (number .number .given .1) (z .outcome); lent = z .lent }
 
 pub between-spec : {M : Type 1} → statement M

@@ -1,6 +1,5 @@
 use mathlib.Core.Path.{refl}
 use mathlib.Core.Logic.{inl}
-use mathlib.Core.Bool.{false}
 use mathlib.Core.List.{[]}
 use borrow.Author.Needs.{needs}
 use Rattle.meaning.specs.Refusal.{plain}
@@ -17,7 +16,7 @@ returns c =
     let at = c .before .before .before .before in
     let a = at .before .before .before .before .before .before .before .args in
     let l = lent (a .c) (a .denominators .now) (a .edges .now) (a .order .now) [] (a .work .now) in
-    let z = at .unpaid .ensures false 0 (refl, refl) in
+    let z = at .unpaid .ensures in
     record {
       work = z .work;
       outcome = rw (c .chance-of .ensures) (outcome-chance plain refl refl l _ _ (at .unpaid .result) (z .outcome));

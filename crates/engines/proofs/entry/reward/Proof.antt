@@ -10,7 +10,8 @@ use Rattle.theory.specs.Numbers.Decide.{holds, fails}
 use Rattle.theory.specs.Rows.Settle.{one-engine}
 use Rattle.theory.specs.Outcomes.Formed.{few-states, room}
 use Rattle.engines.proofs.Rows.{apart}
-use Rattle.engines.proofs.Looked.{refused-by, clear, begun}
+use Rattle.survey.proofs.Looked.{refused-by, clear}
+use Rattle.engines.proofs.Looked.{begun}
 use Rattle.engines.proofs.Outcomes.{reduced-of, refuses-reward, misses-reward, answers-reward, stops-reward}
 use Rattle.engines.proofs.entry.reward.Statement.{statement}
 use Rattle.engines.proofs.entry.reward.Tie as tie

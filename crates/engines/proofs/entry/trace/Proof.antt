@@ -1,5 +1,4 @@
 use mathlib.Core.Path.{refl}
-use mathlib.Core.Bool.{true}
 use mathlib.Core.List.{[]}
 use borrow.Author.Needs.{needs}
 use Rattle.meaning.specs.Refusal.{withList}
@@ -18,7 +17,7 @@ returns c =
     let at = c .before .before .before .before in
     let a = at .before .before .before .before .before .before .before .args in
     let l = withList (a .list) (lent (a .c) (a .denominators .now) (a .edges .now) (a .order .now) [] (a .work .now)) in
-    let z = at .unpaid .ensures true _ refl in
+    let z = at .unpaid .ensures in
     rw (c .chance-of .ensures) (traced l _ _ (search needs) (at .unpaid .result) (rw (z .lent refl) at (z .outcome)))
 
 pub trace-spec : {M : Type 1} → statement M

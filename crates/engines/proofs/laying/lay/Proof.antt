@@ -1,11 +1,10 @@
 use mathlib.Core.Path.{refl}
-use mathlib.Core.Bool.{false}
 use mathlib.Core.List.{[]}
 use borrow.Author.Needs.{needs}
 use Rattle.meaning.specs.Refusal.{Lent}
 use Rattle.chain.specs.Lent.{lent}
 use Rattle.engines.proofs.Rows.{apart}
-use Rattle.engines.proofs.Looked.{refused-by, clear}
+use Rattle.survey.proofs.Looked.{refused-by, clear}
 use Rattle.engines.proofs.Given.{lay-gatherable, lay-given}
 use Rattle.engines.proofs.laying.lay.Statement.{statement}
 use Rattle.engines.proofs.laying.lay.Tie as tie
@@ -19,20 +18,20 @@ gather-requires : tie.Need-gather-requires
 gather-requires c κs =
     let sets = c .before .before in
     let at = sets .before .before in
-    let f = clear {l = l at} (at .look .ensures false 0 (refl, refl)) (sets .sets .given .1) in
+    let f = clear {l = l at} (at .look .ensures) (sets .sets .given .1) in
     (lay-gatherable (l at) _ (f .0) (f .1 .right), λ e. absurd (apart e))
 
 returns : tie.Need-returns
 returns c =
     let at = c .before .before .before in
-    (refused-by {l = l at} (at .look .ensures false 0 (refl, refl)) (c .before .number .given .1), refl)
+    (refused-by {l = l at} (at .look .ensures) (c .before .number .given .1), refl)
 
 returns-2 : tie.Need-returns-2
 returns-2 c =
     let gather = c .before .before in
     let sets = gather .before .before .before in
     let at = sets .before .before in
-    let f = clear {l = l at} (at .look .ensures false 0 (refl, refl)) (sets .sets .given .1) in
+    let f = clear {l = l at} (at .look .ensures) (sets .sets .given .1) in
     (f .0, f .1, lay-given (l at) _ (f .0) (f .1 .right) (gather .gather .ensures))
 
 pub lay-spec : {M : Type 1} → statement M

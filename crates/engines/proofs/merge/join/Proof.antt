@@ -1,10 +1,12 @@
 use Prim.Native.Nat.{suc, _+_, _-_, _≤_, _<_, _^_}
-use mathlib.Core.Path.{ap, _∙_}
+use mathlib.Core.Path.{_≡_, ap, _∙_}
 use native.Mathlib.Omega.{arith}
 use lib.ListN.{length-set, set}
 use borrow.Author.Needs.{needs}
 use Rattle.meaning.specs.Chain.{mostStates, M}
-use Rattle.engines.specs.Packed.{targetsOf, placeOf, weightsAt, endOfPart}
+use Rattle.chain.specs.Rising.{placeOf}
+use Rattle.chain.proofs.Rising.{alone-in}
+use Rattle.engines.specs.Packed.{targetsOf, weightsAt, endOfPart}
 use Rattle.engines.specs.Filled.{Beside, Closed}
 use Rattle.engines.proofs.Places.{place-rises, place-most, place-below}
 use Rattle.engines.proofs.Along.{weight-small}
@@ -75,11 +77,15 @@ moved c = let p = c .before .before .before .before .before .before in rw (p .pl
 few : (c : tie.After-close) → targetsOf (c .before .before .before .before .before .before .before .before .before .before .before .before .before .args .part .now) < 2 ^ mostStates
 few c = c .before .before .before .before .before .before .before .slice-known2 .given 0 .fits
 
+-- The set of s alone.
+one : (c : tie.After-alone) → c .alone .result ≡ 2 ^ c .before .before .before .before .before .before .before .before .before .before .before .before .before .before .before .before .args .s
+one c = alone-in (c .alone .ensures) (c .before .before .before .before .before .before .before .before .before .before .before .before .before .before .before .before .pre .0 .state)
+
 sub-part : tie.Need-sub-part
 sub-part c =
     let k = c .before .before .before in
     let t = k .before .before .before .before .before .before .before .before .before .before .before .before .before in
-    rw (c .alone .ensures) (own-target (t .pre .0) (t .pre .1) (made k) (moved k) (few k))
+    rw (one c) (own-target (t .pre .0) (t .pre .1) (made k) (moved k) (few k))
 
 same-length : tie.Need-same-length
 same-length c =
@@ -94,7 +100,7 @@ returns c =
     let t = w .before .before .before in
     let l = b .beside .last .0 in
     replaced (w .weight .ensures)
-    (joined (t .pre .0) (t .pre .1) (made k) (moved k) (emptied l (omega (arith, t .pre .0 .held, made k .len))) (few k) (ap (λ x. set (k .close .last .0) 0 (targetsOf (t .args .part .now) - x)) (c .alone .ensures)))
+    (joined (t .pre .0) (t .pre .1) (made k) (moved k) (emptied l (omega (arith, t .pre .0 .held, made k .len))) (few k) (ap (λ x. set (k .close .last .0) 0 (targetsOf (t .args .part .now) - x)) (one c)))
 
 pub join-spec : {M : Type 1} → statement M
 join-spec =
@@ -103,11 +109,11 @@ join-spec =
     (λ c κs. let h = c .before .before .pre .0 in (h .state, h .held))
     (λ c κs. c .before .before .before .before .pre .0 .held)
     (λ c. search needs)
-    (λ c κs. c .before .before .before .before .before .before .pre .0 .state)
+    (λ c κs. search needs)
     add-a
     beside-requires
     close-requires
-    (λ c κs. c .before .before .before .before .before .before .before .before .before .before .before .before .before .before .before .pre .0 .state)
+    (λ c κs. search needs)
     sub-part
     (λ c. search needs)
     same-length

@@ -3,6 +3,7 @@ use mathlib.Core.Path.{ap}
 use native.Mathlib.Omega.{arith}
 use borrow.Author.Needs.{needs}
 use lib.ListN.{length}
+use Rattle.chain.specs.Rising.{Lowest, Others}
 use Rattle.engines.specs.Filled.{blend}
 use Rattle.engines.proofs.Fill.{only-le}
 use Rattle.engines.proofs.Along.{Written, written-none, written-all, written-room, written-fits, written-more, blend-none}
@@ -21,6 +22,13 @@ loop-holds c =
     let h = c .before .pre in
     written-none (blend-none (a .s) (a .d) (a .w) (h .3) (h .4)) (omega arith) (h .5)
 
+-- What is left is not empty.
+low : (c : tie.After-lowest Inv-loop μ-loop) → Lowest (c .before .before .loop .rest) (c .lowest .result)
+low c = c .lowest .ensures .0 (omega arith)
+
+less : (c : tie.After-others Inv-loop μ-loop) → Others (c .before .before .before .before .before .before .before .before .loop .rest) (c .others .result)
+less c = c .others .ensures .0 (omega arith)
+
 cell-requires : tie.Need-cell-requires Inv-loop μ-loop
 cell-requires c κs =
     let h = c .before .before .before .before .before .before .pre in
@@ -29,7 +37,7 @@ cell-requires c κs =
 room : (c : tie.After-cell Inv-loop μ-loop) → c .before .before .before .before .before .loop .k < length (c .before .before .before .before .before .before .before .args .part .now)
 room c =
     let l = c .before .before .before in
-    written-room (l .before .before .loop .inv) (l .lowest .ensures) _ (l .before .before .before .before .pre .0)
+    written-room (l .before .before .loop .inv) (low l) _ (l .before .before .before .before .pre .0)
 
 mul-part : tie.Need-mul-part Inv-loop μ-loop
 mul-part c = omega (arith, room c)
@@ -41,21 +49,21 @@ add-k : tie.Need-add-k Inv-loop μ-loop
 add-k c = omega (arith, room (c .before), c .some .ensures, only-le (c .before .cell .result) 1)
 
 mark-requires : tie.Need-mark-requires Inv-loop μ-loop
-mark-requires c κs = c .before .before .before .before .lowest .ensures .small
+mark-requires c κs = low (c .before .before .before .before) .small
 
 add-targets : tie.Need-add-targets Inv-loop μ-loop
 add-targets c =
     let l = c .before .before .before .before .before in
-    record { fits = rw (c .mark .ensures) (written-fits (l .before .before .loop .inv) (l .lowest .ensures) (c .before .before .cell .result)) }
+    record { fits = rw (c .mark .ensures) (written-fits (l .before .before .loop .inv) (low l) (c .before .before .cell .result)) }
 
 loop-less : tie.Need-loop-less Inv-loop μ-loop
-loop-less c = c .others .ensures .less
+loop-less c = less c .less
 
 loop-again : tie.Need-loop-again Inv-loop μ-loop
 loop-again c =
     let p = c .before .before .before in
     let l = p .before .before .before in
-    written-more (l .before .before .loop .inv) (l .lowest .ensures) (c .others .ensures) (p .cell .ensures)
+    written-more (l .before .before .loop .inv) (low l) (less c) (p .cell .ensures)
     (ap (λ z. l .before .before .loop .k + z) (c .before .before .some .ensures))
     (ap (λ z. l .before .before .loop .targets + z) (c .before .mark .ensures))
     (room p)
@@ -71,10 +79,10 @@ weights-spec =
     μ-loop
     loop-holds
     (λ c κs. search needs)
-    (λ c. search needs)
-    (λ c. search needs)
-    (λ c. search needs)
-    (λ c. search needs)
+    (λ c. omega (arith, low c .small))
+    (λ c. omega (arith, low c .small))
+    (λ c. omega (arith, low (c .before) .small))
+    (λ c. omega (arith, low (c .before) .small))
     cell-requires
     mul-part
     slice-write-part

@@ -1,7 +1,0 @@
-use borrow.Author.Needs.{needs}
-use Rattle.theory.specs.Numbers.Bits.{one-set}
-use Rattle.engines.proofs.bits.alone.Statement.{statement}
-use Rattle.engines.proofs.bits.alone.Tie as tie
-
-pub alone-spec : {M : Type 1} → statement M
-alone-spec = tie.close (tie.spec (λ c. search needs) (λ c. one-set (c .args .j) (c .pre)))
