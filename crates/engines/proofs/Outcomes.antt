@@ -1,19 +1,20 @@
 -- From what the figures are read off to the outcome of each entry.
-use Prim.Native.Nat.{ℕ, _+_, _≤_}
+use Prim.Native.Nat.{ℕ, _+_, _≤_, _<_}
 use mathlib.Core.Path.{_≡_, refl, sym, ap, ap₂, subst, _∙_}
 use mathlib.Core.Bool.{Bool, true, false}
 use mathlib.Core.List.{List}
-use mathlib.Core.Logic.{⊎-elim}
 use native.Mathlib.Omega.{arith}
+use borrow.Author.Tests.{eq-eqb, ne-eqb}
 use Rattle.meaning.specs.Number.{gcdIn, gcd, Reduced}
 use Rattle.meaning.specs.Chain.{M, Chain, FromStart}
-use Rattle.meaning.specs.Figure.{Chance, Missed, Expected}
+use Rattle.meaning.specs.Figure.{Chance as IsChance, Missed, Expected}
 use Rattle.meaning.specs.Row.{cell, goalColumn, unknownColumn, exact, rounding, rewardColumn}
 use Rattle.meaning.specs.Row.{reward as rewardIn}
 use Rattle.meaning.specs.Step.{row, Sets, outside, unknown}
-use Rattle.meaning.specs.Refusal.{eliminating, Lent, Entry, paid, Refused, WellFormed}
+use Rattle.meaning.specs.Refusal.{eliminating, Lent, Entry, plain, paid, WellFormed}
+use Rattle.meaning.specs.Left.{shortRows, LeftOutcome}
 use Rattle.meaning.specs.Stop.{earns, Stopped}
-use Rattle.meaning.specs.Outcome.{cleared, Outcome, refused, stopped, answered, refusal, ChanceFigure, RewardFigure, noBounds, between, BoundsFigure, BoundsOutcomeOf}
+use Rattle.meaning.specs.Outcome.{cleared, Outcome, refused, stopped, answered, refusal, ChanceFigure, RewardFigure, between, BoundsFigure, BoundsOutcomeOf, BoundsOutcome}
 use Rattle.theory.specs.Numbers.Sum.{sum-two}
 use Rattle.theory.specs.Numbers.Gcd.{reduced-share}
 use Rattle.theory.specs.Outcomes.Formed.{start-in}
@@ -30,10 +31,14 @@ use Rattle.engines.specs.declared.answer.Bounds.the-variants as bounds
 use Rattle.engines.specs.Answer.{toldChance, toldBounds}
 use Rattle.chain.proofs.Terms.{terms}
 use Rattle.look.proofs.Refuse.{refused-some}
-use Rattle.engines.specs.Run.{tableFrom, chanceOf, entered, Ended, Read, won, lost, live, runs}
+use Rattle.elimination.specs.Run.{tableFrom, Ended, Read, won, lost, live, runs}
+use Rattle.elimination.specs.Entered.{Comes, Entered}
+use Rattle.elimination.specs.declared.engine.Engine.the-variants.{Chance, Reward, Bounds, Left}
+use Rattle.elimination.proofs.Rows.{apart}
+use Rattle.engines.specs.ReadOff.{termsOf, chanceOf, rewardOf, boundsOf, Summed}
 use Rattle.engines.specs.Told.{Rewarded}
-use Rattle.engines.specs.declared.run.Course.{Course}
-use Rattle.engines.specs.declared.run.Course.the-variants.{Ends, Stops}
+use Rattle.elimination.specs.declared.course.Course.{Course}
+use Rattle.elimination.specs.declared.course.Course.the-variants.{Ends, Stops}
 
 -- The fraction of two numbers.
 abbrev over : ℕ → ℕ → Fraction
@@ -46,7 +51,7 @@ read-unstopped pay l (lost h q) number place s = h (s .alive .leads)
 read-unstopped pay l (live k right alive z) number place s = passed-unstopped l k right pay exact (z .passed) number place s
 
 -- A chance, and an expected reward, in lowest terms.
-lowest-chance : (c : Chain) (a b p q : ℕ) → Chance c a b → Reduced a b p q → Chance c p q
+lowest-chance : (c : Chain) (a b p q : ℕ) → IsChance c a b → Reduced a b p q → IsChance c p q
 lowest-chance c a b p q h r =
     record { lowest = r .lowest; share = λ d x s. reduced-share a b p q d (x (c .start)) r (h .lowest .whole) (h .share d x s) }
 
@@ -72,7 +77,7 @@ module _ {pay : ℕ → ℕ} {short b : Bool} {l : Lent} {k : Sets} {g u e d : �
   read-outside = let q = z .read in cc
 
 chance-read : (x : Entry) → x .order ≡ true → x .short ≡ false → (l : Lent) → WellFormed x l → {g u e d : ℕ} → Read (earns x l) false exact l g u e d
-    → Chance (l .chain) (reduced (over g d) .numerator) (reduced (over g d) .denominator)
+    → IsChance (l .chain) (reduced (over g d) .numerator) (reduced (over g d) .denominator)
 chance-read x o whole l formed {g} {u} {e} {d} (won h q) =
     let eg : g ≡ 1 = cc in
     let ed : d ≡ 1 = cc in
@@ -99,6 +104,13 @@ reward-read l formed sure (live k right alive z) =
     let whole = exact-whole (l .chain) k (l .order) ready (earns paid l) alive in
     rw (read-reward z, read-outside z)
     (exact-reward (l .chain) k (l .order) ready (earns paid l) alive sure _ _ (terms (over _ _) whole))
+
+-- What is read off is over a number above 0.
+read-whole : (l : Lent) → WellFormed paid l → (Missed (l .chain) → ⊥) → {g u e d : ℕ} → Read (earns paid l) false exact l g u e d → 0 < d
+read-whole l formed sure {d = d} (won h q) = let ed : d ≡ 1 = cc in omega arith
+read-whole l formed sure {d = d} (lost h q) = let ed : d ≡ 1 = cc in omega arith
+read-whole l formed sure (live k right alive z) =
+    rw (read-outside z) (exact-whole (l .chain) k (l .order) (formed-prepared paid l formed refl refl k right) (earns paid l) alive)
 
 -- The entry for the bounds, whose rows may fall short or not.
 module _ (short : Bool) (l : Lent) where
@@ -140,61 +152,88 @@ module _ (short : Bool) (l : Lent) where
         stage-fits (l .chain) k (earns x l) (unknown short (l .chain)) (l .order) rounding n (l .chain .start) (start-in x l formed) .small refl,
       )
 
-  module _ (w log : List ℕ) {r : Course} where
-    pub bounds-sum : {g u e d : ℕ} → r ≡ Ends g u e d → entered x rounding l w log r → g + u ≤ M
-    bounds-sum q z = let y = subst (entered x rounding l w log) q z in read-sum (y .0) (y .2)
+  -- The elimination does not stop.
+  bounds-came : {w : List ℕ} (r : Course) → WellFormed x l → w ≡ cleared l → runs (earns x l) short rounding l r → BoundsOutcomeOf x l (toldBounds (boundsOf r)) w
+  bounds-came (Ends g u e d) formed s z = answered formed (λ number place t. t) (bounds-read formed z) s
+  bounds-came (Stops number place) formed s z = absurd (rounding-unstopped z)
 
-    pub answers-bounds : {g u e d : ℕ} → r ≡ Ends g u e d → entered x rounding l w log r → {f h : Fraction} → f ≡ reduced (over g d)
-        → h ≡ reduced (over (g + u) d) → BoundsOutcomeOf x l (toldBounds (bounds.Between f h)) w
-    answers-bounds q z t v =
-        let y = subst (entered x rounding l w log) q z in
-        rw (t, v) (answered (y .0) (λ number place s. s) (bounds-read (y .0) (y .2)) (y .1))
-
-    -- Its elimination does not stop, so that this is a refusal by 1 to 10.
-    pub refuses-bounds : {number place : ℕ} → r ≡ Stops number place → entered x rounding l w log r → BoundsOutcomeOf x l (noBounds number place) w
-    refuses-bounds q z =
-        ⊎-elim (λ y. refused _ _ (y .0) refl (y .1)) (λ y. absurd (rounding-unstopped (y .2))) (subst (entered x rounding l w log) q z)
+  bounds-summed : (r : Course) → WellFormed x l → runs (earns x l) short rounding l r → Summed r
+  bounds-summed (Ends g u e d) formed z = read-sum formed z
+  bounds-summed (Stops number place) formed z = tt
 
 -- A fraction that was made of two numbers and reduced.
 pub reduced-of : {f g : Fraction} {a b : ℕ} → (f .numerator ≡ a) × (f .denominator ≡ b) → g ≡ reduced f → g ≡ reduced (over a b)
 reduced-of {a = a} {b = b} e q = q ∙ ap reduced (ap₂ over (e .0) (e .1))
 
--- The chance that is read off.
-pub chance-ends : {r : Course} {g u e d : ℕ} → r ≡ Ends g u e d → {f : Fraction} → f ≡ reduced (over g d) → chance.Is f ≡ chanceOf r
-chance-ends q e = ap (λ (f : Fraction). chance.Is f) e ∙ sym (ap chanceOf q)
+-- What is read off each end of a course.
+module _ {r : Course} {g u e d : ℕ} (q : r ≡ Ends g u e d) where
+  pub chance-ends : {f : Fraction} → f ≡ termsOf g d → chance.Is f ≡ chanceOf r
+  chance-ends t = ap (λ (f : Fraction). chance.Is f) t ∙ sym (ap chanceOf q)
 
-pub chance-stops : {r : Course} {number place : ℕ} → r ≡ Stops number place → chance.Refused number place ≡ chanceOf r
-chance-stops q = sym (ap chanceOf q)
+  pub endless-ends : d ≡ 0 → reward.Infinite ≡ rewardOf r
+  endless-ends z = sym (ap rewardOf q ∙ rw (eq-eqb d 0 z))
 
--- The outcome of the entries for the chance, by what the entry's looking and elimination come to.
-pub outcome-chance : (x : Entry) → x .order ≡ true → x .short ≡ false → (l : Lent) (w log : List ℕ) (r : Course) → entered x exact l w log r
-    → Outcome x l refusal (Stopped (earns x l) exact l) (ChanceFigure l) (toldChance (chanceOf r)) w
-outcome-chance x o whole l w log (Ends g u e d) y =
-    let z : Read (earns x l) false exact l g u e d = rw whole at (y .2) in
-    answered (y .0) (read-unstopped (earns x l) l z) (ChanceFigure.chance _ _ (chance-read x o whole l (y .0) z) refl) (y .1)
-outcome-chance x o whole l w log (Stops number place) y =
-    ⊎-elim (λ y. refused _ _ (y .0) refl (y .1)) (λ y. stopped _ _ (y .0) (y .2) refl (y .1)) y
+  pub reward-ends : (d ≡ 0 → ⊥) → {f : Fraction} → f ≡ termsOf e d → reward.Is f ≡ rewardOf r
+  reward-ends z t = ap (λ (f : Fraction). reward.Is f) t ∙ sym (ap rewardOf q ∙ rw (ne-eqb d 0 z))
 
--- A refusal by the numbers 1 to 11 leaves the work table.
-pub refuses-reward : {l : Lent} {number place : ℕ} → Refused paid l number place → Rewarded l (reward.Refused number place) (l .work)
-refuses-reward z = record { outcome = refused _ _ z refl refl; proper = refused-some z }
+  pub bounds-ends : {f h : Fraction} → f ≡ termsOf g d → h ≡ termsOf (g + u) d → bounds.Between f h ≡ boundsOf r
+  bounds-ends t v = ap₂ (λ (f h : Fraction). bounds.Between f h) t v ∙ sym (ap boundsOf q)
 
-module _ (l : Lent) (formed : WellFormed paid l) {w : List ℕ} (s : w ≡ cleared l) where
-  pub misses-reward : Missed (l .chain) → Rewarded l reward.Infinite w
-  misses-reward m = record { outcome = answered formed (λ number place z. z .0 m) (RewardFigure.missed m refl) s; proper = tt }
+  pub ends-summed : Summed r → g + u ≤ M
+  ends-summed s = subst Summed q s
 
-  module _ (sure : Missed (l .chain) → ⊥) {r : Course} where
-    pub answers-reward : {g u e d : ℕ} → r ≡ Ends g u e d → runs (earns paid l) false exact l r → {f : Fraction} → f ≡ reduced (over e d) → Rewarded l (reward.Is f) w
-    answers-reward q z t =
-        let y = subst (runs (earns paid l) false exact l) q z in
-        let h = reward-read l formed sure y in
-        subst (λ f. Rewarded l (reward.Is f) w) (sym t)
-        (record {
-          outcome = answered formed (λ number place s. read-unstopped (earns paid l) l y number place (s .1)) (RewardFigure.expected sure _ _ h refl) s;
-          proper = h .lowest .whole;
-        })
+module _ {r : Course} {number place : ℕ} (q : r ≡ Stops number place) where
+  pub chance-stops : chance.Refused number place ≡ chanceOf r
+  chance-stops = sym (ap chanceOf q)
 
-    pub stops-reward : {number place : ℕ} → r ≡ Stops number place → runs (earns paid l) false exact l r → Rewarded l (reward.Refused number place) w
-    stops-reward q z =
-        let y = subst (runs (earns paid l) false exact l) q z in
-        record { outcome = stopped _ _ formed (sure, y) refl s; proper = omega (arith, stopped-twelve y) }
+  pub reward-stops : reward.Refused number place ≡ rewardOf r
+  reward-stops = sym (ap rewardOf q)
+
+  pub bounds-stops : bounds.Refused number place ≡ boundsOf r
+  bounds-stops = sym (ap boundsOf q)
+
+-- The outcome of the entries for the chance, which may be lent a step list or not, by what the chance engine comes to.
+pub outcome-chance : (list : Bool) (l : Lent) (w log : List ℕ) (r : Course) → let x = eliminating false list false in
+    Entered x Chance l w log r → Outcome x l refusal (Stopped (earns x l) exact l) (ChanceFigure l) (toldChance (chanceOf r)) w
+outcome-chance list l w log _ (Entered.refused number place z s h) = refused _ _ z refl s
+outcome-chance list l w log _ (Entered.came formed s k right (Comes.missed e m)) = absurd (apart e)
+outcome-chance list l w log (Ends g u e d) (Entered.came formed s k right (Comes.ran sure z h)) =
+    let x = eliminating false list false in
+    answered formed (read-unstopped (earns x l) l z) (ChanceFigure.chance _ _ (chance-read x refl refl l formed z) refl) s
+outcome-chance list l w log (Stops number place) (Entered.came formed s k right (Comes.ran sure z h)) = stopped _ _ formed z refl s
+
+-- Of the two entries for the bounds.
+pub outcome-bounds : (l : Lent) (w log : List ℕ) (r : Course) → Entered plain Bounds l w log r → BoundsOutcome l (toldBounds (boundsOf r)) w
+outcome-bounds l w log _ (Entered.refused number place z s h) = refused _ _ z refl s
+outcome-bounds l w log _ (Entered.came formed s k right (Comes.missed e m)) = absurd (apart e)
+outcome-bounds l w log r (Entered.came formed s k right (Comes.ran sure z h)) = bounds-came false l r formed s z
+
+pub outcome-left : (l : Lent) (w log : List ℕ) (r : Course) → Entered shortRows Left l w log r → LeftOutcome l (toldBounds (boundsOf r)) w
+outcome-left l w log _ (Entered.refused number place z s h) = refused _ _ z refl s
+outcome-left l w log _ (Entered.came formed s k right (Comes.missed e m)) = absurd (apart e)
+outcome-left l w log r (Entered.came formed s k right (Comes.ran sure z h)) = bounds-came true l r formed s z
+
+pub summed-bounds : (l : Lent) (w log : List ℕ) (r : Course) → Entered plain Bounds l w log r → Summed r
+summed-bounds l w log _ (Entered.refused number place z s h) = tt
+summed-bounds l w log _ (Entered.came formed s k right (Comes.missed e m)) = absurd (apart e)
+summed-bounds l w log r (Entered.came formed s k right (Comes.ran sure z h)) = bounds-summed false l r formed z
+
+pub summed-left : (l : Lent) (w log : List ℕ) (r : Course) → Entered shortRows Left l w log r → Summed r
+summed-left l w log _ (Entered.refused number place z s h) = tt
+summed-left l w log _ (Entered.came formed s k right (Comes.missed e m)) = absurd (apart e)
+summed-left l w log r (Entered.came formed s k right (Comes.ran sure z h)) = bounds-summed true l r formed z
+
+-- Of the entry for the expected reward.
+pub outcome-reward : (l : Lent) (w log : List ℕ) (r : Course) → Entered paid Reward l w log r → Rewarded l (rewardOf r) w
+outcome-reward l w log _ (Entered.refused number place z s h) = record { outcome = refused _ _ z refl s; proper = refused-some z }
+outcome-reward l w log _ (Entered.came formed s k right (Comes.missed e m)) =
+    record { outcome = answered formed (λ number place z. z .0 m) (RewardFigure.missed m refl) s; proper = tt }
+outcome-reward l w log (Ends g u e d) (Entered.came formed s k right (Comes.ran sure z h)) =
+    let t = reward-read l formed (sure refl) z in
+    rw (ne-eqb d 0 (λ n. omega (arith, n, read-whole l formed (sure refl) z)))
+    (record {
+      outcome = answered formed (λ number place y. read-unstopped (earns paid l) l z number place (y .1)) (RewardFigure.expected (sure refl) _ _ t refl) s;
+      proper = t .lowest .whole;
+    })
+outcome-reward l w log (Stops number place) (Entered.came formed s k right (Comes.ran sure z h)) =
+    record { outcome = stopped _ _ formed (sure refl, z) refl s; proper = omega (arith, stopped-twelve z) }

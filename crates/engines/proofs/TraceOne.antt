@@ -8,7 +8,7 @@ use lib.ListN.{getD}
 use Rattle.meaning.specs.Steps.{StepRecord}
 use Rattle.theory.specs.Numbers.Sum.{below}
 use Rattle.theory.specs.Numbers.Tab.{tab-at}
-use Rattle.engines.specs.Log.{recordNumbers}
+use Rattle.elimination.specs.Log.{recordNumbers}
 use Rattle.engines.specs.Trace.{countIn, recordIn, recordsIn}
 
 module _ (a b : List ℕ) (count : countIn a ≡ countIn b) (records : recordsIn a ≡ recordsIn b) where

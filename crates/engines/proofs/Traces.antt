@@ -1,7 +1,8 @@
 -- From the log of an elimination to the trace that the chance entry's companion answers.
 use Prim.Native.Nat.{ℕ, suc, _+_, _*_, _≤_, _<_}
 use mathlib.Core.Path.{_≡_, refl, sym, _∙_}
-use mathlib.Core.Logic.{inl, inr, ⊎-elim}
+use mathlib.Core.Logic.{⊎-elim}
+use mathlib.Core.Bool.{true}
 use mathlib.Core.List.{List, [], _∷_}
 use native.Mathlib.Omega.{arith}
 use lib.ListN.{length, getD, List·getD-eq-default}
@@ -20,13 +21,17 @@ use Rattle.theory.specs.Outcomes.Steps.{finished-inside}
 use Rattle.theory.specs.Stages.Records.{records-few}
 use Rattle.theory.specs.Chains.Sets.{right-one}
 use Rattle.engines.specs.Answer.{toldChance}
-use Rattle.engines.specs.Log.{recordNumbers, logSize, numbersOf, HoldsRecords, Logged}
-use Rattle.engines.specs.Run.{chanceOf, entered, finishedIn}
+use Rattle.elimination.specs.Log.{recordNumbers, logSize, numbersOf, HoldsRecords, Logged}
+use Rattle.elimination.specs.Run.{finishedIn}
+use Rattle.elimination.specs.Entered.{Comes, Entered}
+use Rattle.elimination.specs.declared.engine.Engine.the-variants.{Chance}
+use Rattle.elimination.proofs.Rows.{apart}
+use Rattle.engines.specs.ReadOff.{chanceOf}
 use Rattle.engines.specs.Trace.{countIn, recordIn, recordsIn, Traced}
 use Rattle.engines.specs.declared.answer.Trace.{Trace}
-use Rattle.engines.specs.declared.run.Course.{Course}
-use Rattle.engines.specs.declared.run.Course.the-variants.{Ends, Stops as Stopping}
-use Rattle.engines.proofs.Noting.{numbers-length}
+use Rattle.elimination.specs.declared.course.Course.{Course}
+use Rattle.elimination.specs.declared.course.Course.the-variants.{Ends, Stops as Stopping}
+use Rattle.elimination.proofs.Noting.{numbers-length}
 use Rattle.engines.proofs.Outcomes.{outcome-chance}
 
 -- The records that are read from their numbers, from the i-th on.
@@ -68,12 +73,12 @@ module _ (l : Lent) (w log : List ℕ) (size : length log ≡ logSize) where
   abbrev traceOf : Course → Trace
   traceOf r = record { chance = chanceOf r; numbers = log }
 
-  module _ (r : Course) (z : entered listing exact l w log r) where
+  module _ (r : Course) (z : Entered listing Chance l w log r) where
     told : (rs : List StepRecord) → HoldsRecords log rs → length rs ≤ mostStates → length rs ≤ l .list
         → Listed l (toldChance (chanceOf r)) [] (length rs) rs → Traced l (traceOf r) w
     told rs h few room i =
         record {
-          outcome = record { outcome = outcome-chance listing refl refl l w log r z; list = rw (records-held h, count-held h) i };
+          outcome = record { outcome = outcome-chance true l w log r z; list = rw (records-held h, count-held h) i };
           few = omega (arith, count-held h);
           inside = omega (arith, count-held h);
           past = past-held h;
@@ -91,14 +96,12 @@ module _ (l : Lent) (w log : List ℕ) (size : length log ≡ logSize) where
         (listed formed k right p f refl (sym (filled-nothing rs)))
 
   -- The trace of an entry that has looked, and eliminated or not.
-  pub traced : (r : Course) → entered listing exact l w log r → Traced l (traceOf r) w
-  traced (Ends g u e d) z =
-      let h = z .3 in
-      run-told (Ends g u e d) z (z .0) (h .sets) (h .right) (through refl) (h .logged)
-  traced (Stopping number place) (inl z) =
-      told (Stopping number place) (inl z) [] (holds size (z .2)) (omega arith) (omega arith) (untouched number place (z .0) refl refl)
-  traced (Stopping number place) (inr z) =
-      let h = z .3 in
-      let s = z .2 in
-      run-told (Stopping number place) (inr z) (z .0) (s .sets) (s .right) (finished-to (few-states listing l (z .0)) (s .stops))
-      (rw (right-one (h .right) (s .right)) at (h .logged))
+  pub traced : (r : Course) → Entered listing Chance l w log r → Traced l (traceOf r) w
+  traced _ (Entered.refused number place z s h) =
+      told (Stopping number place) (Entered.refused number place z s h) [] (holds size h) (omega arith) (omega arith) (untouched number place z refl refl)
+  traced _ (Entered.came formed s k right (Comes.missed e m)) = absurd (apart e)
+  traced (Ends g u e d) (Entered.came formed s k right (Comes.ran sure z h)) =
+      run-told (Ends g u e d) (Entered.came formed s k right (Comes.ran sure z h)) formed k right (through refl) h
+  traced (Stopping number place) (Entered.came formed s k right (Comes.ran sure z h)) =
+      run-told (Stopping number place) (Entered.came formed s k right (Comes.ran sure z h)) formed (z .sets) (z .right)
+      (finished-to (few-states listing l formed) (z .stops)) (rw (right-one right (z .right)) at h)

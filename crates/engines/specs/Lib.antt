@@ -1,16 +1,4 @@
-pub mod Packed
-pub mod Filled
-pub mod Row
-pub mod Table
-pub mod Turn
-pub mod Log
-pub mod Order
 pub mod Answer
-pub mod Laying
+pub mod ReadOff
 pub mod Told
-pub mod Pay
-pub mod Gather
-pub mod First
-pub mod Run
-pub mod Own
 pub mod Trace

@@ -8,7 +8,7 @@ use Rattle.meaning.specs.Chain.{mostStates}
 use Rattle.meaning.specs.Refusal.{Lent}
 use Rattle.meaning.specs.Steps.{StepRecord, StepsOutcome}
 use Rattle.engines.specs.Answer.{toldChance}
-use Rattle.engines.specs.Log.{recordNumbers}
+use Rattle.elimination.specs.Log.{recordNumbers}
 use Rattle.engines.specs.declared.answer.Trace.{Trace}
 
 -- How many records the numbers hold; record i, counted from 0; and all of them.

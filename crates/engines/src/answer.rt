@@ -1,6 +1,6 @@
 // What the entries answer; toldChance, toldReward and toldBounds give document 01's numbers for each case of an enum.
-use chain::Chain;
 use chain::fraction::Fraction;
+use elimination::course::Noted;
 
 pub enum Chance {
     Is(Fraction),
@@ -27,7 +27,7 @@ pub struct Trace {
 
 impl Trace {
     // How many numbers a record has, and a trace.
-    pub const RECORD: usize = 4;
+    pub const RECORD: usize = Noted::RECORD;
 
-    pub const NUMBERS: usize = 1 + Trace::RECORD * Chain::STATES;
+    pub const NUMBERS: usize = Noted::NUMBERS;
 }

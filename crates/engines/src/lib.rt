@@ -1,15 +1,3 @@
-// The elimination on the rows of a table of 64-bit numbers: exact, or with rows rounded where they do not fit.
+// The entries, each an engine by its name, and what they answer.
 pub mod answer;
 pub mod entry;
-mod first;
-mod gather;
-pub mod laying;
-mod log;
-mod merge;
-mod part;
-mod pay;
-mod row;
-mod run;
-mod step;
-mod walk;
-pub mod work;

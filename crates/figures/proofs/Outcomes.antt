@@ -12,7 +12,7 @@ use Rattle.meaning.specs.File.{plainIn, bareIn}
 use Rattle.chain.specs.declared.Chain.{Chain}
 use Rattle.chain.specs.Lent.{lent}
 use Rattle.figures.specs.Told.{Tells, toldAnswer, toldLimits, figures, noCounts, noAnswer, noLimits}
-use Rattle.engines.specs.Own.{ours, Found}
+use Rattle.elimination.specs.Own.{ours, Found}
 use Rattle.figures.specs.Found.{Counted, Holds, ChanceAsked, BoundsAsked, ReportAsked, AskedOf}
 use Rattle.figures.specs.declared.answer.Counts.{Counts}
 use Rattle.figures.specs.declared.answer.Answer.{Answer}

@@ -12,11 +12,11 @@ use Rattle.meaning.specs.File.{FileRefused}
 use Rattle.meaning.specs.FileSteps.{file-refused, asked}
 use Rattle.chain.specs.declared.Chain.{Chain}
 use Rattle.engines.specs.Answer.{toldChance}
-use Rattle.engines.specs.Log.{logSize}
+use Rattle.elimination.specs.Log.{logSize}
 use Rattle.engines.specs.Trace.{recordIn, recordsIn, Traced}
 use Rattle.engines.specs.declared.answer.Trace.{Trace}
 use Rattle.theory.specs.Numbers.Tab.{getD-zeros}
-use Rattle.engines.specs.Own.{ours, Found}
+use Rattle.elimination.specs.Own.{ours, Found}
 use Rattle.figures.specs.Found.{Holds}
 use Rattle.figures.specs.Traced.{FileTraced}
 use Rattle.figures.proofs.Outcomes.{unpaid}

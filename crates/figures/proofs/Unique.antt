@@ -23,7 +23,7 @@ use Rattle.engines.proofs.Told.{chance-told}
 use Rattle.engines.proofs.TraceOne.{numbers-one}
 use Rattle.engines.proofs.Unique.{chance-proper}
 use Rattle.figures.specs.Told.{toldAnswer, toldLimits, figures, noCounts, noAnswer, noLimits}
-use Rattle.engines.specs.Own.{Found}
+use Rattle.elimination.specs.Own.{Found}
 use Rattle.figures.specs.Found.{Counted, AskedOf, FiguresOutcome, refused, accepted}
 use Rattle.figures.specs.Traced.{FileTraced}
 use Rattle.figures.specs.declared.answer.Counts.{Counts}

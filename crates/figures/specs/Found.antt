@@ -10,7 +10,7 @@ use Rattle.meaning.specs.Outcome.{ChanceOutcome, RewardOutcome, BoundsOutcome}
 use Rattle.meaning.specs.Block.{Input}
 use Rattle.meaning.specs.File.{FileRefused, Accepted, plainIn, paidIn, bareIn}
 use Rattle.chain.specs.declared.Chain.{Chain}
-use Rattle.engines.specs.Own.{ours, Found}
+use Rattle.elimination.specs.Own.{ours, Found}
 use Rattle.figures.specs.Told.{toldAnswer, toldLimits, figures, noCounts, noAnswer, noLimits}
 use Rattle.figures.specs.declared.answer.Counts.{Counts}
 use Rattle.figures.specs.declared.answer.Figures.{Figures}

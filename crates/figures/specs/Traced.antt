@@ -7,7 +7,7 @@ use Rattle.meaning.specs.Chain.{mostStates}
 use Rattle.meaning.specs.Block.{Input}
 use Rattle.meaning.specs.FileSteps.{FileSteps}
 use Rattle.engines.specs.Answer.{toldChance}
-use Rattle.engines.specs.Log.{recordNumbers}
+use Rattle.elimination.specs.Log.{recordNumbers}
 use Rattle.engines.specs.Trace.{countIn, recordsIn}
 use Rattle.engines.specs.declared.answer.Trace.{Trace}
 

@@ -21,7 +21,7 @@ use Rattle.theory.specs.Outcomes.Small.{chance-small}
 use Rattle.theory.specs.Outcomes.Places.{refused-places}
 use Rattle.theory.specs.Files.FileOne.{file-numbers, accepted-unrefused}
 use Rattle.theory.specs.Files.StepsOne.{file-place}
-use Rattle.engines.specs.Own.{Found}
+use Rattle.elimination.specs.Own.{Found}
 use Rattle.near.specs.Answer.{toldBetween, toldNear, toldMiss}
 use Rattle.near.specs.Answer as near
 use Rattle.near.specs.declared.answer.Figures.{Figures}

@@ -15,8 +15,8 @@ use Rattle.meaning.specs.Refusal.{workSize}
 use Rattle.theory.specs.Numbers.Sum.{same, below}
 use Rattle.theory.specs.Numbers.Binary.{digits-none}
 use Rattle.theory.specs.Numbers.Tab.{tab-of, getD-zeros}
-use Rattle.engines.specs.Table.{partAt}
-use Rattle.engines.proofs.Tables.{length-row}
+use Rattle.elimination.specs.Table.{partAt}
+use Rattle.elimination.proofs.Tables.{length-row}
 use Rattle.near.specs.Word.{word, value}
 use Rattle.near.specs.Row.{valueAt, exponent, leastExponent, lessBy, loweredWords, settledWords, blendedWords}
 use Rattle.near.specs.Step.{pivotAt, sumOf, RemovedWords}

@@ -25,9 +25,9 @@ use Rattle.survey.specs.Sets.{Known, setsOf}
 use Rattle.survey.specs.declared.Sets.{Sets as Found}
 use Rattle.chain.specs.declared.Chain.{Chain as Given}
 use Rattle.chain.specs.Lent.{lent}
-use Rattle.engines.specs.Laying.{Lies, laid}
-use Rattle.engines.specs.declared.laying.Laid.{Laid}
-use Rattle.engines.specs.declared.laying.Laid.the-variants.{Rows, Refused as Refusing}
+use Rattle.elimination.specs.Laying.{Lies, laid}
+use Rattle.elimination.specs.declared.laying.Laid.{Laid}
+use Rattle.elimination.specs.declared.laying.Laid.the-variants.{Rows, Refused as Refusing}
 use Rattle.near.specs.Word.{word, value}
 use Rattle.near.specs.Table.{Stands}
 use Rattle.near.specs.Entry.{Begun}

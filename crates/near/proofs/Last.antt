@@ -24,7 +24,7 @@ use Rattle.chain.specs.declared.Chain.{Chain as Given}
 use Rattle.chain.specs.Lent.{lent}
 use Rattle.survey.specs.Sets.{chainOf, setsOf}
 use Rattle.survey.specs.declared.Sets.{Sets as Found}
-use Rattle.engines.specs.Table.{partAt, Kept}
+use Rattle.elimination.specs.Table.{partAt, Kept}
 use Rattle.near.specs.Word.{word, value}
 use Rattle.near.specs.Row.{valueAt}
 use Rattle.near.specs.Step.{outsideAt}

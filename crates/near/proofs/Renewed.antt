@@ -12,9 +12,9 @@ use Rattle.meaning.specs.Row.{width}
 use Rattle.meaning.specs.Refusal.{workSize}
 use Rattle.theory.specs.Numbers.Sum.{same, below, last-or-below, sum-ext, sum-zero, sum-next}
 use Rattle.theory.specs.Numbers.Tab.{getD-zeros}
-use Rattle.engines.specs.Table.{partAt}
-use Rattle.engines.specs.Gather.{Changed}
-use Rattle.engines.proofs.Tables.{kept-same, kept-more, length-row}
+use Rattle.elimination.specs.Table.{partAt}
+use Rattle.elimination.specs.Gather.{Changed}
+use Rattle.elimination.proofs.Tables.{kept-same, kept-more, length-row}
 use Rattle.near.specs.Step.{leadsTo, renews, renewedWords, RenewedOn, RenewedRows}
 use Rattle.near.specs.Gap.{Going, Cleared}
 use Rattle.near.specs.declared.wide.Gap.{Gap}

@@ -11,8 +11,8 @@ use Rattle.meaning.specs.Number.{only, choose}
 use Rattle.meaning.specs.Chain.{mostStates}
 use Rattle.meaning.specs.Row.{width}
 use Rattle.meaning.specs.Refusal.{workSize}
-use Rattle.engines.specs.Table.{partAt}
-use Rattle.engines.proofs.Tables.{length-row}
+use Rattle.elimination.specs.Table.{partAt}
+use Rattle.elimination.proofs.Tables.{length-row}
 use Rattle.near.specs.Row.{replacedWords}
 use Rattle.near.proofs.Rows.{replaced-length}
 use Rattle.near.specs.Step.{leadsTo, renewedWords, pivotAt}

@@ -8,7 +8,7 @@ use Rattle.meaning.specs.Near.{Near, NearOutcome}
 use Rattle.meaning.specs.Miss.{MissOutcome}
 use Rattle.theory.specs.Outcomes.NearOne.{near-determined}
 use Rattle.theory.specs.Outcomes.MissOne.{miss-determined}
-use Rattle.engines.specs.Own.{Found as Own}
+use Rattle.elimination.specs.Own.{Found as Own}
 use Rattle.near.specs.Answer.{toldBetween, toldNear, toldMiss, Proper}
 use Rattle.near.specs.declared.answer.Between.{Between}
 use Rattle.near.specs.declared.answer.Nearly.{Nearly}

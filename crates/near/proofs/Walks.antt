@@ -18,8 +18,8 @@ use Rattle.theory.specs.Numbers.Sum.{same, below, sum-ext}
 use Rattle.theory.specs.Numbers.Binary.{digits-none}
 use Rattle.theory.specs.Stages.NearStep.{no-cell, removes, anew-some, anew-none, new-is, old-is}
 use Rattle.chain.specs.declared.Chain.{Chain as Given}
-use Rattle.engines.specs.Table.{partAt}
-use Rattle.engines.proofs.Tables.{kept-same, kept-more}
+use Rattle.elimination.specs.Table.{partAt}
+use Rattle.elimination.proofs.Tables.{kept-same, kept-more}
 use Rattle.near.specs.Word.{word, value}
 use Rattle.near.specs.Row.{valueAt, settledWords, replacedWords}
 use Rattle.near.specs.Step.{renews, pivotAt, sumOf, RemovedWords}

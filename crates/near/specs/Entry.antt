@@ -9,7 +9,7 @@ use Rattle.meaning.specs.Near.{nearStage}
 use Rattle.chain.specs.declared.Chain.{Chain}
 use Rattle.survey.specs.declared.Sets.{Sets as Given}
 use Rattle.survey.specs.Sets.{chainOf, setsOf}
-use Rattle.engines.specs.Table.{partAt}
+use Rattle.elimination.specs.Table.{partAt}
 use Rattle.near.specs.Word.{value}
 use Rattle.near.specs.Row.{valueAt}
 use Rattle.near.specs.Step.{outsideAt}

@@ -3,7 +3,7 @@ use Prim.Native.Nat.{ℕ, _≤_, _<_}
 use mathlib.Core.Path.{_≡_}
 use mathlib.Core.List.{List}
 use lib.ListN.{length, getD, set}
-use Rattle.engines.specs.Table.{partAt}
+use Rattle.elimination.specs.Table.{partAt}
 use Rattle.near.specs.declared.wide.Gap.{Gap}
 
 -- A gap lies in the first m columns.

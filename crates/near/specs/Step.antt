@@ -8,7 +8,7 @@ use lib.ListN.{length, getD, set, replicate}
 use Rattle.meaning.specs.Number.{sumTo, only, choose}
 use Rattle.meaning.specs.Row.{width}
 use Rattle.meaning.specs.Near.{cutSum}
-use Rattle.engines.specs.Table.{partAt, Kept}
+use Rattle.elimination.specs.Table.{partAt, Kept}
 use Rattle.near.specs.Word.{word}
 use Rattle.near.specs.Row.{valueAt, settledWords, replacedWords}
 

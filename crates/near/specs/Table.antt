@@ -6,7 +6,7 @@ use lib.ListN.{length, getD}
 use Rattle.meaning.specs.Row.{cell}
 use Rattle.meaning.specs.Near.{digits}
 use Rattle.meaning.specs.Step.{Table, row}
-use Rattle.engines.specs.Table.{partAt}
+use Rattle.elimination.specs.Table.{partAt}
 use Rattle.near.specs.Word.{word}
 use Rattle.near.specs.Row.{valueAt}
 

@@ -9,7 +9,7 @@ use Rattle.meaning.specs.Near.{nearStage, rowsMade}
 use Rattle.theory.specs.Stages.Last.{Prepared}
 use Rattle.chain.specs.declared.Chain.{Chain as Given}
 use Rattle.survey.specs.Sets.{chainOf}
-use Rattle.engines.specs.Table.{Kept}
+use Rattle.elimination.specs.Table.{Kept}
 use Rattle.near.specs.Step.{RemovedWords}
 use Rattle.near.specs.Table.{Worded}
 

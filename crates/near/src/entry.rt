@@ -8,8 +8,8 @@ ghost use Rattle.meaning.specs.Refusal.{workSize};
 ghost use Rattle.meaning.specs.Near.{NearFigure, NearOutcome};
 ghost use Rattle.meaning.specs.Miss.{MissFigure, MissOutcome};
 ghost use Rattle.chain.specs.Lent.{lent};
-ghost use Rattle.engines.specs.Own.{ours, Found};
-ghost use Rattle.engines.specs.Table.{partAt, Kept};
+ghost use Rattle.elimination.specs.Own.{ours, Found};
+ghost use Rattle.elimination.specs.Table.{partAt, Kept};
 ghost use Rattle.near.specs.Word.{value};
 ghost use Rattle.near.specs.Row.{valueAt};
 ghost use Rattle.near.specs.Step.{outsideAt};
@@ -26,9 +26,9 @@ use crate::walk::eliminate;
 use crate::wide::Gap;
 use chain::Chain;
 use chain::set::holds;
-use engines::laying::Laid;
-use engines::laying::lay;
-use engines::work::clear;
+use elimination::laying::Laid;
+use elimination::laying::lay;
+use elimination::work::clear;
 use survey::Sets;
 
 // What is read off the start's row at the end: Goal and Trap over its D.

@@ -6,8 +6,8 @@ ghost use Rattle.meaning.specs.Chain.{mostStates};
 ghost use Rattle.meaning.specs.Number.{only};
 ghost use Rattle.meaning.specs.Row.{width};
 ghost use Rattle.meaning.specs.Refusal.{workSize};
-ghost use Rattle.engines.specs.Table.{partAt};
-ghost use Rattle.engines.specs.Gather.{Changed};
+ghost use Rattle.elimination.specs.Table.{partAt};
+ghost use Rattle.elimination.specs.Gather.{Changed};
 ghost use Rattle.near.specs.Row.{settledWords, Parts, joined};
 ghost use Rattle.near.specs.Gap.{Within, Empty, Going, Cleared};
 ghost use Rattle.near.specs.Step.{leadsTo, renewedWords, RenewedOn, RemovedBy, RemovedWords};
@@ -17,7 +17,7 @@ use crate::row::total;
 use crate::wide::Gap;
 use crate::wide::replace;
 use chain::Chain;
-use engines::work::clear;
+use elimination::work::clear;
 
 // A row once s is removed, which is not that of s. Answers how many rows are made anew, 1 or 0.
 fn renew(part: &mut [u64], s: usize, d: u64, pivot: &[u64], gap: Gap) -> u64

@@ -19,7 +19,7 @@ use Rattle.look.proofs.Refuse.{refused-some}
 use Rattle.engines.specs.Answer.{toldBounds}
 use Rattle.engines.specs.declared.answer.Bounds.{Bounds}
 use Rattle.engines.specs.declared.answer.Bounds.the-variants.{Between, Refused}
-use Rattle.engines.specs.Own.{ours, Found}
+use Rattle.elimination.specs.Own.{ours, Found}
 use Rattle.report.specs.Stands.{told, answerOf}
 use Rattle.report.specs.declared.Printed.{Printed}
 use Rattle.report.specs.declared.Printed.the-variants.{Length}

@@ -23,7 +23,7 @@ use Rattle.chainfile.specs.Tells.{told, toldLeft, tables}
 use Rattle.chainfile.specs.declared.Reading.{Reading}
 use Rattle.chainfile.specs.declared.Reading.the-variants.{Chain, Refused}
 use Rattle.chainfile.specs.declared.Left.{Left}
-use Rattle.engines.specs.Own.{ours}
+use Rattle.elimination.specs.Own.{ours}
 use Rattle.figures.proofs.Opened.{at}
 use Rattle.salvaging.specs.Holds.{Holds}
 

@@ -9,7 +9,7 @@ use Rattle.meaning.specs.File.{mostBlocks}
 use Rattle.meaning.specs.Salvage.{Opened, leftIn, verdict}
 use Rattle.chain.specs.declared.Chain.{Chain}
 use Rattle.chainfile.specs.Index.{Whole}
-use Rattle.engines.specs.Own.{ours}
+use Rattle.elimination.specs.Own.{ours}
 
 -- The input is opened, and these are the verdicts on its blocks, its chain and its tables.
 pub record Holds (f : Input) (lost : List ℕ) (c : Chain) (denominators edges order : List ℕ) : Type 0 where

@@ -10,7 +10,7 @@ ghost use Rattle.meaning.specs.File.{Accepted, plainIn};
 ghost use Rattle.meaning.specs.Salvage.{Lost, verdict, salvageRoom, SalvagedOutcome};
 ghost use Rattle.chainfile.specs.Input.{input};
 ghost use Rattle.engines.specs.Answer.{toldBounds};
-ghost use Rattle.engines.specs.Own.{ours, Found};
+ghost use Rattle.elimination.specs.Own.{ours, Found};
 ghost use Rattle.report.specs.Stands.{told};
 ghost use Rattle.salvaging.specs.Holds.{Holds, PlaceTold};
 use chain::Chain;

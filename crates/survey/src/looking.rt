@@ -73,7 +73,13 @@ fn tables(
         → soFar (eliminating (asked rewards) (asked list) short) (withList (sizeOf list) (lent c d e o w v)) 11 r) ⌝ }
 {
     let n = c.states;
-    if misshaped(n, denominators.len(), edges, order.len(), or_wanted(rewards, n)) {
+    if misshaped(
+        n,
+        denominators.len(),
+        edges,
+        order.len(),
+        or_wanted(rewards, n),
+    ) {
         return Looked::Refused {
             number: 1,
             place: 0,
@@ -117,7 +123,16 @@ pub fn look(
         let l = lent c (now (denominators .entry)) (now (edges .entry)) (now (order .entry)) [] (now (work .entry)) in
         ⌜ looked (eliminating false (asked list) short) (withList (sizeOf list) l) r ⌝ }
 {
-    tables(c, denominators, edges, order, Length::None, work, list, short)
+    tables(
+        c,
+        denominators,
+        edges,
+        order,
+        Length::None,
+        work,
+        list,
+        short,
+    )
 }
 
 // The looking of an entry for the expected reward: 1 to 11.

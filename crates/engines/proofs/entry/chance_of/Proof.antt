@@ -4,8 +4,7 @@ use Rattle.engines.proofs.entry.chance_of.Statement.{statement}
 use Rattle.engines.proofs.entry.chance_of.Tie as tie
 
 returns : tie.Need-returns
-returns c =
-    chance-ends (c .before .before .before .course .given .1) (reduced-of (c .before .new .ensures) (c .reduce .ensures))
+returns c = chance-ends (c .before .before .before .course .given .1) (reduced-of (c .before .new .ensures) (c .reduce .ensures))
 
 returns-2 : tie.Need-returns-2
 returns-2 c = chance-stops (c .before .course2 .given .1)

@@ -1,7 +1,7 @@
 use mathlib.Core.Path.{sym, _∙_}
 use borrow.Author.Needs.{needs}
 use borrow.Author.Tests.{not-true, not-false, eqb-true, eqb-false}
-use Rattle.engines.proofs.Tables.{kept-same}
+use Rattle.elimination.proofs.Tables.{kept-same}
 use Rattle.near.proofs.Last.{follow-won, follow-lost, readable, follow-live}
 use Rattle.near.proofs.entry.follow.Statement.{statement}
 use Rattle.near.proofs.entry.follow.Tie as tie

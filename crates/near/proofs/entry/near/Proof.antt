@@ -11,8 +11,8 @@ use Rattle.meaning.specs.Outcome.{cleared, refused, answered}
 use Rattle.theory.specs.Outcomes.Formed.{room}
 use Rattle.chain.specs.Lent.{lent}
 use Rattle.look.proofs.Refuse.{refused-some}
-use Rattle.engines.proofs.Tables.{kept-more}
-use Rattle.engines.proofs.Cells.{zeros-kept}
+use Rattle.elimination.proofs.Tables.{kept-more}
+use Rattle.elimination.proofs.Cells.{zeros-kept}
 use Rattle.near.specs.Entry.{Begun}
 use Rattle.near.proofs.Laid.{laid-refused, laid-rows, begun}
 use Rattle.near.proofs.Last.{clears, near-lent, miss-lent}

@@ -2,7 +2,7 @@ use mathlib.Core.Path.{ap, _∙_}
 use lib.ListN.{length, replicate, length-replicate}
 use borrow.Author.Needs.{needs}
 use Rattle.meaning.specs.Row.{width}
-use Rattle.engines.proofs.Tables.{lent, length-row, row-changed}
+use Rattle.elimination.proofs.Tables.{lent, length-row, row-changed}
 use Rattle.near.proofs.step.clear_row.Statement.{statement}
 use Rattle.near.proofs.step.clear_row.Tie as tie
 

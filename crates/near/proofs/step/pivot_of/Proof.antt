@@ -1,5 +1,5 @@
 use borrow.Author.Needs.{needs}
-use Rattle.engines.proofs.Tables.{lent}
+use Rattle.elimination.proofs.Tables.{lent}
 use Rattle.near.proofs.step.pivot_of.Statement.{statement}
 use Rattle.near.proofs.step.pivot_of.Tie as tie
 

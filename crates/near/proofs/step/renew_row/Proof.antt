@@ -3,8 +3,8 @@ use lib.ListN.{length}
 use native.Mathlib.Omega.{arith}
 use borrow.Author.Needs.{needs}
 use Rattle.meaning.specs.Row.{width}
-use Rattle.engines.specs.Table.{partAt}
-use Rattle.engines.proofs.Tables.{lent, length-row, row-changed}
+use Rattle.elimination.specs.Table.{partAt}
+use Rattle.elimination.proofs.Tables.{lent, length-row, row-changed}
 use Rattle.near.specs.Row.{joined}
 use Rattle.near.specs.Step.{renewedWords}
 use Rattle.near.proofs.Steps.{renewed-length}

@@ -2,7 +2,7 @@ use mathlib.Core.Path.{refl}
 use native.Mathlib.Nat.{mul-le-mul}
 use native.Mathlib.Omega.{arith}
 use borrow.Author.Needs.{needs}
-use Rattle.engines.proofs.Tables.{row-end}
+use Rattle.elimination.proofs.Tables.{row-end}
 use Rattle.near.proofs.step.row_start.Statement.{statement}
 use Rattle.near.proofs.step.row_start.Tie as tie
 

@@ -1,6 +1,6 @@
 use mathlib.Core.Path.{refl, sym, _∙_}
 use borrow.Author.Needs.{needs}
-use Rattle.engines.proofs.Rows.{apart}
+use Rattle.elimination.proofs.Rows.{apart}
 use Rattle.near.proofs.walk.gap_at.Statement.{statement}
 use Rattle.near.proofs.walk.gap_at.Tie as tie
 

@@ -1,8 +1,8 @@
 use mathlib.Core.Path.{refl, sym, _∙_}
 use native.Mathlib.Omega.{arith}
 use borrow.Author.Needs.{needs}
-use Rattle.engines.proofs.Rows.{apart}
-use Rattle.engines.proofs.Tables.{kept-same}
+use Rattle.elimination.proofs.Rows.{apart}
+use Rattle.elimination.proofs.Tables.{kept-same}
 use Rattle.near.proofs.walk.turn.Statement.{statement}
 use Rattle.near.proofs.walk.turn.Tie as tie
 

@@ -1,0 +1,15 @@
+pub mod Engine
+pub mod Packed
+pub mod Filled
+pub mod Row
+pub mod Table
+pub mod Turn
+pub mod Log
+pub mod Order
+pub mod Laying
+pub mod Pay
+pub mod Gather
+pub mod First
+pub mod Run
+pub mod Entered
+pub mod Own
