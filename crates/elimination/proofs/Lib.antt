@@ -27,3 +27,4 @@ pub mod LaidOne
 pub mod Follow
 pub mod Engines
 pub mod Entries
+pub mod EnteredOne

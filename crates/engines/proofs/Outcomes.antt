@@ -20,7 +20,6 @@ use Rattle.theory.specs.Numbers.Gcd.{reduced-share}
 use Rattle.theory.specs.Outcomes.Formed.{start-in}
 use Rattle.theory.specs.Stages.Fits.{stage-fits}
 use Rattle.theory.specs.Outcomes.Whole.{formed-prepared, last-whole, exact-whole, exact-chance, exact-reward, chance-won, chance-lost, reward-won}
-use Rattle.theory.specs.Outcomes.Computed.{passed-unstopped}
 use Rattle.theory.specs.Outcomes.DemandTwo.{stopped-twelve}
 use Rattle.theory.specs.Outcomes.DemandThree.{rounding-unstopped}
 use Rattle.chain.specs.Reduce.{reduced}
@@ -35,6 +34,7 @@ use Rattle.elimination.specs.Run.{tableFrom, Ended, Read, won, lost, live, runs
 use Rattle.elimination.specs.Entered.{Comes, Entered}
 use Rattle.elimination.specs.declared.engine.Engine.the-variants.{Chance, Reward, Bounds, Left}
 use Rattle.elimination.proofs.Rows.{apart}
+use Rattle.elimination.proofs.EnteredOne.{read-unstopped}
 use Rattle.engines.specs.ReadOff.{termsOf, chanceOf, rewardOf, boundsOf, Summed}
 use Rattle.engines.specs.Told.{Rewarded}
 use Rattle.elimination.specs.declared.course.Course.{Course}
@@ -43,12 +43,6 @@ use Rattle.elimination.specs.declared.course.Course.the-variants.{Ends, Stops}
 -- The fraction of two numbers.
 abbrev over : ℕ → ℕ → Fraction
 over a b = record { numerator = a; denominator = b }
-
--- Where something can be read off nothing stopped the engine.
-read-unstopped : (pay : ℕ → ℕ) (l : Lent) {g u e d : ℕ} → Read pay false exact l g u e d → (number place : ℕ) → Stopped pay exact l number place → ⊥
-read-unstopped pay l (won h q) number place s = s .alive .unwon h
-read-unstopped pay l (lost h q) number place s = h (s .alive .leads)
-read-unstopped pay l (live k right alive z) number place s = passed-unstopped l k right pay exact (z .passed) number place s
 
 -- A chance, and an expected reward, in lowest terms.
 lowest-chance : (c : Chain) (a b p q : ℕ) → IsChance c a b → Reduced a b p q → IsChance c p q

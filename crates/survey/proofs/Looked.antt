@@ -9,6 +9,9 @@ use Rattle.meaning.specs.Number.{only}
 use Rattle.meaning.specs.Refusal.{Lent, Entry, Refused, WellFormed}
 use Rattle.meaning.specs.Survey.{SurveyOutcome}
 use Rattle.theory.specs.Outcomes.Bare.{alone, bare-refuses, bare-clears}
+use Rattle.theory.specs.Outcomes.Determined.{refused-one}
+use Rattle.theory.specs.Chains.Sets.{right-one}
+use Rattle.chain.proofs.Unique.{decides-unique}
 use Rattle.look.specs.Says.{Upto, counted}
 use Rattle.survey.specs.Sets.{Known}
 use Rattle.survey.specs.Told.{told}
@@ -75,3 +78,13 @@ module _ {x : Entry} {l : Lent} {f : Looked} (s : looked x l f) where
 
   pub clear : {k : Found} → f ≡ Clear k → WellFormed x l × Known (x .short) (l .chain) k
   clear e = subst (looked x l) e s
+
+-- What is promised of a looking determines it.
+pub looked-unique : (x : Entry) (l : Lent) (f f′ : Looked) → looked x l f → looked x l f′ → f ≡ f′
+looked-unique x l (Clear s) (Clear s′) o o′ =
+    let e = right-one (o .1 .right) (o′ .1 .right) in
+    let m = decides-unique _ _ _ (o .1 .missed) (o′ .1 .missed) in
+    λ i. Clear (record { good = e i .good; live = e i .live; missed = m i })
+looked-unique x l (Clear s) (Refusing k p) o r = absurd (o .0 .none k p (r .applies))
+looked-unique x l (Refusing k p) (Clear s) r o = absurd (o .0 .none k p (r .applies))
+looked-unique x l (Refusing k p) (Refusing k′ p′) r r′ = let e = refused-one r r′ in λ i. Refusing (e .0 i) (e .1 i)

@@ -17,7 +17,7 @@ l c =
     lent (a .c) (a .denominators .now) (a .edges .now) (a .order .now) (readBy (isPaid (a .engine)) (a .rewards .now)) (a .work .now)
 
 clear-work-requires : tie.Need-clear-work-requires
-clear-work-requires c κs = let h = c .before .before .before .before .before .before .before .pre .0 .asked in (h .few, h .room)
+clear-work-requires c κs = let h = c .before .before .before .before .before .before .before .pre .0 .asked in (omega (arith, h .few), omega (arith, h .room))
 
 -- The table is zero then.
 zero-kept : (c : tie.After-clear-work) → Kept (l (c .before .before .before .before .before .before .before .before) .chain .states) (l (c .before .before .before .before .before .before .before .before) .work) (c .clear-work .last .0)
@@ -37,7 +37,7 @@ clear-work-requires-2 : tie.Need-clear-work-requires-2
 clear-work-requires-2 c κs =
     let z = c .before .before .before .before .before in
     let h = z .before .before .before .before .before .before .before .before .before .before .before .before .before .pre .0 .asked in
-    (h .few, omega (arith, h .room, kept z .len))
+    (omega (arith, h .few), omega (arith, h .room, kept z .len))
 
 returns : tie.Need-returns
 returns c =
