@@ -1,23 +1,21 @@
 -- The lowest state of a set, and the others.
 use Prim.Native.Nat.{ℕ, zero, suc, _-_, _/_, _%_, _^_, _<_, min}
-use mathlib.Core.Path.{_≡_, refl, sym, _∙_}
+use mathlib.Core.Path.{_≡_, refl, sym, ap, _∙_}
 use mathlib.Core.Logic.{⊎-elim}
 use native.Mathlib.Omega.{arith}
-use native.Mathlib.Nat.{zero-div}
+use native.Mathlib.Nat.{zero-div, mod-eq-of-lt}
 use lib.Bits.{bitAnd, and-step, and-self}
 use lib.Count.{trailingZeros}
-use lib.Dec.{ltb}
-use borrow.Author.Tests.{lt-ltb}
 use Rattle.meaning.specs.Chain.{mostStates}
-use Rattle.meaning.specs.Number.{only, bit}
+use Rattle.meaning.specs.Number.{bit}
 use Rattle.theory.specs.Numbers.Sum.{same}
 use Rattle.theory.specs.Numbers.Twos.{twos}
 use Rattle.theory.specs.Chains.Sets.{bit-zero, bit-suc}
 use Rattle.chain.specs.Rising.{Lowest}
 
--- The set of one state that is none past the states.
-pub alone-in : {j r : ℕ} → r ≡ only (ltb j mostStates) (2 ^ j) → j < mostStates → r ≡ 2 ^ j
-alone-in {j} e h = e ∙ rw (lt-ltb j mostStates h)
+-- The set of one of the states.
+pub alone-in : {j r : ℕ} → r ≡ 2 ^ (j % mostStates) → j < mostStates → r ≡ 2 ^ j
+alone-in {j} e h = e ∙ ap (λ z. 2 ^ z) (mod-eq-of-lt {n = j} {m = mostStates} h)
 
 -- The count of zeros below the lowest one.
 even : (k s i : ℕ) → i < trailingZeros (suc k) s → s % 2 ≡ 0

@@ -1,21 +1,16 @@
 // The bits of a set of states that is written as one number, and how its states are gone through from the lowest on.
 ghost use mathlib.Core.Path.{_≡_};
-ghost use Prim.Native.Nat.{_^_, _<_};
+ghost use Prim.Native.Nat.{_%_, _^_, _<_};
 ghost use lib.Count.{ones};
-ghost use lib.Dec.{ltb};
 ghost use Rattle.meaning.specs.Chain.{mostStates};
-ghost use Rattle.meaning.specs.Number.{only};
 ghost use Rattle.chain.specs.Rising.{placeOf, Lowest, Others};
 use crate::Chain;
 
-// The set of one state, and the empty one for a number past the states.
+// The set of one state. A number past the states counts modulo 64, which costs the shift nothing.
 pub fn alone(j: usize) -> u64
-    ensures { λ r. ⌜ r ≡ only (ltb j mostStates) (2 ^ j) ⌝ }
+    ensures { λ r. ⌜ r ≡ 2 ^ (j % mostStates) ⌝ }
 {
-    if Chain::STATES <= j {
-        return 0;
-    }
-    1 << j
+    1 << (j % Chain::STATES)
 }
 
 // How many states are in a set.
@@ -42,12 +37,20 @@ pub fn lowest(set: u64) -> usize
     u64::trailing_zeros(set) as usize
 }
 
-// A set without its lowest state. The empty one stays.
+// A set that is not empty, without its lowest state.
+pub(crate) fn rest(set: u64) -> u64
+    requires { ⌜ 0 < set ⌝ }
+    ensures { λ r. ⌜ Others set r ⌝ }
+{
+    set & (set - 1)
+}
+
+// The same of any set: the empty one stays.
 pub fn others(set: u64) -> u64
     ensures { λ r. ⌜ (0 < set → Others set r) × (set ≡ 0 → r ≡ 0) ⌝ }
 {
     if set == 0 {
         return 0;
     }
-    set & (set - 1)
+    rest(set)
 }

@@ -6,7 +6,7 @@ ghost use lib.Count.{trailingZeros};
 ghost use Rattle.meaning.specs.Row.{cell, gcdOf, divisor, over, lowest};
 use crate::bits::alone;
 use crate::bits::lowest;
-use crate::bits::others;
+use crate::bits::rest;
 use crate::fraction::gcd;
 
 // The place behind the last number above 0, and 0 where there is none.
@@ -69,7 +69,7 @@ fn common(row: &[u64]) -> u64
     }
     j -= 1;
     let mut g = row[j];
-    while others(g) != 0 {
+    while rest(g) != 0 {
         j = undivided(row, j, g);
         if j == 0 {
             return g;

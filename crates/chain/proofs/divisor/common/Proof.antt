@@ -52,7 +52,7 @@ loop-again c =
 lowest-bit-requires : tie.Need-lowest-bit-requires Inv-loop μ-loop
 lowest-bit-requires c κs =
     let k = c .before .before .loop in
-    (k .inv .0, k .inv .3, one-bit _ _ (k .inv .1) (k .inv .2) (c .before .others .ensures .0 (k .inv .1)) (omega arith))
+    (k .inv .0, k .inv .3, one-bit _ _ (k .inv .1) (k .inv .2) (c .before .rest .ensures) (omega arith))
 
 pub common-spec : {M : Type 1} → statement M
 common-spec =
