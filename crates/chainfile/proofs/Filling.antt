@@ -1,76 +1,24 @@
--- A table that is filled from the front, and the numbers that go into it.
-use Prim.Native.Nat.{ℕ, zero, suc, _+_, _*_, _-_, _/_, _^_, _≤_, _<_, min}
-use mathlib.Core.Path.{_≡_, refl, sym, ap, subst, _∙_}
+-- A table of edges that is filled from the front, and the numbers that go into the tables.
+use Prim.Native.Nat.{ℕ, _+_, _*_, _/_, _^_, _≤_, _<_, min}
+use mathlib.Core.Path.{_≡_, sym, ap, subst, _∙_}
 use mathlib.Core.Logic.{⊎-elim, inl, inr}
 use mathlib.Core.Bool.{Bool}
 use mathlib.Core.List.{List}
 use native.Mathlib.Nat.{add-zero}
 use native.Mathlib.Omega.{arith}
-use lib.ListN.{length, getD, set, drop, length-set, length-append, length-drop, List·getD-append, List·getD-eq-default}
-use lib.Seq.{ext-getD, getD-set-same, getD-set-other, getD-append-add, getD-drop}
+use lib.ListN.{length, getD, List·getD-eq-default}
 use borrow.Author.Tests.{eq-eqb, ne-eqb, lt-ltb}
 use Rattle.meaning.specs.Number.{decides, sumTo, tabFrom, filled}
 use Rattle.meaning.specs.Chain.{mostStates, mostEdges, edgeSize, edge, edgeCount, edgeNumber}
 use Rattle.meaning.specs.Block.{Input, byte, numberAt, recordSize, headStates, headEdges, stateAt, orderByte, edgeRewardByte, weightByte}
 use Rattle.meaning.specs.File.{Tables, Short, denominatorsIn, ordersIn}
-use Rattle.theory.specs.Numbers.Sum.{same, below, last-or-below, sum-ext}
-use Rattle.theory.specs.Numbers.Tab.{tab-at, tab-past, tab-length}
+use Rattle.theory.specs.Numbers.Sum.{same, below, sum-ext}
+use Rattle.theory.specs.Numbers.Tab.{tab-at, tab-past, tab-length, tab-ext}
+use Rattle.theory.specs.Numbers.Filled.{Filled}
 use Rattle.chain.specs.Edge.{placed}
 use Rattle.chainfile.specs.Input.{input}
 use Rattle.chainfile.specs.Tells.{Within, ShortIn, Narrow, edgeFrom}
-use Rattle.chainfile.proofs.Cut.{cut, cut-from}
-
--- The entries before k are new, the others as they were.
-pub record Filled (f : ℕ → ℕ) (before : List ℕ) (k : ℕ) (table : List ℕ) : Type 0 where
-  pub size : length table ≡ length before
-  pub new : (j : ℕ) → j < k → getD table j 0 ≡ f j
-  pub old : (j : ℕ) → k ≤ j → getD table j 0 ≡ getD before j 0
-
--- Where an entry of the list at the front of a table lies, and where one of the table's own.
-filled-front : (l t : List ℕ) (j : ℕ) → j < length l → getD (filled l t) j 0 ≡ getD l j 0
-filled-front l t j h = List·getD-append l (drop (length l) t) 0 j h
-
-filled-past : (l t : List ℕ) (j : ℕ) → length l ≤ j → getD (filled l t) j 0 ≡ getD t j 0
-filled-past l t j h =
-    let e : length l + (j - length l) ≡ j = omega arith in
-    ap (λ z. getD (filled l t) z 0) (sym e) ∙ getD-append-add l (drop (length l) t) (j - length l) 0
-    ∙ getD-drop (length l) t (j - length l) 0
-    ∙ ap (λ z. getD t z 0) e
-
-module _ {f : ℕ → ℕ} {before : List ℕ} where
-  pub none : Filled f before 0 before
-  none = record { size = refl; new = λ j h. absurd (omega arith); old = λ j h. refl }
-
-  module _ {k : ℕ} {table : List ℕ} (w : Filled f before k table) where
-    pub more : (i : ℕ) {v : ℕ} (k′ : ℕ) → i ≡ k → k′ ≡ k + 1 → k < length before → v ≡ f i → Filled f before k′ (set table i v)
-    more i {v} k′ p q h e =
-        record {
-          size = simp length-set (w .size);
-          new =
-              λ j b.
-              last-or-below {j = j} {n = i} (omega arith)
-              (λ z. rw z (getD-set-same table i v 0 (omega (arith, w .size)) ∙ e))
-              (λ l. getD-set-other table i j v 0 (λ z. omega arith) ∙ w .new j (omega arith));
-          old = λ j b. getD-set-other table i j v 0 (λ z. omega arith) ∙ w .old j (omega arith);
-        }
-
-    pub all : (n : ℕ) → k ≡ n → n ≤ length before → table ≡ filled (tabFrom 0 n f) before
-    all n e h =
-        let l = tabFrom 0 n f in
-        let m : length l ≡ n = tab-length 0 n f in
-        ext-getD 0 table (filled l before)
-        (w .size ∙ sym (length-append l (drop (length l) before) ∙ rw (length-drop (length l) before, m) (omega arith)))
-        (λ j b.
-        ⊎-elim
-        (λ (q : j < n). w .new j (omega arith) ∙ sym (filled-front l before j (omega arith) ∙ tab-at n f 0 j q))
-        (λ (q : n ≤ j). w .old j (omega arith) ∙ sym (filled-past l before j (omega arith)))
-        (below j n))
-
--- Two lists of the same numbers.
-pub tab-same : (i n : ℕ) (f g : ℕ → ℕ) → ((j : ℕ) → f j ≡ g j) → tabFrom i n f ≡ tabFrom i n g
-unfolding tabFrom
-tab-same i zero f g h = refl
-tab-same i (suc n) f g h = rw (h i, tab-same (suc i) n f g h)
+use Rattle.bytes.proofs.Cut.{cut, cut-from}
 
 -- An edge more, in a table with room for it.
 module _ (edges : ℕ → List ℕ) (e : ℕ) {before table : List ℕ} (w : Filled (edgeNumber edges) before (edgeSize * e) table) where
@@ -130,10 +78,10 @@ one-byte f j = rw add-zero (omega arith)
 -- A denominator begins its record, and an order's entry is one byte.
 module _ (f : Input) (t : List ℕ) where
   pub denominators-are : filled (tabFrom 0 (headStates f) (λ i. numberAt f (stateAt i + 0) 4)) t ≡ filled (denominatorsIn f) t
-  denominators-are = ap (λ l. filled l t) (tab-same 0 (headStates f) _ _ (λ j. ap (λ z. numberAt f z 4) (add-zero (stateAt j))))
+  denominators-are = ap (λ l. filled l t) (tab-ext (headStates f) _ _ (λ j _. ap (λ z. numberAt f z 4) (add-zero (stateAt j))))
 
   pub orders-are : filled (tabFrom 0 (headStates f) (λ i. numberAt f (stateAt i + orderByte) 1)) t ≡ filled (ordersIn f) t
-  orders-are = ap (λ l. filled l t) (tab-same 0 (headStates f) _ _ (λ j. one-byte f (stateAt j + orderByte)))
+  orders-are = ap (λ l. filled l t) (tab-ext (headStates f) _ _ (λ j _. one-byte f (stateAt j + orderByte)))
 
 -- The edge of a record that is cut out.
 module _ (kept : List ℕ) (at : ℕ) {low e : ℕ} (begins : low ≡ min at (length kept)) (ends : e ≡ min (at + recordSize) (length kept)) where

@@ -1,15 +1,7 @@
-pub mod Law
-pub mod Digits
-pub mod Cut
-pub mod Fletcher
-pub mod Content
 pub mod Tested
 pub mod Filling
-pub mod Columns
 pub mod Flags
 pub mod Saving
 pub mod Opening
 pub mod Counting
-pub mod Steps
-pub mod Storing
 pub mod Unique

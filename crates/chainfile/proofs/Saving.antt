@@ -20,7 +20,8 @@ use Rattle.theory.specs.Files.Opened.{kept-all}
 use Rattle.chain.specs.Edge.{placed}
 use Rattle.chainfile.specs.Input.{input}
 use Rattle.chainfile.specs.Tells.{LostBy, Verdicts, EdgeSet}
-use Rattle.chainfile.proofs.Filling.{Filled, none, more-edge, all}
+use Rattle.theory.specs.Numbers.Filled.{Filled, none, all}
+use Rattle.chainfile.proofs.Filling.{more-edge}
 
 -- The verdicts on the blocks before b.
 pub record Looked (kept : List ℕ) (b : ℕ) (lost : List ℕ) : Type 0 where

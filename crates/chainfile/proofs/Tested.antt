@@ -1,28 +1,18 @@
--- What the tests of a block tell together, and what a block that is right or wrong tells of the file.
+-- What the blocks that are found right or wrong tell of the file.
 use Prim.Native.Nat.{ℕ, _+_, _≤_, _<_}
 use mathlib.Core.Path.{_≡_, sym, subst}
 use mathlib.Core.Logic.{⊎-elim}
 use native.Mathlib.Omega.{arith}
 use mathlib.Core.List.{List}
 use Rattle.meaning.specs.Block.{Input, stateBlocks, demanded}
-use Rattle.meaning.specs.File.{BlockRefused, BlockRight, FileRefused}
+use Rattle.meaning.specs.File.{BlockRight, FileRefused}
 use Rattle.meaning.specs.Salvage.{FrontRefused, Opened, verdict}
 use Rattle.theory.specs.Numbers.Sum.{same}
-use Rattle.chainfile.specs.declared.block.Block.{Block}
-use Rattle.chainfile.specs.declared.block.Block.the-variants.{Right, Wrong}
 use Rattle.chainfile.specs.declared.judge.Verdict.{Verdict}
 use Rattle.chainfile.specs.declared.judge.Verdict.the-variants.{Accepted as Taken, Refused as Refusing}
 use Rattle.chainfile.specs.Input.{input}
-use Rattle.chainfile.specs.Tells.{tested, Begun, further, judged, Front, fronted, Verdicts, Within}
+use Rattle.chainfile.specs.Tells.{Begun, further, judged, Front, fronted, Verdicts, Within}
 use Rattle.theory.specs.Files.Right.{bounded, flag-front}
-
--- A block that is found right or wrong.
-module _ (f : Input) (b : ℕ) {r : Block} (t : tested f b r) where
-  pub found-wrong : {number : ℕ} → r ≡ Wrong number → BlockRefused f b number
-  found-wrong e = subst (λ (x : Block). tested f b x) e t
-
-  pub found-right : r ≡ Right → BlockRight f b
-  found-right e = subst (λ (x : Block). tested f b x) e t
 
 pub within : (f : Input) → ((b : ℕ) → b ≤ stateBlocks f → BlockRight f b) → Within (input (f .kept) 0)
 within f front =

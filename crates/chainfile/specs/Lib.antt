@@ -1,5 +1,3 @@
 pub mod Input
 pub mod Tells
-pub mod Written
 pub mod Index
-pub mod Columns

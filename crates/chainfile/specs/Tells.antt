@@ -24,18 +24,11 @@ use Rattle.meaning.specs.File.{
 }
 use Rattle.meaning.specs.Salvage.{FrontRefused, edgeKept, leftTables, Salvage, verdict, salvage}
 use Rattle.chain.specs.Edge.{placed}
-use Rattle.chainfile.specs.declared.block.Block.{Block}
-use Rattle.chainfile.specs.declared.block.Block.the-variants.{Right, Wrong}
 use Rattle.chainfile.specs.declared.judge.Verdict.{Verdict}
 use Rattle.chainfile.specs.declared.judge.Verdict.the-variants.{Accepted as Taken, Refused as Refusing}
 use Rattle.chainfile.specs.declared.Reading.{Reading}
 use Rattle.chainfile.specs.declared.Reading.the-variants.{Chain, Refused}
 use Rattle.chainfile.specs.declared.Left.{Left}
-
--- A block is right, or refused with a number.
-abbrev pub tested : Input → ℕ → Block → Type 0
-tested f b Right = BlockRight f b
-tested f b (Wrong number) = BlockRefused f b number
 
 -- The length, the head and the block total are right, or one of them is refused.
 pub record Begun (f : Input) : Type 0 where

@@ -10,9 +10,8 @@ ghost use Rattle.meaning.specs.Salvage.{keptEdges, keptBefore, leftTables, verd
 ghost use Rattle.chain.specs.Edge.{placed};
 ghost use Rattle.chainfile.specs.Input.{input, end};
 ghost use Rattle.chainfile.specs.Tells.{Within, ShortFor, Narrow, edgeFrom, EdgeSet, tables};
-use crate::bytes;
-use crate::head;
-use crate::layout;
+use blocks::head;
+use bytes::layout;
 use chain::Chain;
 use chain::edge;
 use chain::table;

@@ -4,8 +4,8 @@ ghost use Rattle.meaning.specs.Number.{only};
 ghost use Rattle.meaning.specs.Salvage.{edgeKept, verdict};
 ghost use Rattle.chainfile.specs.Input.{input};
 ghost use Rattle.chainfile.specs.Index.{Whole};
-use crate::head;
-use crate::layout;
+use blocks::head;
+use bytes::layout;
 use chain::table;
 
 // Edge e of the file counts as one where it is kept, and else as none.

@@ -1,13 +1,13 @@
 // A whole file, or its front: 20, the head block, the block total, and then each further block in turn.
-ghost use Prim.Native.Nat.{ℕ, _≤_};
-ghost use Rattle.meaning.specs.File.{LengthFault, TotalFault, mostBlocks};
+ghost use Prim.Native.Nat.{ℕ};
+ghost use Rattle.meaning.specs.File.{LengthFault, TotalFault};
 ghost use Rattle.meaning.specs.Number.{decides};
 ghost use Rattle.chainfile.specs.Input.{input};
 ghost use Rattle.chainfile.specs.Tells.{begun, further, judged, fronted};
-use crate::block;
-use crate::block::Block;
-use crate::head;
-use crate::layout;
+use blocks::block;
+use blocks::block::Block;
+use blocks::head;
+use bytes::layout;
 
 // What a file is found to be: accepted, or refused with a number at a place.
 pub(crate) enum Verdict {
@@ -66,7 +66,6 @@ fn begins(kept: &[u8], more: u64) -> Verdict
 
 // Each block after the head and before block `end`.
 fn further(kept: &[u8], end: usize) -> Verdict
-    requires { ⌜ end ≤ mostBlocks ⌝ }
     ensures { λ r. ⌜ ((more : ℕ) → further (input (now (kept .entry)) more) end r) ⌝ }
 {
     let mut b = 1;

@@ -8,22 +8,17 @@ ghost use Rattle.meaning.specs.Salvage.{noSalvage, SalvageOutcome};
 ghost use Rattle.chainfile.specs.Input.{input};
 ghost use Rattle.chainfile.specs.Tells.{Within, OpenOutcome, LeftOver, told, toldLeft, tables};
 use crate::judge::Verdict;
+use blocks::head;
+use bytes::layout;
 use chain::Chain;
 
-pub mod block;
-pub mod bytes;
 mod fill;
-pub mod head;
 pub mod index;
 mod judge;
-pub mod layout;
 mod lost;
-mod records;
-mod store;
-pub mod sums;
 
-pub use layout::LONGEST;
-pub use store::put_number;
+// The bytes of the longest file.
+pub const LONGEST: usize = layout::LONGEST;
 
 pub enum Reading {
     Chain { chain: Chain, edges: usize },

@@ -1,17 +1,16 @@
 // Which edge blocks of a file are lost.
-ghost use Prim.Native.Nat.{ℕ, _≤_, _<_};
+ghost use Prim.Native.Nat.{ℕ, _≤_};
 ghost use Rattle.meaning.specs.Block.{demanded};
 ghost use Rattle.meaning.specs.File.{mostBlocks};
 ghost use Rattle.chainfile.specs.Input.{input};
 ghost use Rattle.chainfile.specs.Tells.{LostBy, Verdicts};
-use crate::block;
-use crate::block::Block;
-use crate::head;
-use crate::layout;
+use blocks::block;
+use blocks::block::Block;
+use blocks::head;
+use bytes::layout;
 
 // The number by which the block is lost, 0 where it is kept.
 fn by(kept: &[u8], b: usize) -> u64
-    requires { ⌜ b < mostBlocks ⌝ }
     ensures { λ r. ⌜ ((more : ℕ) → LostBy (input (now (kept .entry)) more) b r) ⌝ }
 {
     match block::test(kept, b) {

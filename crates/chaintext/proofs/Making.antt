@@ -21,7 +21,7 @@ use Rattle.meaning.specs.Translate.{mostText, TextLong, MakeOutcome}
 use Rattle.theory.specs.Numbers.Sum.{below}
 use Rattle.theory.specs.Numbers.Tab.{getD-zeros}
 use Rattle.theory.specs.Texts.Made.{writes-made}
-use Rattle.chainfile.specs.Input.{input}
+use Rattle.bytes.specs.Input.{input}
 use Rattle.chaintext.specs.Turns.{tables, heldLent, Cells}
 use Rattle.chaintext.specs.Read.{Held-says, readAs, ReadAs}
 use Rattle.chaintext.specs.declared.turns.Held.{Held}

@@ -4,7 +4,7 @@ ghost use lib.ListN.{length};
 ghost use Rattle.meaning.specs.Number.{decides};
 ghost use Rattle.meaning.specs.Reorder.{longestFile};
 ghost use Rattle.meaning.specs.Translate.{mostText, TextLong, MakeOutcome};
-ghost use Rattle.chainfile.specs.Input.{input};
+ghost use Rattle.bytes.specs.Input.{input};
 ghost use Rattle.chainwriter.specs.Tells.{told};
 use crate::read::Reading;
 use chain::Chain;
@@ -21,7 +21,7 @@ mod turns;
 pub const LONGEST: usize = 262144;
 
 // Room for any chain file.
-pub const FILE_ROOM: usize = chainfile::LONGEST;
+pub const FILE_ROOM: usize = bytes::layout::LONGEST;
 
 // A text of which not all was kept is too long as well.
 fn too_long(text: &[u8], more: u64) -> bool

@@ -12,7 +12,7 @@ use Rattle.meaning.specs.Refusal.{Lent}
 use Rattle.meaning.specs.Block.{Input, numberAt, recordSize, fullBlock, stateBlocks}
 use Rattle.theory.specs.Numbers.Sum.{sum-ext}
 use Rattle.theory.specs.Numbers.Digits.{digits-low, digits-from}
-use Rattle.chainfile.specs.Input.{input}
+use Rattle.bytes.specs.Input.{input}
 use Rattle.chainwriter.specs.Packed.{headRecord, stateRecord, edgeRecord, recordOf, slotOf, beginOf}
 use Rattle.chainwriter.specs.Made.{Stands}
 

@@ -32,13 +32,13 @@ use Rattle.meaning.specs.File.{kindOf, countOf}
 use Rattle.theory.specs.Numbers.Sum.{same, last-or-below, sum-ext}
 use Rattle.theory.specs.Numbers.Tab.{tab-at}
 use Rattle.theory.specs.Files.Agree.{sumOf, sums-agree}
-use Rattle.chainfile.specs.Input.{input}
-use Rattle.chainfile.specs.Written.{Written, Stored, littleEndian}
+use Rattle.bytes.specs.Input.{input}
+use Rattle.bytes.specs.Written.{Written, Stored, littleEndian}
 use Rattle.chainwriter.specs.Packed.{slotOf, frontOf, checkOf, beginOf}
 use Rattle.chainwriter.specs.Made.{Outside, Stands, Fronted, Slots, Checked, Block, Made, Filed}
-use Rattle.chainfile.proofs.Fletcher.{sums-small}
-use Rattle.chainfile.proofs.Steps.{front, kept}
-use Rattle.chainfile.proofs.Storing.{size, stored}
+use Rattle.fletcher.proofs.Summed.{sums-small}
+use Rattle.bytes.proofs.Steps.{front, kept}
+use Rattle.bytes.proofs.Storing.{size, stored}
 
 -- What a text that is written leaves, byte by byte.
 module _ {before text after : List ℕ} {place next : ℕ} (w : Written before place text after next) where

@@ -7,7 +7,7 @@ use Rattle.meaning.specs.Refusal.{Lent}
 use Rattle.meaning.specs.Block.{byte, blockSize, blockAt, recordsAt, checkAt, recordSize, fullBlock, firstSum, secondSum}
 use Rattle.meaning.specs.File.{kindOf, countOf}
 use Rattle.theory.specs.Files.Agree.{sumOf}
-use Rattle.chainfile.specs.Input.{input}
+use Rattle.bytes.specs.Input.{input}
 use Rattle.chainwriter.specs.Packed.{slotOf, frontOf, beginOf}
 
 -- All bytes before low and from high on are as they were.

@@ -6,17 +6,15 @@ ghost use lib.ListN.{length};
 ghost use Rattle.meaning.specs.Block.{blockSize, blockAt, fullBlock};
 ghost use Rattle.meaning.specs.File.{kindOf, countOf, mostBlocks};
 ghost use Rattle.chain.specs.Lent.{lent};
-ghost use Rattle.chainfile.specs.Input.{input};
+ghost use Rattle.bytes.specs.Input.{input};
 ghost use Rattle.chainwriter.specs.Packed.{Fitting, beginOf};
 ghost use Rattle.chainwriter.specs.Made.{Fronted, Slots, Checked, Made, Filed};
 use crate::pack;
+use blocks::block;
+use blocks::head;
+use bytes::layout;
+use bytes::put_number;
 use chain::Chain;
-use chainfile::block;
-use chainfile::bytes;
-use chainfile::head;
-use chainfile::layout;
-use chainfile::put_number;
-use chainfile::sums;
 
 // Which record of its kind is the first of block b.
 fn begin(kept: &[u8], b: usize) -> usize
@@ -90,7 +88,7 @@ fn check(buffer: &mut [u8], b: usize)
     ensures { λ _. ⌜ Checked (now (buffer .entry)) b (now (buffer .exit)) ⌝ }
 {
     let at = layout::BLOCK * b;
-    let sums = sums::check(buffer, b, bytes::byte(buffer, at + layout::VERSION));
+    let sums = fletcher::check(buffer, b, bytes::byte(buffer, at + layout::VERSION));
     put_number(
         buffer,
         at + layout::CHECKED,

@@ -7,11 +7,11 @@ ghost use Rattle.meaning.specs.Block.{recordSize, fullBlock};
 ghost use Rattle.chain.specs.Lent.{lent};
 ghost use Rattle.chainwriter.specs.Packed.{Fitting, headRecord, stateRecord, edgeRecord, recordOf, slotOf, frontOf, checkOf};
 ghost use Rattle.meaning.specs.File.{mostBlocks};
+use bytes::layout;
 use chain::Chain;
 use chain::edge;
 use chain::set;
 use chain::table::at;
-use chainfile::layout;
 
 // x where it lies from byte `offset` on.
 fn lifted(x: u64, offset: usize) -> u64

@@ -1,7 +1,7 @@
 // Reads a chain file on standard input and a table from the file `shares` in the working folder, and prints whether the table is the chance at
 // every state.
+use bytes::layout;
 use chain::Chain;
-use chainfile::layout;
 use input::Reading;
 use lines::check;
 use report::Printed;

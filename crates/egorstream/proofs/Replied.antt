@@ -6,9 +6,9 @@ use native.Mathlib.Omega.{arith}
 use lib.ListN.{length}
 use Rattle.meaning.specs.Number.{tabFrom, filled}
 use Rattle.meaning.specs.Call.{answerLength, fourBytes, answerBytes}
-use Rattle.chainfile.specs.Written.{Stored}
-use Rattle.chainfile.proofs.Steps.{kept, join, whole}
-use Rattle.chainfile.proofs.Storing.{stored}
+use Rattle.bytes.specs.Written.{Stored}
+use Rattle.bytes.proofs.Steps.{kept, join, whole}
+use Rattle.bytes.proofs.Storing.{stored}
 
 pub four-numbers : {l₀ l₁ l₂ l₃ l₄ : List ℕ} {i j k m : ℕ} (p q s t : ℕ) → answerLength ≤ length l₀ → Stored l₀ 0 (fourBytes p) l₁ i
     → Stored l₁ i (fourBytes q) l₂ j → Stored l₂ j (fourBytes s) l₃ k → Stored l₃ k (fourBytes t) l₄ m → l₄ ≡ filled (answerBytes p q s t) l₀

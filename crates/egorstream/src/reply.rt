@@ -4,7 +4,7 @@ ghost use Prim.Native.Nat.{_≤_};
 ghost use lib.ListN.{length};
 ghost use Rattle.meaning.specs.Number.{filled};
 ghost use Rattle.meaning.specs.Call.{answerLength, answerBytes};
-use chainfile::put_number;
+use bytes::put_number;
 
 const WIDTH: usize = 4;
 

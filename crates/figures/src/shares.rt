@@ -8,9 +8,9 @@ ghost use Rattle.meaning.specs.Block.{Input};
 ghost use Rattle.meaning.specs.Judge.{numeratorsOf, FileJudged};
 ghost use Rattle.equations.specs.Judge.{told};
 ghost use Rattle.figures.specs.Found.{Holds};
+use bytes::four_byte_number;
+use bytes::layout;
 use chain::Chain;
-use chainfile::bytes::four_byte_number;
-use chainfile::layout;
 use equations::Verdict;
 
 // The numerators of n states, at the front of a table.

@@ -12,9 +12,9 @@ use Rattle.meaning.specs.Near.{Near}
 use Rattle.meaning.specs.NearText.{Figure, lowerFigure, upperFigure, lastDigits, figureText, figuresText, nearText}
 use Rattle.theory.specs.Numbers.Sum.{below}
 use Rattle.theory.specs.Numbers.Decimal.{digits}
-use Rattle.chainfile.specs.Written.{Written, Stored}
-use Rattle.chainfile.proofs.Steps.{join, kept}
-use Rattle.chainfile.proofs.Storing.{stored, stored-unique}
+use Rattle.bytes.specs.Written.{Written, Stored}
+use Rattle.bytes.proofs.Steps.{join, kept}
+use Rattle.bytes.proofs.Storing.{stored, stored-unique}
 use Rattle.report.specs.Pieces.{Named}
 use Rattle.report.proofs.Naming.{named-written, named-past}
 use Rattle.lines.specs.Widths.{figureWidth, figuresWidth, Fitted, FiguresLine, written, full}

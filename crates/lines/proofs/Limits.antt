@@ -12,7 +12,7 @@ use Rattle.meaning.specs.Report.{TextOutcome, AnswerOutcome}
 use Rattle.meaning.specs.Limit.{Limit}
 use Rattle.meaning.specs.FileLimit.{kept, broken, undecided, refused, judged, verdictText, limitLine, LimitReport, limitRoom, FileLimit, LimitReportOutcome}
 use Rattle.meaning.specs.FileLimit as meant
-use Rattle.chainfile.specs.Written.{Written}
+use Rattle.bytes.specs.Written.{Written}
 use Rattle.near.specs.Answer.{toldBetween}
 use Rattle.near.specs.declared.answer.Between.{Between}
 use Rattle.limitfile.specs.Told.{toldVerdict, toldLimited}

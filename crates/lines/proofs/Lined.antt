@@ -13,9 +13,9 @@ use Rattle.meaning.specs.Number.{choose}
 use Rattle.meaning.specs.Report.{refusedText, TextOutcome, AnswerOutcome}
 use Rattle.meaning.specs.Within.{allParts, noWithin, within, withinText, withinLine, withinRoom, FileWithin, WithinReport, WithinReportOutcome}
 use Rattle.theory.specs.Rounds.Texts.{within-report-one}
-use Rattle.chainfile.specs.Written.{Written, Stored}
-use Rattle.chainfile.proofs.Steps.{join, kept}
-use Rattle.chainfile.proofs.Storing.{stored}
+use Rattle.bytes.specs.Written.{Written, Stored}
+use Rattle.bytes.proofs.Steps.{join, kept}
+use Rattle.bytes.proofs.Storing.{stored}
 use Rattle.equations.specs.Told.{told as parts-told, Proper}
 use Rattle.equations.specs.declared.Parts.{Parts}
 use Rattle.equations.specs.declared.Parts.the-variants.{Held, Refused}

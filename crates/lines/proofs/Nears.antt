@@ -14,7 +14,7 @@ use Rattle.meaning.specs.Report.{refusedText, TextOutcome, AnswerOutcome}
 use Rattle.meaning.specs.NearText.{nearText, nearRoom}
 use Rattle.meaning.specs.FileNear.{From, FileNear, NearReport, NearReportOutcome}
 use Rattle.theory.specs.Files.NearFile.{near-report-one}
-use Rattle.chainfile.specs.Written.{Written}
+use Rattle.bytes.specs.Written.{Written}
 use Rattle.near.specs.Answer.{toldBetween, toldNear, toldMiss, Proper}
 use Rattle.near.specs.declared.answer.Figures.{Figures}
 use Rattle.near.specs.declared.answer.Nearly.{Nearly}

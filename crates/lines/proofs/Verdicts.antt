@@ -10,9 +10,9 @@ use Rattle.meaning.specs.Text.{bytesOf, decimal, decimalIn}
 use Rattle.meaning.specs.Report.{lineText, TextOutcome, answerRoom, AnswerOutcome}
 use Rattle.meaning.specs.Judge.{Verdict as Said, right, wrong, refusal, FileJudged, verdictLine, JudgeReport, JudgeReportOutcome}
 use Rattle.theory.specs.Judging.Texts.{judged-one, file-judged-number}
-use Rattle.chainfile.specs.Written.{Written, Stored}
-use Rattle.chainfile.proofs.Steps.{join, kept}
-use Rattle.chainfile.proofs.Storing.{stored}
+use Rattle.bytes.specs.Written.{Written, Stored}
+use Rattle.bytes.proofs.Steps.{join, kept}
+use Rattle.bytes.proofs.Storing.{stored}
 use Rattle.equations.specs.Judge.{told as verdict-told}
 use Rattle.equations.specs.declared.Verdict.{Verdict}
 use Rattle.equations.specs.declared.Verdict.the-variants.{Yes, No, Refused}

@@ -4,7 +4,7 @@ use mathlib.Core.Path.{_≡_}
 use mathlib.Core.List.{List}
 use lib.ListN.{length}
 use Rattle.meaning.specs.NearText.{Figure, figuresText}
-use Rattle.chainfile.specs.Written.{Written}
+use Rattle.bytes.specs.Written.{Written}
 
 -- The first number, a point with five digits, `e-` and the tens.
 abbrev pub figureWidth : ℕ

@@ -9,7 +9,7 @@ ghost use Rattle.meaning.specs.FileNear.{NearReportOutcome};
 ghost use Rattle.meaning.specs.FileLimit.{LimitReportOutcome};
 ghost use Rattle.nearfile.specs.From.{fromOf};
 ghost use Rattle.chainfile.specs.Input.{input};
-ghost use Rattle.chainfile.specs.Written.{Written};
+ghost use Rattle.bytes.specs.Written.{Written};
 ghost use Rattle.limit.specs.Told.{told as limitOf};
 ghost use Rattle.report.specs.Stands.{told};
 use equations::PARTS;

@@ -3,7 +3,7 @@ ghost use Prim.Native.Nat.{_≤_};
 ghost use lib.ListN.{length};
 ghost use Rattle.meaning.specs.NearText.{nearLine};
 ghost use Rattle.meaning.specs.FileLimit.{verdictText, limitRoom};
-ghost use Rattle.chainfile.specs.Written.{Written};
+ghost use Rattle.bytes.specs.Written.{Written};
 ghost use Rattle.near.specs.Answer.{toldBetween};
 ghost use Rattle.limitfile.specs.Told.{toldVerdict};
 use crate::two_figures::FIGURES;

@@ -4,7 +4,7 @@ ghost use Prim.Native.Nat.{_≤_};
 ghost use lib.ListN.{length};
 ghost use Rattle.meaning.specs.Text.{bytesOf};
 ghost use Rattle.meaning.specs.NearText.{figuresText, nearText, nearRoom};
-ghost use Rattle.chainfile.specs.Written.{Written};
+ghost use Rattle.bytes.specs.Written.{Written};
 ghost use Rattle.decimals.specs.Told.{told};
 ghost use Rattle.near.specs.Answer.{toldBetween};
 use crate::two_figures::FIGURES;

@@ -12,8 +12,8 @@ use Rattle.meaning.specs.NearText.{Figure, figure, lowerFigure, upperFigure, fi
 use Rattle.meaning.specs.Copies.{Plan, Sensible}
 use Rattle.meaning.specs.PlanTable.{copiesLine}
 use Rattle.theory.specs.Plans.Formed.{in-range}
-use Rattle.chainfile.specs.Written.{Written}
-use Rattle.chainfile.proofs.Steps.{kept, join}
+use Rattle.bytes.specs.Written.{Written}
+use Rattle.bytes.proofs.Steps.{kept, join}
 use Rattle.report.specs.Pieces.{Named}
 use Rattle.report.specs.Stands.{told, answerOf}
 use Rattle.report.specs.declared.Printed.{Printed}

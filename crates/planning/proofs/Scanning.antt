@@ -21,9 +21,9 @@ use Rattle.theory.specs.Numbers.Sum.{last-or-below}
 use Rattle.theory.specs.Outcomes.NearOne.{near-determined, near-outcome}
 use Rattle.theory.specs.Plans.Filed.{copiesFiled}
 use Rattle.theory.specs.Plans.Judged.{plan-verdict, plan-verdict-one, verdicts-exist}
-use Rattle.chainfile.specs.Written.{Written, Stored}
-use Rattle.chainfile.proofs.Steps.{kept as kept-length, join}
-use Rattle.chainfile.proofs.Storing.{stored}
+use Rattle.bytes.specs.Written.{Written, Stored}
+use Rattle.bytes.proofs.Steps.{kept as kept-length, join}
+use Rattle.bytes.proofs.Storing.{stored}
 use Rattle.report.specs.Pieces.{Named}
 use Rattle.report.proofs.Naming.{named-written, named-past}
 use Rattle.report.specs.Stands.{Stands}

@@ -9,8 +9,8 @@ use Rattle.meaning.specs.Text.{bytesOf}
 use Rattle.meaning.specs.Copies.{mostCopies, Sensible, copiesLent}
 use Rattle.meaning.specs.PlanTable.{Weights, withCopies, Chances, copiesLine, tableText, copiesRoom, tableRoom, PlanTable}
 use Rattle.theory.specs.Outcomes.NearOne.{near-outcome}
-use Rattle.chainfile.specs.Written.{Written}
-use Rattle.chainfile.proofs.Steps.{kept, join}
+use Rattle.bytes.specs.Written.{Written}
+use Rattle.bytes.proofs.Steps.{kept, join}
 use Rattle.report.specs.Stands.{Stands}
 use Rattle.report.proofs.ChainLines.{stands}
 use Rattle.lines.specs.Widths.{Fitted}

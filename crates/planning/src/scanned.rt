@@ -8,7 +8,7 @@ ghost use Rattle.meaning.specs.Copies.{Sensible};
 ghost use Rattle.meaning.specs.Limit.{IsLimit};
 ghost use Rattle.meaning.specs.PlanTable.{withCopies, copiesRoom};
 ghost use Rattle.meaning.specs.Fewest.{fewestRoom, FewestReport, FewestOutcome};
-ghost use Rattle.chainfile.specs.Written.{Written};
+ghost use Rattle.bytes.specs.Written.{Written};
 ghost use Rattle.report.specs.Stands.{Stands, told};
 ghost use Rattle.lines.specs.Widths.{Fitted};
 ghost use Rattle.limit.specs.Told.{told as toldLimit};

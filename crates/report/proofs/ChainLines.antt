@@ -19,8 +19,8 @@ use Rattle.theory.specs.Numbers.Tab.{tab-length}
 use Rattle.theory.specs.Outcomes.Formed.{few-states, few-edges}
 use Rattle.theory.specs.Outcomes.DemandTwo.{stopped-twelve}
 use Rattle.theory.specs.Outcomes.Bare.{bare-formed}
-use Rattle.chainfile.specs.Written.{Room, Written}
-use Rattle.chainfile.proofs.Steps.{whole}
+use Rattle.bytes.specs.Written.{Room, Written}
+use Rattle.bytes.proofs.Steps.{whole}
 use Rattle.figures.specs.Told.{toldAnswer, toldLimits}
 use Rattle.figures.specs.Found.{ReportAsked, FiguresOutcome, refused, accepted}
 use Rattle.figures.specs.declared.answer.Figures.{Figures}

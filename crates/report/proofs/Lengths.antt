@@ -13,7 +13,7 @@ use Rattle.meaning.specs.Report.{fractionText, refusedText, answerText, linesTe
 use Rattle.theory.specs.Numbers.Decimal.{digits}
 use Rattle.theory.specs.Outcomes.Small.{Small, BothSmall}
 use Rattle.theory.specs.Files.Lengths.{Brief, refused-short, refusal-line, fraction-short, bounds-short}
-use Rattle.chainfile.specs.Written.{Room}
+use Rattle.bytes.specs.Written.{Room}
 
 either : (b : Bool) (x y : List ℕ) (n : ℕ) → length x ≤ n → length y ≤ n → length (choose b x y) ≤ n
 either true x y n h k = h

@@ -7,8 +7,8 @@ use lib.ListN.{length, length-append}
 use Rattle.meaning.specs.Text.{decimal, mostDigits}
 use Rattle.meaning.specs.Report.{namedText}
 use Rattle.theory.specs.Numbers.Decimal.{digits}
-use Rattle.chainfile.specs.Written.{Written, Stored}
-use Rattle.chainfile.proofs.Storing.{stored-unique}
+use Rattle.bytes.specs.Written.{Written, Stored}
+use Rattle.bytes.proofs.Storing.{stored-unique}
 use Rattle.report.specs.Pieces.{Named, written, full}
 
 -- A number of 64 bits has at most 20 digits.

@@ -12,8 +12,8 @@ use Rattle.meaning.specs.Steps.{StepRecord}
 use Rattle.meaning.specs.Report.{recordText, recordsText}
 use Rattle.theory.specs.Numbers.Decimal.{digits}
 use Rattle.theory.specs.Numbers.Tab.{tab-last}
-use Rattle.chainfile.specs.Written.{Written}
-use Rattle.chainfile.proofs.Steps.{join}
+use Rattle.bytes.specs.Written.{Written}
+use Rattle.bytes.proofs.Steps.{join}
 use Rattle.engines.specs.Trace.{countIn, recordIn, recordsIn}
 use Rattle.report.specs.Lines.{recordRoom}
 

@@ -5,7 +5,7 @@ use mathlib.Core.List.{List}
 use lib.ListN.{length}
 use Rattle.meaning.specs.Text.{mostDigits}
 use Rattle.meaning.specs.Report.{namedText}
-use Rattle.chainfile.specs.Written.{Written}
+use Rattle.bytes.specs.Written.{Written}
 
 -- Both stand from the place on where there is room for the name and any number; else every byte is as it was, and the place too.
 pub data Named (before : List ℕ) (place : ℕ) (name : List ℕ) (x : ℕ) (after : List ℕ) (next : ℕ) : Type 0 where

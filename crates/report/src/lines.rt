@@ -3,7 +3,7 @@ ghost use mathlib.Core.List.{_++_};
 ghost use Rattle.meaning.specs.Text.{bytesOf, decimal};
 ghost use Rattle.meaning.specs.Report.{fractionText, refusedText, answerText, boundsText, namedText, lineText, faceText};
 ghost use Rattle.meaning.specs.Number.{decides};
-ghost use Rattle.chainfile.specs.Written.{Room, Written};
+ghost use Rattle.bytes.specs.Written.{Room, Written};
 ghost use Rattle.figures.specs.Told.{toldAnswer, toldLimits};
 ghost use Rattle.report.specs.Lines.{toldLines, countsText, Ends};
 use crate::records::RECORD_LINE;

@@ -1,6 +1,6 @@
 // Pieces of lines, for the crates above: each is written from a place on, and the place after it is answered. Where there is no room for it,
 // the buffer stays and so does the place.
-ghost use Rattle.chainfile.specs.Written.{Stored};
+ghost use Rattle.bytes.specs.Written.{Stored};
 ghost use Rattle.report.specs.Pieces.{Named};
 use crate::lines;
 use crate::text;

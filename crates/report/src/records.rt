@@ -3,7 +3,7 @@ ghost use Prim.Native.Nat.{_+_, _*_, _≤_};
 ghost use lib.ListN.{length};
 ghost use Rattle.meaning.specs.Chain.{mostStates};
 ghost use Rattle.meaning.specs.Report.{recordText, recordsText};
-ghost use Rattle.chainfile.specs.Written.{Written};
+ghost use Rattle.bytes.specs.Written.{Written};
 ghost use Rattle.engines.specs.Trace.{countIn, recordsIn};
 ghost use Rattle.report.specs.Lines.{recordRoom};
 use crate::lines::count_line;

@@ -2,7 +2,7 @@
 ghost use mathlib.Core.List.{[], _∷_};
 ghost use Prim.Native.Nat.{_<_};
 ghost use Rattle.meaning.specs.Text.{decimal};
-ghost use Rattle.chainfile.specs.Written.{Room, Written};
+ghost use Rattle.bytes.specs.Written.{Room, Written};
 
 pub(crate) fn put(buffer: &mut [u8], at: usize, text: &[u8]) -> usize
     requires { ⌜ Room (now buffer) at (now text) ⌝ }

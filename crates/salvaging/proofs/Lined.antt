@@ -11,9 +11,9 @@ use Rattle.meaning.specs.Number.{joinTo}
 use Rattle.meaning.specs.Outcome.{Bounds, between}
 use Rattle.meaning.specs.Text.{bytesOf, decimal}
 use Rattle.meaning.specs.Salvage.{pairText, salvageRoom}
-use Rattle.chainfile.specs.Written.{Room, Written, Stored}
-use Rattle.chainfile.proofs.Steps.{join, kept, whole}
-use Rattle.chainfile.proofs.Storing.{stored}
+use Rattle.bytes.specs.Written.{Room, Written, Stored}
+use Rattle.bytes.proofs.Steps.{join, kept, whole}
+use Rattle.bytes.proofs.Storing.{stored}
 use Rattle.report.specs.Pieces.{Named}
 use Rattle.report.proofs.Naming.{named-written, named-past}
 use Rattle.salvaging.specs.Lines.{boundsLine, boundsWidth, numberText, numberWidth, numbersText, leftText, Fits, pageRoom}

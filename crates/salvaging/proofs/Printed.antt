@@ -13,7 +13,7 @@ use Rattle.meaning.specs.Salvage.{Lost, leftIn, verdict, Salvaged, SalvagedOutc
 use Rattle.chain.specs.declared.Chain.{Chain}
 use Rattle.chain.specs.declared.fraction.Fraction.{Fraction}
 use Rattle.chainfile.specs.Input.{input}
-use Rattle.chainfile.specs.Written.{Written}
+use Rattle.bytes.specs.Written.{Written}
 use Rattle.look.specs.Sums.{Lacks}
 use Rattle.look.proofs.Refuse.{refused-some}
 use Rattle.engines.specs.Answer.{toldBounds}

@@ -14,9 +14,9 @@ use Rattle.meaning.specs.Report.{namedText}
 use Rattle.meaning.specs.ChainText.{stateLine, edgeLine, spaced, orderLine, textOf}
 use Rattle.theory.specs.Numbers.Tab.{tab-last}
 use Rattle.theory.specs.Texts.Lines.{spaced-more}
-use Rattle.chainfile.specs.Written.{Written, Stored}
-use Rattle.chainfile.proofs.Steps.{join, kept}
-use Rattle.chainfile.proofs.Storing.{stored}
+use Rattle.bytes.specs.Written.{Written, Stored}
+use Rattle.bytes.proofs.Steps.{join, kept}
+use Rattle.bytes.proofs.Storing.{stored}
 use Rattle.report.specs.Pieces.{Named}
 use Rattle.report.proofs.Naming.{named-written, named-past}
 use Rattle.showing.specs.Print.{Put}

@@ -18,7 +18,7 @@ use Rattle.meaning.specs.Translate.{Shown, shownRoom, ShowOutcome, TextedOutcom
 use Rattle.theory.specs.Files.FileOne.{file-numbers}
 use Rattle.chain.specs.Lent.{lent}
 use Rattle.chain.specs.declared.Chain.{Chain}
-use Rattle.chainfile.specs.Written.{Written}
+use Rattle.bytes.specs.Written.{Written}
 use Rattle.figures.proofs.Opened.{Opened}
 use Rattle.report.specs.Stands.{answerOf, told}
 use Rattle.report.specs.declared.Printed.{Printed}

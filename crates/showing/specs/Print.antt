@@ -6,7 +6,7 @@ use lib.ListN.{getD}
 use Rattle.meaning.specs.Number.{bit, tabFrom}
 use Rattle.meaning.specs.Chain.{from, to, weight, edgeReward}
 use Rattle.meaning.specs.ChainText.{stateLine, edgeLine}
-use Rattle.chainfile.specs.Written.{Written}
+use Rattle.bytes.specs.Written.{Written}
 
 -- A text is written from the place on, and is at most so long.
 pub record Put (before : List ℕ) (place : ℕ) (text : List ℕ) (room : ℕ) (after : List ℕ) (next : ℕ) : Type 0 where

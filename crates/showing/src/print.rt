@@ -10,7 +10,7 @@ ghost use Rattle.meaning.specs.Chain.{edgeCount};
 ghost use Rattle.meaning.specs.ChainText.{stateLine, spaced, orderLine, edgeLine, textOf, chainText};
 ghost use Rattle.meaning.specs.Translate.{shownRoom};
 ghost use Rattle.chain.specs.Lent.{lent};
-ghost use Rattle.chainfile.specs.Written.{Written};
+ghost use Rattle.bytes.specs.Written.{Written};
 ghost use Rattle.showing.specs.Print.{Put, stateLines, edgeLines};
 use chain::Chain;
 use chain::edge;

@@ -26,3 +26,5 @@ pub mod Narrow
 pub mod Tens
 pub mod Printed
 pub mod Figured
+pub mod Little
+pub mod Filled

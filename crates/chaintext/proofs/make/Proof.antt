@@ -2,7 +2,7 @@ use mathlib.Core.Path.{refl}
 use borrow.Author.Needs.{needs}
 use Rattle.meaning.specs.Block.{Input}
 use Rattle.meaning.specs.Translate.{TextLong, MakeOutcome}
-use Rattle.chainfile.specs.Input.{input}
+use Rattle.bytes.specs.Input.{input}
 use Rattle.chaintext.proofs.Making.{long, few, few-bytes, all-kept}
 use Rattle.chaintext.proofs.make.Statement.{statement}
 use Rattle.chaintext.proofs.make.Tie as tie

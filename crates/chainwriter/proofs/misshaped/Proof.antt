@@ -4,7 +4,7 @@ use borrow.Author.Needs.{needs}
 use Rattle.meaning.specs.Refusal.{Misshaped}
 use Rattle.meaning.specs.Write.{filing}
 use Rattle.look.proofs.Refuse.{lend, reclaim}
-use Rattle.chainfile.proofs.Law.{carry}
+use Rattle.blocks.proofs.Law.{carry}
 use Rattle.chainwriter.proofs.misshaped.Statement.{statement}
 use Rattle.chainwriter.proofs.misshaped.Tie as tie
 

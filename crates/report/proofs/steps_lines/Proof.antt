@@ -8,7 +8,7 @@ use Rattle.meaning.specs.Outcome.{Answer}
 use Rattle.meaning.specs.FileSteps.{FileSteps}
 use Rattle.theory.specs.Numbers.Decide.{holds, fails}
 use Rattle.chainfile.specs.Input.{input}
-use Rattle.chainfile.proofs.Steps.{join}
+use Rattle.bytes.proofs.Steps.{join}
 use Rattle.engines.specs.Trace.{countIn, recordsIn}
 use Rattle.figures.specs.Told.{toldAnswer}
 use Rattle.report.proofs.Lengths.{refused-wide, answer-wide}

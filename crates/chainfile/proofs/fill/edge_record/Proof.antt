@@ -8,7 +8,7 @@ use Rattle.meaning.specs.File.{edgeIn}
 use Rattle.chain.specs.Edge.{placed}
 use Rattle.chainfile.specs.Input.{input}
 use Rattle.chainfile.specs.Tells.{edgeFrom}
-use Rattle.chainfile.proofs.Cut.{cut}
+use Rattle.bytes.proofs.Cut.{cut}
 use Rattle.chainfile.proofs.Filling.{cut-edge}
 use Rattle.chainfile.proofs.fill.edge_record.Statement.{statement}
 use Rattle.chainfile.proofs.fill.edge_record.Tie as tie

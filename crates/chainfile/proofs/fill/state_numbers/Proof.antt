@@ -1,10 +1,10 @@
-use Prim.Native.Nat.{_+_, _-_, _≤_}
-use mathlib.Core.Path.{refl, _∙_, ap}
+use Prim.Native.Nat.{_+_, _-_, _≤_, min}
+use mathlib.Core.Path.{_≡_, refl, _∙_, ap₂}
 use native.Mathlib.Omega.{arith}
 use borrow.Author.Needs.{needs}
 use Rattle.meaning.specs.Block.{numberAt, stateAt}
 use Rattle.chainfile.specs.Input.{input}
-use Rattle.chainfile.proofs.Filling.{Filled, none, more, all}
+use Rattle.theory.specs.Numbers.Filled.{Filled, none, more, all}
 use Rattle.chainfile.proofs.fill.state_numbers.Statement.{statement}
 use Rattle.chainfile.proofs.fill.state_numbers.Tie as tie
 
@@ -23,19 +23,17 @@ record-at-requires c κs = omega arith
 add-number : tie.Need-add-number Inv-loop μ-loop
 add-number c = omega arith
 
-number-requires : tie.Need-number-requires Inv-loop μ-loop
-number-requires c κs = omega arith
-
 slice-write-table : tie.Need-slice-write-table Inv-loop μ-loop
 slice-write-table c = omega arith
 
 loop-again : tie.Need-loop-again Inv-loop μ-loop
 loop-again c =
     let at = c .before .before .before in
-    let a = at .before .before .before .before .args in (
+    let a = at .before .before .before .before .args in
+    let few : min (a .width) 4 ≡ a .width = omega (arith, at .before .before .before .before .pre) in (
       search needs,
       more (at .loop .inv .1) _ _ refl refl (omega arith)
-          (c .number .ensures .0 ∙ ap (λ z. numberAt (input (a .kept .now) 0) (z + a .offset) (a .width)) (c .before .record-at .ensures .0)),
+          (c .number .ensures .0 ∙ ap₂ (λ z w. numberAt (input (a .kept .now) 0) (z + a .offset) w) (c .before .record-at .ensures .0) few),
     )
 
 same-length : tie.Need-same-length Inv-loop μ-loop
@@ -54,7 +52,7 @@ state-numbers-spec =
     loop-holds
     record-at-requires
     add-number
-    number-requires
+    (λ c κs. search needs)
     (λ c. search needs)
     slice-write-table
     (λ c. search needs)

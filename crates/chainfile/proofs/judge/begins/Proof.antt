@@ -4,7 +4,7 @@ use Rattle.meaning.specs.File.{LengthFault, BlockRight}
 use Rattle.meaning.specs.Salvage.{FrontRefused}
 use Rattle.theory.specs.Numbers.Decide.{holds, fails}
 use Rattle.chainfile.specs.Input.{input}
-use Rattle.chainfile.proofs.Tested.{found-wrong, found-right}
+use Rattle.blocks.proofs.Found.{found-wrong, found-right}
 use Rattle.chainfile.proofs.judge.begins.Statement.{statement}
 use Rattle.chainfile.proofs.judge.begins.Tie as tie
 

@@ -2,7 +2,7 @@ use Prim.Native.Nat.{ℕ, _-_, _<_}
 use native.Mathlib.Omega.{arith}
 use borrow.Author.Needs.{needs}
 use Rattle.theory.specs.Numbers.Sum.{last-or-below}
-use Rattle.chainfile.proofs.Tested.{found-wrong, found-right}
+use Rattle.blocks.proofs.Found.{found-wrong, found-right}
 use Rattle.meaning.specs.File.{BlockRight}
 use Rattle.chainfile.specs.Input.{input}
 use Rattle.chainfile.proofs.judge.further.Statement.{statement}

@@ -1,8 +1,6 @@
 use borrow.Author.Needs.{needs}
 use mathlib.Core.Path.{subst}
-use native.Mathlib.Omega.{arith}
 use Rattle.meaning.specs.Block.{Input}
-use Rattle.theory.specs.Files.Right.{bounded}
 use Rattle.theory.specs.Files.Opened.{front-file}
 use Rattle.chainfile.specs.Input.{input}
 use Rattle.chainfile.specs.Tells.{Begun, begun, further}
@@ -19,10 +17,6 @@ begun-right c = let t = c .before .before in found (begun (file t)) (t .begins .
 
 returns : tie.Need-returns
 returns c = let t = c .before .before .before in front-file (found (begun (file t)) (t .begins .ensures) (c .before .number .given .1))
-
-further-requires : tie.Need-further-requires
-further-requires c κs =
-    let t = c .before in omega (arith, c .demanded .ensures .0, bounded (file (t .before .before)) (begun-right t .head) .few-blocks)
 
 returns-2 : tie.Need-returns-2
 returns-2 c =
@@ -41,5 +35,5 @@ judge-spec =
     returns
     (λ c. search needs)
     (λ c κs. search needs)
-    further-requires
+    (λ c κs. search needs)
     returns-2)

@@ -7,7 +7,7 @@ use Rattle.meaning.specs.File.{BlockRefused, BlockRight}
 use Rattle.theory.specs.Files.FileOne.{block-numbers}
 use Rattle.chainfile.specs.Input.{input}
 use Rattle.chainfile.specs.Tells.{LostBy}
-use Rattle.chainfile.proofs.Tested.{found-wrong, found-right}
+use Rattle.blocks.proofs.Found.{found-wrong, found-right}
 use Rattle.chainfile.proofs.lost.by.Statement.{statement}
 use Rattle.chainfile.proofs.lost.by.Tie as tie
 

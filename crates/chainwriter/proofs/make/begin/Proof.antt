@@ -2,7 +2,7 @@ use native.Mathlib.Omega.{arith}
 use borrow.Author.Needs.{needs}
 use borrow.Author.Tests.{eq-eqb, ne-eqb, le-leb, lt-leb}
 use Rattle.meaning.specs.Block.{stateBlocks}
-use Rattle.chainfile.specs.Input.{input}
+use Rattle.bytes.specs.Input.{input}
 use Rattle.chainwriter.proofs.make.begin.Statement.{statement}
 use Rattle.chainwriter.proofs.make.begin.Tie as tie
 

@@ -1,7 +1,7 @@
 use native.Mathlib.Omega.{arith}
 use borrow.Author.Needs.{needs}
 use Rattle.theory.specs.Files.Turn.{kind-most}
-use Rattle.chainfile.specs.Input.{input}
+use Rattle.bytes.specs.Input.{input}
 use Rattle.chainwriter.proofs.Making.{made}
 use Rattle.chainwriter.proofs.make.block.Statement.{statement}
 use Rattle.chainwriter.proofs.make.block.Tie as tie

@@ -4,8 +4,8 @@ use native.Mathlib.Omega.{arith}
 use borrow.Author.Needs.{needs}
 use Rattle.meaning.specs.Block.{firstSum, secondSum}
 use Rattle.theory.specs.Files.Agree.{sumOf}
-use Rattle.chainfile.specs.Input.{input}
-use Rattle.chainfile.proofs.Fletcher.{sums-small}
+use Rattle.bytes.specs.Input.{input}
+use Rattle.fletcher.proofs.Summed.{sums-small}
 use Rattle.chainwriter.proofs.Making.{stored-outside, stored-stands, checked}
 use Rattle.chainwriter.proofs.make.check.Statement.{statement}
 use Rattle.chainwriter.proofs.make.check.Tie as tie

@@ -1,5 +1,5 @@
 use borrow.Author.Needs.{needs}
-use Rattle.chainfile.proofs.Steps.{join}
+use Rattle.bytes.proofs.Steps.{join}
 use Rattle.lines.proofs.two_lines.near_lines.Statement.{statement}
 use Rattle.lines.proofs.two_lines.near_lines.Tie as tie
 

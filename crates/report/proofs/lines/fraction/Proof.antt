@@ -1,7 +1,7 @@
 use native.Mathlib.Omega.{arith}
 use lib.ListN.{length-append}
 use borrow.Author.Needs.{needs}
-use Rattle.chainfile.proofs.Steps.{join}
+use Rattle.bytes.proofs.Steps.{join}
 use Rattle.report.proofs.lines.fraction.Statement.{statement}
 use Rattle.report.proofs.lines.fraction.Tie as tie
 

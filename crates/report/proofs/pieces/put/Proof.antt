@@ -1,7 +1,7 @@
 use mathlib.Core.Path.{refl}
 use native.Mathlib.Omega.{arith}
 use borrow.Author.Needs.{needs}
-use Rattle.chainfile.specs.Written.{written, full}
+use Rattle.bytes.specs.Written.{written, full}
 use Rattle.report.proofs.pieces.put.Statement.{statement}
 use Rattle.report.proofs.pieces.put.Tie as tie
 

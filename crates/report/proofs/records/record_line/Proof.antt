@@ -3,8 +3,8 @@ use native.Mathlib.Omega.{arith}
 use lib.ListN.{length, length-append}
 use borrow.Author.Needs.{needs}
 use Rattle.meaning.specs.Report.{recordText}
-use Rattle.chainfile.specs.Written.{Room}
-use Rattle.chainfile.proofs.Steps.{join}
+use Rattle.bytes.specs.Written.{Room}
+use Rattle.bytes.proofs.Steps.{join}
 use Rattle.report.specs.Lines.{recordRoom}
 use Rattle.report.proofs.StepLines.{record-short}
 use Rattle.report.proofs.records.record_line.Statement.{statement}

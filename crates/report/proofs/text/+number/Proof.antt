@@ -4,7 +4,7 @@ use native.Mathlib.Omega.{arith}
 use borrow.Author.Needs.{needs}
 use borrow.Fn.Kinds.{In}
 use borrow.Fn.PlainCycle.{Measures, is, falls, and}
-use Rattle.chainfile.proofs.Steps.{join}
+use Rattle.bytes.proofs.Steps.{join}
 use Rattle.theory.specs.Numbers.Decimal.{decimal-small, decimal-more, length-small, length-more}
 use Rattle.report.proofs.text.number.Reads as number
 use Rattle.report.proofs.text.number.Kinds as number-kinds

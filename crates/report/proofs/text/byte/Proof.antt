@@ -1,5 +1,5 @@
 use borrow.Author.Needs.{needs}
-use Rattle.chainfile.proofs.Steps.{one}
+use Rattle.bytes.proofs.Steps.{one}
 use Rattle.report.proofs.text.byte.Statement.{statement}
 use Rattle.report.proofs.text.byte.Tie as tie
 

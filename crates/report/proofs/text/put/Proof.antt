@@ -1,7 +1,7 @@
 use Prim.Native.Nat.{_-_}
 use lib.ListN.{length}
 use borrow.Author.Needs.{needs}
-use Rattle.chainfile.proofs.Steps.{Copied, none, more, all}
+use Rattle.bytes.proofs.Steps.{Copied, none, more, all}
 use Rattle.report.proofs.text.put.Statement.{statement}
 use Rattle.report.proofs.text.put.Tie as tie
 

@@ -1,5 +1,5 @@
 use borrow.Author.Needs.{needs}
-use Rattle.chainfile.proofs.Steps.{join}
+use Rattle.bytes.proofs.Steps.{join}
 use Rattle.salvaging.proofs.Lined.{blocks-room, rows-room}
 use Rattle.salvaging.proofs.lines.compose.Statement.{statement}
 use Rattle.salvaging.proofs.lines.compose.Tie as tie

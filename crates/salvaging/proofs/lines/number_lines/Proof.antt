@@ -1,7 +1,7 @@
 use Prim.Native.Nat.{_-_}
 use lib.ListN.{length}
 use borrow.Author.Needs.{needs}
-use Rattle.chainfile.proofs.Steps.{kept}
+use Rattle.bytes.proofs.Steps.{kept}
 use Rattle.salvaging.proofs.Lined.{Lined, none-lined, next-room, more-lined, all-lined}
 use Rattle.salvaging.proofs.lines.number_lines.Statement.{statement}
 use Rattle.salvaging.proofs.lines.number_lines.Tie as tie

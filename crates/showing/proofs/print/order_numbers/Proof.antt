@@ -4,7 +4,7 @@ use native.Mathlib.Omega.{arith}
 use lib.ListN.{length, take}
 use borrow.Author.Needs.{needs}
 use Rattle.meaning.specs.ChainText.{spaced}
-use Rattle.chainfile.proofs.Steps.{kept}
+use Rattle.bytes.proofs.Steps.{kept}
 use Rattle.showing.specs.Print.{Put}
 use Rattle.showing.proofs.Printing.{numbers-none, numbers-next, numbers-all}
 use Rattle.showing.proofs.print.order_numbers.Statement.{statement}

@@ -4,7 +4,7 @@ use native.Mathlib.Omega.{arith}
 use lib.ListN.{length}
 use borrow.Author.Needs.{needs}
 use Rattle.meaning.specs.ChainText.{textOf}
-use Rattle.chainfile.proofs.Steps.{kept}
+use Rattle.bytes.proofs.Steps.{kept}
 use Rattle.showing.specs.Print.{Put, stateLines}
 use Rattle.showing.proofs.Printing.{none-put, more-put, as-state, all-put}
 use Rattle.showing.proofs.print.state_lines.Statement.{statement}

@@ -1,0 +1,4 @@
+pub mod Law
+pub mod Past
+pub mod Content
+pub mod Found
