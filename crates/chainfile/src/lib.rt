@@ -7,14 +7,13 @@ ghost use Rattle.meaning.specs.File.{Short, ReadOutcome, reading, goalsIn};
 ghost use Rattle.meaning.specs.Salvage.{noSalvage, SalvageOutcome};
 ghost use Rattle.chainfile.specs.Input.{input};
 ghost use Rattle.chainfile.specs.Tells.{Within, OpenOutcome, LeftOver, told, toldLeft, tables};
-use crate::judge::Verdict;
 use blocks::head;
 use bytes::layout;
 use chain::Chain;
+use judge::Verdict;
 
 mod fill;
 pub mod index;
-mod judge;
 mod lost;
 
 // The bytes of the longest file.

@@ -6,8 +6,10 @@ use Rattle.meaning.specs.Block.{Input}
 use Rattle.meaning.specs.File.{Tables, Accepted}
 use Rattle.theory.specs.Numbers.Decide.{holds, fails}
 use Rattle.chainfile.specs.Input.{input}
-use Rattle.chainfile.specs.Tells.{judged, Within, Narrow, OpenOutcome, tables}
-use Rattle.chainfile.proofs.Tested.{within, found}
+use Rattle.chainfile.specs.Tells.{Within, Narrow, OpenOutcome, tables}
+use Rattle.judge.specs.Tells.{judged}
+use Rattle.judge.proofs.Blocks.{found}
+use Rattle.chainfile.proofs.Tested.{within}
 use Rattle.chainfile.proofs.Filling.{narrow-for}
 use Rattle.chainfile.proofs.Saving.{nothing-lost}
 use Rattle.chainfile.proofs.open_file.Statement.{statement}

@@ -5,8 +5,10 @@ use Rattle.meaning.specs.File.{Tables, Short}
 use Rattle.meaning.specs.Salvage.{SalvageOutcome}
 use Rattle.theory.specs.Numbers.Decide.{holds, fails}
 use Rattle.chainfile.specs.Input.{input}
-use Rattle.chainfile.specs.Tells.{Front, fronted, tables}
-use Rattle.chainfile.proofs.Tested.{within, found, opened}
+use Rattle.chainfile.specs.Tells.{tables}
+use Rattle.judge.specs.Tells.{Front, fronted}
+use Rattle.judge.proofs.Blocks.{found}
+use Rattle.chainfile.proofs.Tested.{within, opened}
 use Rattle.chainfile.proofs.salvage.Statement.{statement}
 use Rattle.chainfile.proofs.salvage.Tie as tie
 

@@ -1,8 +1,8 @@
 use mathlib.Core.Logic.{⊎-elim, inl, inr}
 use native.Mathlib.Omega.{arith}
 use borrow.Author.Needs.{needs}
-use Rattle.chainfile.proofs.judge.length_wrong.Statement.{statement}
-use Rattle.chainfile.proofs.judge.length_wrong.Tie as tie
+use Rattle.judge.proofs.length_wrong.Statement.{statement}
+use Rattle.judge.proofs.length_wrong.Tie as tie
 
 returns : tie.Need-returns
 returns c = inr (λ e. omega arith)

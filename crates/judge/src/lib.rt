@@ -1,16 +1,16 @@
-// A whole file, or its front: 20, the head block, the block total, and then each further block in turn.
+// Whether a whole file, or its front, is accepted: 20, the head block, the block total, and then each further block in turn.
 ghost use Prim.Native.Nat.{ℕ};
 ghost use Rattle.meaning.specs.File.{LengthFault, TotalFault};
 ghost use Rattle.meaning.specs.Number.{decides};
-ghost use Rattle.chainfile.specs.Input.{input};
-ghost use Rattle.chainfile.specs.Tells.{begun, further, judged, fronted};
+ghost use Rattle.bytes.specs.Input.{input};
+ghost use Rattle.judge.specs.Tells.{begun, further, judged, fronted};
 use blocks::block;
 use blocks::block::Block;
 use blocks::head;
 use bytes::layout;
 
 // What a file is found to be: accepted, or refused with a number at a place.
-pub(crate) enum Verdict {
+pub enum Verdict {
     Accepted,
     Refused(u32, usize),
 }
@@ -78,7 +78,7 @@ fn further(kept: &[u8], end: usize) -> Verdict
     Verdict::Accepted
 }
 
-pub(crate) fn judge(kept: &[u8], more: u64) -> Verdict
+pub fn judge(kept: &[u8], more: u64) -> Verdict
     ensures { λ r. ⌜ judged (input (now (kept .entry)) more) r ⌝ }
 {
     if let Verdict::Refused(number, place) = begins(kept, more) {
@@ -88,7 +88,7 @@ pub(crate) fn judge(kept: &[u8], more: u64) -> Verdict
 }
 
 // The same but for the edge blocks.
-pub(crate) fn front(kept: &[u8], more: u64) -> Verdict
+pub fn front(kept: &[u8], more: u64) -> Verdict
     ensures { λ r. ⌜ fronted (input (now (kept .entry)) more) r ⌝ }
 {
     if let Verdict::Refused(number, place) = begins(kept, more) {

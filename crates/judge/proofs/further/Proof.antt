@@ -4,9 +4,9 @@ use borrow.Author.Needs.{needs}
 use Rattle.theory.specs.Numbers.Sum.{last-or-below}
 use Rattle.blocks.proofs.Found.{found-wrong, found-right}
 use Rattle.meaning.specs.File.{BlockRight}
-use Rattle.chainfile.specs.Input.{input}
-use Rattle.chainfile.proofs.judge.further.Statement.{statement}
-use Rattle.chainfile.proofs.judge.further.Tie as tie
+use Rattle.bytes.specs.Input.{input}
+use Rattle.judge.proofs.further.Statement.{statement}
+use Rattle.judge.proofs.further.Tie as tie
 
 abbrev Inv-loop : tie.InvT-loop
 Inv-loop kept end b₀ b = (0 < b) × ((a : ℕ) → 0 < a → a < b → (more : ℕ) → BlockRight (input kept more) a)

@@ -3,10 +3,10 @@ use Rattle.meaning.specs.Block.{Input}
 use Rattle.meaning.specs.File.{LengthFault, BlockRight}
 use Rattle.meaning.specs.Salvage.{FrontRefused}
 use Rattle.theory.specs.Numbers.Decide.{holds, fails}
-use Rattle.chainfile.specs.Input.{input}
+use Rattle.bytes.specs.Input.{input}
 use Rattle.blocks.proofs.Found.{found-wrong, found-right}
-use Rattle.chainfile.proofs.judge.begins.Statement.{statement}
-use Rattle.chainfile.proofs.judge.begins.Tie as tie
+use Rattle.judge.proofs.begins.Statement.{statement}
+use Rattle.judge.proofs.begins.Tie as tie
 
 abbrev file : tie.Else1 → Input
 file c = let a = c .before .before .before .args in input (a .kept .now) (a .more)
