@@ -15,8 +15,8 @@ use Rattle.theory.specs.Numbers.Decimal.{digits}
 use Rattle.bytes.specs.Written.{Written, Stored}
 use Rattle.bytes.proofs.Steps.{join, kept}
 use Rattle.bytes.proofs.Storing.{stored, stored-unique}
-use Rattle.report.specs.Pieces.{Named}
-use Rattle.report.proofs.Naming.{named-written, named-past}
+use Rattle.text.specs.Pieces.{Named}
+use Rattle.text.proofs.Naming.{named-written, named-past}
 use Rattle.lines.specs.Widths.{figureWidth, figuresWidth, Fitted, FiguresLine, written, full}
 
 -- A point and five digits, each from the number divided.

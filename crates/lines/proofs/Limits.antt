@@ -1,14 +1,13 @@
 -- The line of a verdict on a limit, or that of a refusal, from what the pieces and the report write; and that it is one.
 use Prim.Native.Nat.{ℕ, _≤_, _<_}
-use mathlib.Core.Path.{_≡_, refl, sym, ap, subst, _∙_}
+use mathlib.Core.Path.{_≡_, refl, subst}
 use mathlib.Core.List.{List}
 use native.Mathlib.Omega.{arith}
 use lib.ListN.{length}
-use borrow.Author.Tests.{ne-eqb}
 use Rattle.meaning.specs.Block.{Input}
 use Rattle.meaning.specs.Near.{Near}
 use Rattle.meaning.specs.NearText.{Figure, lowerFigure, upperFigure, figuresText, nearLine}
-use Rattle.meaning.specs.Report.{TextOutcome, AnswerOutcome}
+use Rattle.meaning.specs.Report.{AnswerOutcome}
 use Rattle.meaning.specs.Limit.{Limit}
 use Rattle.meaning.specs.FileLimit.{kept, broken, undecided, refused, judged, verdictText, limitLine, LimitReport, limitRoom, FileLimit, LimitReportOutcome}
 use Rattle.meaning.specs.FileLimit as meant
@@ -25,6 +24,7 @@ use Rattle.report.specs.Stands.{told, answerOf}
 use Rattle.report.specs.declared.Printed.{Printed}
 use Rattle.report.specs.declared.Printed.the-variants.{Length}
 use Rattle.report.proofs.ChainLines.{stands, printed}
+use Rattle.report.proofs.Refusals.{refusal-told}
 use Rattle.report.proofs.Unique.{unique}
 
 -- Figures of the numbers of an answer make its line.
@@ -44,12 +44,9 @@ module _ {f : Input} {m : Limit} (a : Limited) {before : List ℕ} (w : FileLimi
   -- A refusal is told as the report tells it.
   pub refused-line : {number place : ℕ} (r : Printed) {after : List ℕ} → a ≡ Refused number place
       → AnswerOutcome (answerOf number place 0 0) before (told r) after → LimitReportOutcome f m before (told r) after
-  refused-line r q (TextOutcome.short h e s) = absurd (omega arith)
-  refused-line {number} {place} r q (TextOutcome.printed h t l e s) =
-      let some : 0 < number = limit-proper (said w q) .0 in
-      TextOutcome.printed room t
-      (record { limited = toldLimited (Refused number place); outcome = said w q; line = l ∙ rw (ne-eqb number 0 (λ z. omega arith)) })
-      e s
+  refused-line {number} {place} r q =
+      refusal-told number place r (omega arith) room (limit-proper (said w q) .0)
+      (λ t l. record { limited = toldLimited (Refused number place); outcome = said w q; line = l })
 
 -- A line has bytes.
 line-some : {f : Input} {m : Limit} (t : List ℕ) → LimitReport f m t → 0 < length t

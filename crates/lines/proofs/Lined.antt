@@ -10,7 +10,7 @@ use borrow.Author.Tests.{ne-eqb}
 use Rattle.meaning.specs.Block.{Input}
 use Rattle.meaning.specs.Text.{bytesOf, decimal, decimalIn}
 use Rattle.meaning.specs.Number.{choose}
-use Rattle.meaning.specs.Report.{refusedText, TextOutcome, AnswerOutcome}
+use Rattle.meaning.specs.Report.{refusedText, AnswerOutcome}
 use Rattle.meaning.specs.Within.{allParts, noWithin, within, withinText, withinLine, withinRoom, FileWithin, WithinReport, WithinReportOutcome}
 use Rattle.theory.specs.Rounds.Texts.{within-report-one}
 use Rattle.bytes.specs.Written.{Written, Stored}
@@ -20,12 +20,13 @@ use Rattle.equations.specs.Told.{told as parts-told, Proper}
 use Rattle.equations.specs.declared.Parts.{Parts}
 use Rattle.equations.specs.declared.Parts.the-variants.{Held, Refused}
 use Rattle.figures.specs.Within.{FileWithins}
-use Rattle.report.specs.Pieces.{Named}
+use Rattle.text.specs.Pieces.{Named}
 use Rattle.report.specs.Stands.{told, answerOf}
 use Rattle.report.specs.declared.Printed.{Printed}
 use Rattle.report.specs.declared.Printed.the-variants.{Length}
-use Rattle.report.proofs.Naming.{named-written, named-past}
+use Rattle.text.proofs.Naming.{named-written, named-past}
 use Rattle.report.proofs.ChainLines.{stands, printed}
+use Rattle.report.proofs.Refusals.{refusal-told}
 use Rattle.report.proofs.Unique.{unique}
 
 -- The pieces are the line.
@@ -54,16 +55,15 @@ module _ {f : Input} {k : ℕ} {found : Parts} {before : List ℕ} (w : FileWith
   -- A refusal is told as the report tells it.
   pub refused-line : {number place : ℕ} (r : Printed) {after : List ℕ} → found ≡ Refused number place
       → AnswerOutcome (answerOf number place 0 0) before (told r) after → WithinReportOutcome f k before (told r) after
-  refused-line r q (TextOutcome.short h e s) = absurd (omega arith)
-  refused-line {number} {place} r q (TextOutcome.printed h t l e s) =
+  refused-line {number} {place} r q =
       let some : 0 < number = subst (λ (p : Parts). Proper p) q (w .proper) in
-      TextOutcome.printed room t
-      (record {
+      refusal-told number place r (omega arith) room some
+      (λ t l.
+      record {
         answer = noWithin number place;
         outcome = subst (λ (p : Parts). FileWithin f k (parts-told p)) q (w .outcome);
         line = l ∙ rw (ne-eqb number 0 (λ z. omega arith));
       })
-      e s
 
 -- A line has bytes.
 line-some : {f : Input} {k : ℕ} (t : List ℕ) → WithinReport f k t → 0 < length t

@@ -10,7 +10,7 @@ use borrow.Author.Tests.{ne-eqb}
 use Rattle.meaning.specs.Block.{Input}
 use Rattle.meaning.specs.Number.{choose}
 use Rattle.meaning.specs.Text.{bytesOf}
-use Rattle.meaning.specs.Report.{refusedText, TextOutcome, AnswerOutcome}
+use Rattle.meaning.specs.Report.{refusedText, AnswerOutcome}
 use Rattle.meaning.specs.NearText.{nearText, nearRoom}
 use Rattle.meaning.specs.FileNear.{From, FileNear, NearReport, NearReportOutcome}
 use Rattle.theory.specs.Files.NearFile.{near-report-one}
@@ -23,6 +23,7 @@ use Rattle.report.specs.Stands.{told, answerOf}
 use Rattle.report.specs.declared.Printed.{Printed}
 use Rattle.report.specs.declared.Printed.the-variants.{Length}
 use Rattle.report.proofs.ChainLines.{stands, printed}
+use Rattle.report.proofs.Refusals.{refusal-told}
 use Rattle.report.proofs.Unique.{unique}
 
 module _ {f : Input} {from : From} (a : Nearly) {before : List ℕ} (w : FileNear f from (toldNear a) (toldMiss a) × Proper a) (room : nearRoom ≤ length before) where
@@ -42,17 +43,16 @@ module _ {f : Input} {from : From} (a : Nearly) {before : List ℕ} (w : FileNea
   -- A refusal is told as the report tells it.
   pub refused-line : {number place : ℕ} (r : Printed) {after : List ℕ} → a ≡ Refused number place
       → AnswerOutcome (answerOf number place 0 0) before (told r) after → NearReportOutcome f from before (told r) after
-  refused-line r q (TextOutcome.short h e s) = absurd (omega arith)
-  refused-line {number} {place} r q (TextOutcome.printed h t l e s) =
+  refused-line {number} {place} r q =
       let some : 0 < number = subst Proper q (w .1) in
-      TextOutcome.printed room t
-      (record {
+      refusal-told number place r (omega arith) room some
+      (λ t l.
+      record {
         chance = toldNear (Refused number place);
         miss = toldMiss (Refused number place);
         outcome = subst (λ (n : Nearly). FileNear f from (toldNear n) (toldMiss n)) q (w .0);
         lines = l ∙ rw (ne-eqb number 0 (λ z. omega arith));
       })
-      e s
 
 -- The lines have bytes.
 lines-some : {f : Input} {from : From} (t : List ℕ) → NearReport f from t → 0 < length t

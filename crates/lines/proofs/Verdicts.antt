@@ -1,13 +1,12 @@
 -- The line of a verdict, from what the pieces and the report write; and that it is one.
 use Prim.Native.Nat.{ℕ, _^_, _≤_, _<_}
-use mathlib.Core.Path.{_≡_, refl, subst, _∙_}
+use mathlib.Core.Path.{_≡_, refl, subst}
 use mathlib.Core.List.{List}
 use native.Mathlib.Omega.{arith}
 use lib.ListN.{length}
-use borrow.Author.Tests.{ne-eqb}
 use Rattle.meaning.specs.Block.{Input}
 use Rattle.meaning.specs.Text.{bytesOf, decimal, decimalIn}
-use Rattle.meaning.specs.Report.{lineText, TextOutcome, answerRoom, AnswerOutcome}
+use Rattle.meaning.specs.Report.{lineText, answerRoom, AnswerOutcome}
 use Rattle.meaning.specs.Judge.{Verdict as Said, right, wrong, refusal, FileJudged, verdictLine, JudgeReport, JudgeReportOutcome}
 use Rattle.theory.specs.Judging.Texts.{judged-one, file-judged-number}
 use Rattle.bytes.specs.Written.{Written, Stored}
@@ -16,12 +15,13 @@ use Rattle.bytes.proofs.Storing.{stored}
 use Rattle.equations.specs.Judge.{told as verdict-told}
 use Rattle.equations.specs.declared.Verdict.{Verdict}
 use Rattle.equations.specs.declared.Verdict.the-variants.{Yes, No, Refused}
-use Rattle.report.specs.Pieces.{Named}
+use Rattle.text.specs.Pieces.{Named}
 use Rattle.report.specs.Stands.{told, answerOf}
 use Rattle.report.specs.declared.Printed.{Printed}
 use Rattle.report.specs.declared.Printed.the-variants.{Length}
-use Rattle.report.proofs.Naming.{named-written, named-past}
+use Rattle.text.proofs.Naming.{named-written, named-past}
 use Rattle.report.proofs.ChainLines.{stands, printed}
+use Rattle.report.proofs.Refusals.{refusal-told}
 use Rattle.report.proofs.Unique.{unique}
 
 -- The pieces are the line.
@@ -49,12 +49,9 @@ module _ {f : Input} {shares before : List ℕ} {found : Verdict} (o : FileJudge
   -- A refusal is told as the report tells it.
   pub refused-line : {number place : ℕ} (r : Printed) {after : List ℕ} → found ≡ Refused number place
       → AnswerOutcome (answerOf number place 0 0) before (told r) after → JudgeReportOutcome f shares before (told r) after
-  refused-line r q (TextOutcome.short h e s) = absurd (omega arith)
-  refused-line {number} {place} r q (TextOutcome.printed h t l e s) =
-      let some : 0 < number = file-judged-number (said o q) .0 in
-      TextOutcome.printed room t
-      (record { verdict = refusal number place; outcome = said o q; line = l ∙ rw (ne-eqb number 0 (λ z. omega arith)) })
-      e s
+  refused-line {number} {place} r q =
+      refusal-told number place r (omega arith) room (file-judged-number (said o q) .0)
+      (λ t l. record { verdict = refusal number place; outcome = said o q; line = l })
 
 -- A line has bytes.
 line-some : {f : Input} {shares : List ℕ} (t : List ℕ) → JudgeReport f shares t → 0 < length t

@@ -21,9 +21,9 @@ use limitfile::Limited;
 use near::answer::Nearly;
 use nearfile::From;
 use report::Printed;
-use report::pieces::DIGITS;
-use report::pieces::named;
-use report::pieces::put;
+use text::DIGITS;
+use text::named;
+use text::put;
 use two_lines::found_lines;
 
 mod limit_line;

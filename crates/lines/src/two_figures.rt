@@ -9,9 +9,9 @@ ghost use Rattle.meaning.specs.NearText.{lastDigits, figureText, figuresText};
 ghost use Rattle.decimals.specs.Told.{told};
 ghost use Rattle.lines.specs.Widths.{figureWidth, figuresWidth, Fitted, FiguresLine};
 use decimals::Figure;
-use report::pieces::DIGITS;
-use report::pieces::named;
-use report::pieces::put;
+use text::DIGITS;
+use text::named;
+use text::put;
 
 // Room for any figure: its first number, a point with five digits, `e-` and its tens.
 const FIGURE: usize = DIGITS + 6 + (2 + DIGITS);

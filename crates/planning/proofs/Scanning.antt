@@ -24,8 +24,8 @@ use Rattle.theory.specs.Plans.Judged.{plan-verdict, plan-verdict-one, verdicts-
 use Rattle.bytes.specs.Written.{Written, Stored}
 use Rattle.bytes.proofs.Steps.{kept as kept-length, join}
 use Rattle.bytes.proofs.Storing.{stored}
-use Rattle.report.specs.Pieces.{Named}
-use Rattle.report.proofs.Naming.{named-written, named-past}
+use Rattle.text.specs.Pieces.{Named}
+use Rattle.text.proofs.Naming.{named-written, named-past}
 use Rattle.report.specs.Stands.{Stands}
 use Rattle.report.proofs.ChainLines.{stands}
 use Rattle.lines.specs.Widths.{Fitted}

@@ -10,7 +10,7 @@ use crate::asked::near;
 use copies::Plan;
 use decimals::Figure;
 use lines::figures_line;
-use report::pieces::named;
+use text::named;
 
 pub(crate) fn plan_line(buffer: &mut [u8], at: usize, word: &[u8], plan: Plan) -> usize
     requires { ⌜ Sensible (toldPlan plan) × (at + lineWidth (now word) ≤ length (now buffer)) ⌝ }

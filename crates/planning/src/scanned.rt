@@ -27,8 +27,8 @@ use limit::Limit;
 use limit::sound;
 use report::Printed;
 use report::answer;
-use report::pieces::named;
-use report::pieces::put;
+use text::named;
+use text::put;
 
 // Room for any line of a plan, and any that follows.
 pub const FEWEST_ROOM: usize = 152;

@@ -6,4 +6,4 @@ pub mod ChainLines
 pub mod Unique
 pub mod StepLines
 pub mod StepsText
-pub mod Naming
+pub mod Refusals

@@ -14,6 +14,7 @@ use Rattle.theory.specs.Numbers.Decimal.{digits}
 use Rattle.theory.specs.Numbers.Tab.{tab-last}
 use Rattle.bytes.specs.Written.{Written}
 use Rattle.bytes.proofs.Steps.{join}
+use Rattle.text.specs.Puts.{Puts}
 use Rattle.engines.specs.Trace.{countIn, recordIn, recordsIn}
 use Rattle.report.specs.Lines.{recordRoom}
 
@@ -48,10 +49,13 @@ module _ {before numbers : List ℕ} where
   none = record { written = record { past = refl; room = omega arith; bytes = refl }; near = omega arith }
 
   pub more : {i at next : ℕ} {after later : List ℕ} → Lined before numbers i at after
-      → let r = recordIn numbers i in Written after at (recordText (r .state) (r .rows) (r .columns) (r .divisor)) later next × (next ≤ at + recordRoom)
+      → i < mostStates → mostStates * recordRoom ≤ length after
+      → let r = recordIn numbers i in
+      let text = recordText (r .state) (r .rows) (r .columns) (r .divisor) in Puts after at text later next × (length text ≤ recordRoom)
       → Lined before numbers (i + 1) next later
-  more {i} {next = next} {later = later} l w =
+  more {i} {next = next} {later = later} l few long w =
       let r = recordIn numbers i in
+      let line = w .0 .written (omega (arith, l .near, w .1)) in
       let last : tabFrom 0 (i + 1) (recordIn numbers) ≡ tabFrom 0 i (recordIn numbers) ++ (r ∷ []) =
       ap (λ (k : ℕ). tabFrom 0 k (recordIn numbers)) (add-one i)
       ∙ tab-last 0 i (recordIn numbers)
@@ -60,8 +64,8 @@ module _ {before numbers : List ℕ} where
         written =
             subst (λ (t : List ℕ). Written before 0 t later next)
             (sym (ap recordsText last ∙ records-more (tabFrom 0 i (recordIn numbers)) r))
-            (join (l .written) (w .0));
-        near = omega (arith, l .near, w .1);
+            (join (l .written) line);
+        near = omega (arith, l .near, line .past, w .1);
       }
 
   pub all : {i at : ℕ} {after : List ℕ} → Lined before numbers i at after → i ≡ countIn numbers → countIn numbers ≤ mostStates

@@ -10,16 +10,14 @@ use engines::answer::Chance;
 use figures::Answer;
 use figures::Question;
 
-mod lines;
-pub mod pieces;
+mod print;
 mod records;
-mod text;
 
-pub use lines::ANSWER_ROOM;
-pub use lines::BOUNDS_LINE;
-pub use lines::FACE_ROOM;
-pub use lines::REPORT_ROOM;
-pub use lines::STEPS_ROOM;
+pub use print::ANSWER_ROOM;
+pub use print::BOUNDS_LINE;
+pub use print::FACE_ROOM;
+pub use print::REPORT_ROOM;
+pub use print::STEPS_ROOM;
 
 // What a text in a lent buffer answers: how long it is, or that the buffer is refused.
 pub enum Printed {
@@ -34,21 +32,21 @@ fn file_lines(kept: &[u8], more: u64, buffer: &mut [u8]) -> usize
     ensures { λ r. ⌜ Stands (Report (input (now (kept .entry)) more)) (now (buffer .entry)) r (now (buffer .exit)) ⌝ }
 {
     let found = figures::ask(kept, more, Question::Report);
-    if lines::ends(found.number) {
-        return lines::refusal_line(buffer, 0, found.number, found.place);
+    if print::ends(found.number) {
+        return print::refusal_line(buffer, 0, found.number, found.place);
     }
     let reward = found.reward;
-    if lines::ends(reward.number) {
-        return lines::refusal_line(buffer, 0, reward.number, reward.place);
+    if print::ends(reward.number) {
+        return print::refusal_line(buffer, 0, reward.number, reward.place);
     }
-    lines::seven_lines(buffer, 0, found)
+    print::seven_lines(buffer, 0, found)
 }
 
 // The report of a chain file of which `kept` holds the first bytes and `more` counts the others, at the front of the buffer.
 pub fn report(kept: &[u8], more: u64, buffer: &mut [u8]) -> Printed
     ensures { λ r. ⌜ ReportOutcome (input (now (kept .entry)) more) (now (buffer .entry)) (told r) (now (buffer .exit)) ⌝ }
 {
-    if buffer.len() < lines::REPORT_ROOM {
+    if buffer.len() < print::REPORT_ROOM {
         return Printed::Refused {
             number: 2,
             place: 0,
@@ -65,19 +63,19 @@ fn steps_lines(kept: &[u8], more: u64, buffer: &mut [u8]) -> usize
     let t = figures::steps(kept, more, Chain::STATES);
     let answered = t.chance;
     let chance = Answer::of_chance(answered);
-    if lines::ends(chance.number) {
-        return lines::refusal_line(buffer, 0, chance.number, chance.place);
+    if print::ends(chance.number) {
+        return print::refusal_line(buffer, 0, chance.number, chance.place);
     }
     let numbers = t.numbers;
     let end = records::record_lines(buffer, &numbers);
-    lines::answer_line(buffer, end, b"chance ", chance)
+    print::answer_line(buffer, end, b"chance ", chance)
 }
 
 // The step list and the chance of a chain file, in the same way.
 pub fn steps(kept: &[u8], more: u64, buffer: &mut [u8]) -> Printed
     ensures { λ r. ⌜ StepsReportOutcome (input (now (kept .entry)) more) (now (buffer .entry)) (told r) (now (buffer .exit)) ⌝ }
 {
-    if buffer.len() < lines::STEPS_ROOM {
+    if buffer.len() < print::STEPS_ROOM {
         return Printed::Refused {
             number: 2,
             place: 0,
@@ -90,13 +88,13 @@ pub fn steps(kept: &[u8], more: u64, buffer: &mut [u8]) -> Printed
 pub fn face(face: u64, chance: Chance, buffer: &mut [u8]) -> Printed
     ensures { λ r. ⌜ FaceOutcome face (toldChance chance) (now (buffer .entry)) (told r) (now (buffer .exit)) ⌝ }
 {
-    if buffer.len() < lines::FACE_ROOM {
+    if buffer.len() < print::FACE_ROOM {
         return Printed::Refused {
             number: 2,
             place: 0,
         };
     }
-    Printed::Length(lines::face_line(buffer, 0, face, Answer::of_chance(chance)))
+    Printed::Length(print::face_line(buffer, 0, face, Answer::of_chance(chance)))
 }
 
 // The line of an answer alone, from its four numbers, at the front of the buffer.
@@ -111,7 +109,7 @@ pub fn answer(
         let a = answerOf number place numerator denominator in
         ⌜ AnswerOutcome a (now (buffer .entry)) (told r) (now (buffer .exit)) ⌝ }
 {
-    if buffer.len() < lines::ANSWER_ROOM {
+    if buffer.len() < print::ANSWER_ROOM {
         return Printed::Refused {
             number: 2,
             place: 0,
@@ -123,5 +121,5 @@ pub fn answer(
         numerator,
         denominator,
     };
-    Printed::Length(lines::answer_line(buffer, 0, b"", a))
+    Printed::Length(print::answer_line(buffer, 0, b"", a))
 }

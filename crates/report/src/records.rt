@@ -1,13 +1,14 @@
-// The lines of a step list. A function here asks for the room of its text at its longest.
-ghost use Prim.Native.Nat.{_+_, _*_, _≤_};
+// The lines of a step list.
+ghost use Prim.Native.Nat.{_*_, _≤_};
 ghost use lib.ListN.{length};
 ghost use Rattle.meaning.specs.Chain.{mostStates};
 ghost use Rattle.meaning.specs.Report.{recordText, recordsText};
 ghost use Rattle.bytes.specs.Written.{Written};
+ghost use Rattle.text.specs.Puts.{Puts};
 ghost use Rattle.engines.specs.Trace.{countIn, recordsIn};
 ghost use Rattle.report.specs.Lines.{recordRoom};
-use crate::lines::count_line;
-use crate::lines::named;
+use crate::print::count_line;
+use crate::print::named;
 use engines::answer::Trace;
 
 // Room for any line: names, a byte for its end, and numbers of 64 bits, which have 20 digits.
@@ -21,9 +22,9 @@ fn record_line(
     columns: u64,
     divisor: u64,
 ) -> usize
-    requires { ⌜ at + recordRoom ≤ length (now buffer) ⌝ }
     ensures { λ r.
-        ⌜ Written (now (buffer .entry)) at (recordText state rows columns divisor) (now (buffer .exit)) r × (r ≤ at + recordRoom) ⌝ }
+        let text = recordText state rows columns divisor in
+        ⌜ Puts (now (buffer .entry)) at text (now (buffer .exit)) r × (length text ≤ recordRoom) ⌝ }
 {
     let second = named(buffer, at, b"state ", state);
     let third = named(buffer, second, b" rows ", rows);

@@ -1,5 +1,5 @@
 -- What is said of a file: the single line of a refusal, the line of the bounds, or what is left and what is lost.
-use Prim.Native.Nat.{ℕ, _*_, _≤_, _<_}
+use Prim.Native.Nat.{ℕ, _≤_, _<_}
 use mathlib.Core.Path.{_≡_, sym, ap, ap₂, subst, _∙_}
 use mathlib.Core.Logic.{⊎-elim, inl, inr}
 use mathlib.Core.Bool.{Bool}
@@ -7,7 +7,7 @@ use mathlib.Core.List.{List, [], _++_}
 use native.Mathlib.Omega.{arith}
 use lib.ListN.{length, getD, List·getD-eq-default}
 use lib.Dec.{ltb}
-use borrow.Author.Tests.{ne-eqb, le-ltb}
+use borrow.Author.Tests.{le-ltb}
 use Rattle.meaning.specs.Number.{joinTo}
 use Rattle.meaning.specs.Chain.{mostStates, missing}
 use Rattle.meaning.specs.Refusal.{Lent, Entry, Refused, WellFormed}
@@ -16,7 +16,7 @@ use Rattle.meaning.specs.Left.{shortRows, LeftOutcome}
 use Rattle.meaning.specs.Block.{Input, demanded}
 use Rattle.meaning.specs.File.{mostBlocks}
 use Rattle.meaning.specs.Text.{bytesOf}
-use Rattle.meaning.specs.Report.{refusedText, TextOutcome, AnswerOutcome}
+use Rattle.meaning.specs.Report.{refusedText, AnswerOutcome}
 use Rattle.meaning.specs.Salvage.{Opened, Lost, leftChain, leftIn, IndexOf, PlaceIn, edge, other, pairText, lostText, shortText, verdict, Salvaged, SalvagedOutcome, shortRoom, salvageRoom}
 use Rattle.theory.specs.Numbers.Sum.{below}
 use Rattle.theory.specs.Numbers.Join.{join-past}
@@ -31,6 +31,7 @@ use Rattle.chainfile.specs.Index.{Whole}
 use Rattle.look.specs.Sums.{Lacks}
 use Rattle.look.proofs.Refuse.{refused-some}
 use Rattle.report.specs.Stands.{told, answerOf}
+use Rattle.report.proofs.Refusals.{refusal-told}
 use Rattle.report.specs.declared.Printed.{Printed}
 use Rattle.salvaging.specs.Lines.{boundsLine, numbersText, leftText, Fits}
 use Rattle.salvaging.specs.Holds.{PlaceTold}
@@ -57,9 +58,7 @@ module _ {x : Entry} {short : Bool} {l : Lent} {work : List ℕ} where
 pub refusal-line : {f : Input} {before after : List ℕ} (number place : ℕ) (r : Printed) → salvageRoom ≤ length before → 0 < number
     → ((t : List ℕ) → t ≡ refusedText number place ++ bytesOf "\n" → Salvaged f t)
     → AnswerOutcome (answerOf number place 0 0) before (told r) after → SalvagedOutcome f before (told r) after
-refusal-line number place r room some says (TextOutcome.short h e s) = absurd (omega arith)
-refusal-line number place r room some says (TextOutcome.printed h t l e s) =
-    TextOutcome.printed room t (says t (l ∙ rw (ne-eqb number 0 (λ z. omega arith)))) e s
+refusal-line number place r room = refusal-told number place r (omega arith) room
 
 -- The place of a refusal of what is left is the one that is told.
 pub place-told : {kept : List ℕ} {more number place r : ℕ} {v : ℕ → ℕ} → PlaceTold (input kept 0) v number place r

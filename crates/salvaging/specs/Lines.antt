@@ -1,28 +1,20 @@
--- The lines of what is left of a file, from the tables that they are written from, and the room that is asked for.
-use Prim.Native.Nat.{ℕ, _+_, _*_, _≤_}
+-- The lines of what is left of a file, from the tables that they are written from, and how long they can be.
+use Prim.Native.Nat.{ℕ, _≤_}
 use mathlib.Core.List.{List, [], _++_}
 use lib.ListN.{length, getD}
 use lib.Dec.{ltb}
 use Rattle.meaning.specs.Number.{choose, joinTo}
-use Rattle.meaning.specs.Chain.{mostStates}
 use Rattle.meaning.specs.Outcome.{Bounds}
 use Rattle.meaning.specs.Text.{bytesOf}
 use Rattle.meaning.specs.Report.{boundsText, lineText}
-use Rattle.meaning.specs.Salvage.{pairText, boundsRoom, lostRoom, shortRoom, salvageRoom}
+use Rattle.meaning.specs.Salvage.{pairText, boundsRoom, lostRoom, shortRoom}
 
 abbrev pub boundsLine : Bounds → List ℕ
 boundsLine a = lineText (bytesOf "bounds ") (boundsText a)
 
--- Its width with numbers of 64 bits.
-abbrev pub boundsWidth : ℕ
-boundsWidth = (7 + 20) + (1 + 20) + (1 + 20) + (1 + 20) + 1
-
 -- The line of number x at place i of a table, and nothing for 0.
 abbrev pub numberText : List ℕ → ℕ → ℕ → List ℕ
 numberText word i x = choose (ltb 0 x) (pairText word i x) []
-
-abbrev pub numberWidth : List ℕ → ℕ
-numberWidth word = (length word + 20) + (1 + 20) + 1
 
 -- Those of the first k numbers.
 abbrev pub numbersText : List ℕ → List ℕ → ℕ → List ℕ
@@ -37,7 +29,3 @@ pub record Fits (a : Bounds) (lost short : List ℕ) : Type 0 where
   pub bounds : length (boundsLine a) ≤ boundsRoom
   pub blocks : (k : ℕ) → length (numbersText (bytesOf "lost ") lost k) ≤ lostRoom
   pub rows : (k : ℕ) → length (numbersText (bytesOf "short ") short k) ≤ shortRoom
-
--- The size of a page on which any text has room, and one line more with numbers of 64 bits.
-abbrev pub pageRoom : ℕ
-pageRoom = salvageRoom + numberWidth (bytesOf "short ")

@@ -22,9 +22,9 @@ use engines::entry;
 use look::sums;
 use report::Printed;
 
-mod lines;
+mod print;
 
-pub use lines::ROOM;
+pub use print::ROOM;
 
 // The bounds of what is left of a chain, with a work table of its own.
 fn bounds_left(c: Chain, denominators: &[u64], edges: &[u64], order: &[u64]) -> Bounds
@@ -69,7 +69,7 @@ fn whole(c: Chain, denominators: &[u64], edges: &[u64], order: &[u64], buffer: &
 {
     match entry::bounds_unlent(c, denominators, edges, order) {
         Bounds::Between { lower, upper } => {
-            Printed::Length(lines::bounds_line(buffer, lower, upper))
+            Printed::Length(print::bounds_line(buffer, lower, upper))
         }
         Bounds::Refused { number, place } => report::answer(number, place, 0, 0, buffer),
     }
@@ -97,7 +97,7 @@ fn left(
     match bounds_left(c, denominators, edges, order) {
         Bounds::Between { lower, upper } => {
             let short = sums::missing(denominators, edges);
-            Printed::Length(lines::left_lines(buffer, lower, upper, lost, &short))
+            Printed::Length(print::left_lines(buffer, lower, upper, lost, &short))
         }
         Bounds::Refused { number, place } => {
             let at = place_in(kept, lost, number, place);

@@ -17,8 +17,8 @@ use Rattle.theory.specs.Texts.Lines.{spaced-more}
 use Rattle.bytes.specs.Written.{Written, Stored}
 use Rattle.bytes.proofs.Steps.{join, kept}
 use Rattle.bytes.proofs.Storing.{stored}
-use Rattle.report.specs.Pieces.{Named}
-use Rattle.report.proofs.Naming.{named-written, named-past}
+use Rattle.text.specs.Pieces.{Named}
+use Rattle.text.proofs.Naming.{named-written, named-past}
 use Rattle.showing.specs.Print.{Put}
 
 module _ {b₀ b₁ b₂ : List ℕ} {at i j : ℕ} where

@@ -16,8 +16,8 @@ use chain::Chain;
 use chain::edge;
 use chain::set;
 use chain::table;
-use report::pieces::named;
-use report::pieces::put;
+use text::named;
+use text::put;
 
 fn count_line(buffer: &mut [u8], at: usize, name: &[u8], x: u64) -> usize
     requires { ⌜ at + (length (now name) + 21) ≤ length (now buffer) ⌝ }

@@ -11,17 +11,16 @@ use Rattle.report.proofs.answer.Tie as tie
 returns : tie.Need-returns
 returns c = TextOutcome.short (omega arith) refl refl
 
-answer-line-requires : tie.Need-answer-line-requires
-answer-line-requires c κs =
-    let s = c .before .before .before .before in
-    let a = s .args in
-    answer-room (a .buffer .now) (answerOf (a .number) (a .place) (a .numerator) (a .denominator)) (c .before .before .if1 .left)
-    (record { number = search needs; place = search needs; numerator = search needs; denominator = search needs })
-
 returns-2 : tie.Need-returns-2
 returns-2 c =
     let line = c .before .before in
-    printed (omega (arith, line .before .before .before .if1 .left)) (stands refl (line .answer-line .ensures))
+    let s = line .before .before .before .before .before in
+    let a = s .args in
+    let long = line .before .before .before .if1 .left in
+    let room =
+    answer-room (a .buffer .now) (answerOf (a .number) (a .place) (a .numerator) (a .denominator)) long
+    (record { number = search needs; place = search needs; numerator = search needs; denominator = search needs }) in
+    printed (omega (arith, long)) (stands refl (line .answer-line .ensures .written room))
 
 pub answer-spec : {M : Type 1} → statement M
-answer-spec = tie.close (tie.spec returns (λ c. search needs) answer-line-requires (λ c. search needs) returns-2)
+answer-spec = tie.close (tie.spec returns (λ c. search needs) (λ c κs. search needs) (λ c. search needs) returns-2)

@@ -23,46 +23,30 @@ formed : (c : tie.Else2) → let s = start (c .before .before .before .before .b
     WellFormed paid (paidIn (input (s .args .kept .now) (s .args .more)))
 formed c = lasts (lasting (c .before .before .before) .1 .reward .outcome) (fails _ (c .before .ends2 .ensures) (c .if2 .left))
 
-refusal-line-requires : tie.Need-refusal-line-requires
-refusal-line-requires c κs =
-    let e = c .before .before in
-    let s = start (e .before) in
-    file-room (s .args .buffer .now) (s .pre) (file-ended (e .before .ask .ensures) (holds _ (e .ends .ensures) (c .before .if1 .taken)))
-
 returns : tie.Need-returns
 returns c =
     let t = c .before .before .before .before in
     let e = t .before in
-    stands (Report.file-refused _ _ (file-ended (e .before .ask .ensures) (holds _ (e .ends .ensures) (t .if1 .taken))) refl)
-    (c .before .before .refusal-line .ensures)
-
-refusal-line-requires-2 : tie.Need-refusal-line-requires-2
-refusal-line-requires-2 c κs =
-    let e = c .before .before in
-    let x = e .before .before in
-    let s = start (x .before .before) in
-    refusal-room (s .args .buffer .now) (s .pre) (lasting x .1 .reward .outcome)
+    let s = start (e .before) in
+    let w = file-ended (e .before .ask .ensures) (holds _ (e .ends .ensures) (t .if1 .taken)) in
+    stands (Report.file-refused _ _ w refl) (c .before .before .refusal-line .ensures .written (file-room (s .args .buffer .now) (s .pre) w))
 
 returns-2 : tie.Need-returns-2
 returns-2 c =
     let t = c .before .before .before .before in
     let e = t .before in
+    let s = start (e .before .before .before .before) in
     let x = lasting (e .before .before) in
     stands (Report.chain-refused _ _ (x .0) (ended (x .1 .reward .outcome) (holds _ (e .ends2 .ensures) (t .if2 .taken))) refl)
-    (c .before .before .refusal-line2 .ensures)
-
-seven-lines-requires : tie.Need-seven-lines-requires
-seven-lines-requires c κs =
-    let e = c .before in
-    let x = e .before .before .before in
-    let s = start (x .before .before) in
-    lines-room (formed e) (lasting x .1) (s .args .buffer .now) (s .pre)
+    (c .before .before .refusal-line2 .ensures .written (refusal-room (s .args .buffer .now) (s .pre) (x .1 .reward .outcome)))
 
 returns-3 : tie.Need-returns-3
 returns-3 c =
     let e = c .before .before .before .before in
+    let s = start (e .before .before .before .before .before) in
     let x = lasting (e .before .before .before) in
-    stands (lines-report (formed e) (x .1) (x .0)) (c .before .before .seven-lines .ensures)
+    stands (lines-report (formed e) (x .1) (x .0))
+    (c .before .before .seven-lines .ensures .written (lines-room (formed e) (x .1) (s .args .buffer .now) (s .pre)))
 
 pub file-lines-spec : {M : Type 1} → statement M
 file-lines-spec =
@@ -70,13 +54,13 @@ file-lines-spec =
     (tie.spec
     (λ c κs. search needs)
     (λ c κs. search needs)
-    refusal-line-requires
+    (λ c κs. search needs)
     (λ c. search needs)
     returns
     (λ c κs. search needs)
-    refusal-line-requires-2
+    (λ c κs. search needs)
     (λ c. search needs)
     returns-2
-    seven-lines-requires
+    (λ c κs. search needs)
     (λ c. search needs)
     returns-3)

@@ -8,7 +8,7 @@ use Rattle.meaning.specs.Outcome.{Answer}
 use Rattle.meaning.specs.FileSteps.{FileSteps}
 use Rattle.theory.specs.Numbers.Decide.{holds, fails}
 use Rattle.chainfile.specs.Input.{input}
-use Rattle.bytes.proofs.Steps.{join}
+use Rattle.bytes.proofs.Steps.{join, kept}
 use Rattle.engines.specs.Trace.{countIn, recordsIn}
 use Rattle.figures.specs.Told.{toldAnswer}
 use Rattle.report.proofs.Lengths.{refused-wide, answer-wide}
@@ -32,28 +32,19 @@ said a =
     (sym (a .of-chance .ensures .same))
     (a .before .steps .ensures .outcome)
 
-refusal-line-requires : tie.Need-refusal-line-requires
-refusal-line-requires c κs =
-    let a = c .before .before .before in
-    simp length-append (omega (arith, start a .pre, simp length-append at (refused-wide (toldAnswer (a .of-chance .result)) (wide (a .of-chance .ensures)))))
-
 returns : tie.Need-returns
 returns c =
     let t = c .before .before .before .before in
     let e = t .before in
-    stands (steps-ended (said (e .before)) (holds _ (e .ends .ensures) (t .if1 .taken))) (c .before .before .refusal-line .ensures)
+    let a = e .before in
+    let short = refused-wide (toldAnswer (a .of-chance .result)) (wide (a .of-chance .ensures)) in
+    stands (steps-ended (said a) (holds _ (e .ends .ensures) (t .if1 .taken)))
+    (c .before .before .refusal-line .ensures .written (simp length-append (omega (arith, start a .pre, simp length-append at short))))
 
 record-lines-requires : tie.Need-record-lines-requires
 record-lines-requires c κs =
     let a = c .before .before .before .before .before in
     (omega (arith, start a .pre), a .before .steps .ensures .few)
-
-answer-line-requires : tie.Need-answer-line-requires
-answer-line-requires c κs =
-    let r = c .before .before .before .before in
-    let a = r .before .before .before .before .before .before in
-    simp length-append
-    (omega (arith, start a .pre, r .record-lines .ensures .1, answer-wide (toldAnswer (a .of-chance .result)) (wide (a .of-chance .ensures))))
 
 returns-2 : tie.Need-returns-2
 returns-2 c =
@@ -61,7 +52,12 @@ returns-2 c =
     let r = l .before .before .before .before .before in
     let x = r .before .before .before .before in
     let e = x .before in
-    stands (steps-last (said (e .before)) (fails _ (e .ends .ensures) (x .if1 .left))) (join (r .record-lines .ensures .0) (l .answer-line .ensures))
+    let a = e .before in
+    let records = r .record-lines .ensures in
+    let same = kept (records .0) in
+    let short = answer-wide (toldAnswer (a .of-chance .result)) (wide (a .of-chance .ensures)) in
+    stands (steps-last (said a) (fails _ (e .ends .ensures) (x .if1 .left)))
+    (join (records .0) (l .answer-line .ensures .written (simp length-append (omega (arith, start a .pre, records .1, short)))))
 
 pub steps-lines-spec : {M : Type 1} → statement M
 steps-lines-spec =
@@ -70,11 +66,11 @@ steps-lines-spec =
     (λ c κs. search needs)
     (λ c κs. search needs)
     (λ c κs. search needs)
-    refusal-line-requires
+    (λ c κs. search needs)
     (λ c. search needs)
     returns
     record-lines-requires
     (λ c. search needs)
-    answer-line-requires
+    (λ c κs. search needs)
     (λ c. search needs)
     returns-2)

@@ -5,7 +5,7 @@ use Rattle.meaning.specs.Report.{TextOutcome}
 use Rattle.meaning.specs.Fewest.{FewestReport}
 use Rattle.theory.specs.Numbers.Decide.{holds, fails}
 use Rattle.report.proofs.ChainLines.{printed}
-use Rattle.planning.proofs.Lining.{refusal-told}
+use Rattle.report.proofs.Refusals.{refusal-told}
 use Rattle.planning.proofs.scanned.fewest.Statement.{statement}
 use Rattle.planning.proofs.scanned.fewest.Tie as tie
 

@@ -4,7 +4,7 @@ use borrow.Author.Needs.{needs}
 use Rattle.meaning.specs.Report.{TextOutcome}
 use Rattle.meaning.specs.PlanTable.{PlanTable}
 use Rattle.report.proofs.ChainLines.{printed}
-use Rattle.planning.proofs.Lining.{refusal-told}
+use Rattle.report.proofs.Refusals.{refusal-told}
 use Rattle.planning.proofs.tabled.table.Statement.{statement}
 use Rattle.planning.proofs.tabled.table.Tie as tie
 

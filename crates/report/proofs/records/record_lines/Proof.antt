@@ -22,7 +22,7 @@ loop-again : tie.Need-loop-again Inv-loop μ-loop
 loop-again c =
     let at-line = c .before .before in
     let at-loop = at-line .before .before .before .before .before .before .before in
-    let lined = more (at-loop .loop .inv .0) (at-line .record-line .ensures) in
+    let lined = more (at-loop .loop .inv .0) (search needs) (search needs) (at-line .record-line .ensures) in
     (lined, search needs, kept (lined .written))
 
 returns : tie.Need-returns Inv-loop μ-loop
