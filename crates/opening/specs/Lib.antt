@@ -1,0 +1,4 @@
+pub mod Sizes
+pub mod Book
+pub mod Split
+pub mod Opened
