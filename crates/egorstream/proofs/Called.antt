@@ -13,7 +13,7 @@ use Rattle.theory.specs.Numbers.Sum.{below}
 use Rattle.figures.specs.Told.{toldAnswer, toldLimits}
 use Rattle.figures.specs.Found.{ChanceAsked, BoundsAsked, FiguresOutcome}
 use Rattle.figures.specs.declared.answer.Figures.{Figures}
-use Rattle.figures.specs.declared.Question.{Question}
+use Rattle.figures.specs.declared.question.Question.{Question}
 use Rattle.figures.proofs.Numbered.{file-refused}
 
 pub exact-mode : {file before after : List ℕ} {mode r : ℕ} → AsksExact mode → CallOutcome file exactMode before r after

@@ -11,17 +11,18 @@ use Rattle.meaning.specs.Choice.{Choice as Numbers, noChoice, ChoiceOutcome, li
 use Rattle.theory.specs.Outcomes.Places.{refused-places}
 use Rattle.theory.specs.Outcomes.Choice.{choice-one}
 use Rattle.theory.specs.Files.FileOne.{file-one, accepted-unrefused}
+use Rattle.theory.specs.Files.StepsOne.{file-place}
 use Rattle.chain.specs.declared.Chain.{Chain}
 use Rattle.chain.specs.Lent.{lent}
 use Rattle.choice.specs.declared.Choice.{Choice}
 use Rattle.choice.specs.declared.Choice.the-variants.{Sum, Refused}
 use Rattle.choice.specs.Told.{told, Chooses}
-use Rattle.figures.specs.Found.{Holds}
-use Rattle.egorstream.specs.Order.{NearPlace, toldOrder}
+use Rattle.opening.specs.Book.{Holds}
+use Rattle.egorstream.specs.Order.{NearPlace, ChosenOf, toldOrder}
 use Rattle.egorstream.specs.declared.order.Ordered.{Ordered}
 
 -- A refusal's place is small.
-pub near-place : {l : Lent} {before after : List ℕ} (r : Choice) → Chooses l before r after → NearPlace r
+near-place : {l : Lent} {before after : List ℕ} (r : Choice) → Chooses l before r after → NearPlace r
 near-place (Sum sum) x = tt
 near-place (Refused n p) x = at (x .outcome)
   where
@@ -33,16 +34,24 @@ near-place (Refused n p) x = at (x .outcome)
     at (refused h k q z e s) = omega (arith, place-of e, refused-places k q z)
     at (chosen h f k t m y e) = omega (arith, place-of e)
 
-pub refuses : {f : Input} {n p : ℕ} {list : List ℕ} (r : Ordered) → FileRefused f n p → toldOrder r ≡ noChoice n p → FileChoice f list (toldOrder r) list
-refuses r z e = file-refused _ _ z e refl
+pub refuses : {f : Input} {n p : ℕ} {list : List ℕ} → FileRefused f n p → ChosenOf f list (Refused n p) list
+refuses z = record { outcome = file-refused _ _ z refl refl; near = file-place z }
 
 -- The chain and tables are those of the file.
-pub chooses : {f : Input} {c : Chain} {d g o w before after : List ℕ} (r : Ordered) (q : Choice) → Holds f c d g o w → Chooses (lent c d g [] [] []) before q after
-    → toldOrder r ≡ told q → FileChoice f before (toldOrder r) after
-chooses {f} {c} {d} {g} {before = before} {after} r q h x e =
-    asked (h .accepted)
-    (subst (λ (l : Lent). ChoiceOutcome l before (toldOrder r) after) (λ i. chainAlone (ap (λ (l : Lent). l .chain) (h .paid) i))
-    (subst (λ (a : Numbers). ChoiceOutcome (lent c d g [] [] []) before a after) (sym e) (x .outcome)))
+pub chooses : {f : Input} {c : Chain} {d g o w before after : List ℕ} (q : Choice) → Holds f c d g o w → Chooses (lent c d g [] [] []) before q after
+    → ChosenOf f before q after
+chooses {f} {c} {d} {g} {before = before} {after} q h x =
+    record {
+      outcome =
+          asked (h .accepted)
+          (subst (λ (l : Lent). ChoiceOutcome l before (told q) after) (λ i. chainAlone (ap (λ (l : Lent). l .chain) (h .paid) i)) (x .outcome));
+      near = near-place q x;
+    }
+
+-- The face answers it.
+pub replied : {f : Input} {before after : List ℕ} {q : Choice} (r : Ordered) → ChosenOf f before q after → toldOrder r ≡ told q
+    → FileChoice f before (toldOrder r) after
+replied {f} {before} {after} r x e = subst (λ (a : Numbers). FileChoice f before a after) (sym e) (x .outcome)
 
 file-choice-one : {f : Input} {before after after′ : List ℕ} {a a′ : Numbers} → FileChoice f before a after → FileChoice f before a′ after′
     → (a ≡ a′) × (after ≡ after′)

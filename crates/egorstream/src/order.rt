@@ -1,13 +1,12 @@
 // The chosen order for callers in C: a file's bytes in, the order out into a lent list.
 ghost use mathlib.Core.Path.{_≡_};
-ghost use Rattle.meaning.specs.Block.{wholeFile};
+ghost use Rattle.meaning.specs.Block.{Input, wholeFile};
 ghost use Rattle.meaning.specs.Choice.{FileChoice};
 ghost use Rattle.choice.specs.Told.{told};
-ghost use Rattle.egorstream.specs.Order.{NearPlace, toldOrder};
-use chain::Chain;
-use chain::edge;
-use chainfile::Reading;
+ghost use Rattle.opening.specs.Book.{Opened};
+ghost use Rattle.egorstream.specs.Order.{NearPlace, ChosenOf, toldOrder};
 use choice::Choice;
+use opening::Opening;
 
 // A refusal's number and place, or 0 and the sum of the products.
 #[repr(C)]
@@ -35,30 +34,29 @@ fn reply(chosen: Choice) -> Ordered
     }
 }
 
+// What is chosen for an opened file.
+fn chosen(opened: Opening, table: &[u64], list: &mut [u64]) -> Choice
+    ensures { λ r.
+        let t = now (table .entry) in
+        ⌜ ((f : Input) → Opened f opened t → ChosenOf f (now (list .entry)) r (now (list .exit))) ⌝ }
+{
+    match opened {
+        Opening::Refused { number, place } => Choice::Refused { number, place },
+        Opening::Chain(book) => {
+            let denominators = opening::denominators(table, book);
+            choice::choose(book.chain, denominators, opening::edges(table, book), list)
+        }
+    }
+}
+
 #[no_mangle]
 pub extern "C" fn egorstream_order(file: &[u8], list: &mut [u64]) -> Ordered
     ensures { λ r. ⌜ FileChoice (wholeFile (now (file .entry))) (now (list .entry)) (toldOrder r) (now (list .exit)) ⌝ }
 {
-    let mut denominators = [0u64; Chain::STATES];
-    let mut edges = [0u64; edge::MOST];
-    let mut order = [0u64; Chain::STATES];
-    let mut rewards = [0u64; Chain::STATES];
-    match chainfile::open_file(
-        file,
-        0,
-        &mut denominators,
-        &mut edges,
-        &mut order,
-        &mut rewards,
-    ) {
-        Reading::Refused { number, place } => reply(Choice::Refused { number, place }),
-        Reading::Chain {
-            chain,
-            edges: count,
-        } => {
-            let n = chain.states;
-            let e = edge::SIZE * count;
-            reply(choice::choose(chain, &denominators[..n], &edges[..e], list))
-        }
+    if opening::long(file, 0) {
+        let mut table = [0u64; opening::LARGEST];
+        return reply(chosen(opening::of(file, 0, &mut table), &table, list));
     }
+    let mut table = [0u64; opening::SMALL];
+    reply(chosen(opening::of(file, 0, &mut table), &table, list))
 }

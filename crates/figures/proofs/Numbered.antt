@@ -7,8 +7,8 @@ use Rattle.meaning.specs.File.{FileRefused, Accepted}
 use Rattle.theory.specs.Files.FileOne.{file-numbers}
 use Rattle.figures.specs.Found.{AskedOf, FiguresOutcome, refused, accepted}
 use Rattle.figures.specs.declared.answer.Figures.{Figures}
-use Rattle.figures.specs.declared.Question.{Question}
-use Rattle.figures.specs.declared.Question.the-variants.{Chance, Bounds, Report}
+use Rattle.figures.specs.declared.question.Question.{Question}
+use Rattle.figures.specs.declared.question.Question.the-variants.{Chance, Bounds, Report}
 
 number-nought : (f : Input) (question : Question) (r : Figures) → AskedOf f question r → r .number ≡ 0
 number-nought f Chance r x = ap (λ (r : Figures). r .number) (x .alone)

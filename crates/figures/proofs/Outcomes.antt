@@ -13,13 +13,14 @@ use Rattle.chain.specs.declared.Chain.{Chain}
 use Rattle.chain.specs.Lent.{lent}
 use Rattle.figures.specs.Told.{Tells, toldAnswer, toldLimits, figures, noCounts, noAnswer, noLimits}
 use Rattle.elimination.specs.Own.{ours, Found}
-use Rattle.figures.specs.Found.{Counted, Holds, ChanceAsked, BoundsAsked, ReportAsked, AskedOf}
+use Rattle.opening.specs.Book.{Holds}
+use Rattle.figures.specs.Found.{Counted, ChanceAsked, BoundsAsked, ReportAsked, AskedOf}
 use Rattle.figures.specs.declared.answer.Counts.{Counts}
 use Rattle.figures.specs.declared.answer.Answer.{Answer}
 use Rattle.figures.specs.declared.answer.Limits.{Limits}
 use Rattle.figures.specs.declared.answer.Figures.{Figures}
-use Rattle.figures.specs.declared.Question.{Question}
-use Rattle.figures.specs.declared.Question.the-variants.{Chance, Bounds}
+use Rattle.figures.specs.declared.question.Question.{Question}
+use Rattle.figures.specs.declared.question.Question.the-variants.{Chance, Bounds}
 
 pub found : {A : Type 0} {Outcome : A → List ℕ → Type 0} {a b : A} (w : List ℕ) → a ≡ b → Outcome b w → Found Outcome a
 found {Outcome = Outcome} w e o = record { work = w; outcome = subst (λ a. Outcome a w) (sym e) o }

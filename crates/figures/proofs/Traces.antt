@@ -17,7 +17,7 @@ use Rattle.engines.specs.Trace.{recordIn, recordsIn, Traced}
 use Rattle.engines.specs.declared.answer.Trace.{Trace}
 use Rattle.theory.specs.Numbers.Tab.{getD-zeros}
 use Rattle.elimination.specs.Own.{ours, Found}
-use Rattle.figures.specs.Found.{Holds}
+use Rattle.opening.specs.Book.{Holds}
 use Rattle.figures.specs.Traced.{FileTraced}
 use Rattle.figures.proofs.Outcomes.{unpaid}
 

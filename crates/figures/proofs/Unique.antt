@@ -30,8 +30,8 @@ use Rattle.figures.specs.declared.answer.Counts.{Counts}
 use Rattle.figures.specs.declared.answer.Answer.{Answer}
 use Rattle.figures.specs.declared.answer.Limits.{Limits}
 use Rattle.figures.specs.declared.answer.Figures.{Figures}
-use Rattle.figures.specs.declared.Question.{Question}
-use Rattle.figures.specs.declared.Question.the-variants.{Chance, Bounds, Report}
+use Rattle.figures.specs.declared.question.Question.{Question}
+use Rattle.figures.specs.declared.question.Question.the-variants.{Chance, Bounds, Report}
 
 -- Its numbers are all that an answer has.
 answer-of : Numbers → Answer

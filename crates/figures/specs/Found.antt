@@ -2,20 +2,18 @@
 use Prim.Native.Nat.{ℕ}
 use mathlib.Core.Bool.{false}
 use mathlib.Core.Path.{_≡_}
-use mathlib.Core.List.{List, []}
 use Rattle.meaning.specs.Chain.{edgeCount}
 use Rattle.meaning.specs.Refusal.{Lent}
 use Rattle.meaning.specs.Survey.{Survey, SurveyOutcome}
 use Rattle.meaning.specs.Outcome.{ChanceOutcome, RewardOutcome, BoundsOutcome}
 use Rattle.meaning.specs.Block.{Input}
 use Rattle.meaning.specs.File.{FileRefused, Accepted, plainIn, paidIn, bareIn}
-use Rattle.chain.specs.declared.Chain.{Chain}
-use Rattle.elimination.specs.Own.{ours, Found}
+use Rattle.elimination.specs.Own.{Found}
 use Rattle.figures.specs.Told.{toldAnswer, toldLimits, figures, noCounts, noAnswer, noLimits}
 use Rattle.figures.specs.declared.answer.Counts.{Counts}
 use Rattle.figures.specs.declared.answer.Figures.{Figures}
-use Rattle.figures.specs.declared.Question.{Question}
-use Rattle.figures.specs.declared.Question.the-variants.{Chance, Bounds, Report}
+use Rattle.figures.specs.declared.question.Question.{Question}
+use Rattle.figures.specs.declared.question.Question.the-variants.{Chance, Bounds, Report}
 
 -- The counts of a chain: of one that the survey refuses it counts no goals and no live states.
 pub record Counted (l : Lent) (r : Counts) : Type 0 where
@@ -25,11 +23,6 @@ pub record Counted (l : Lent) (r : Counts) : Type 0 where
   pub outcome : SurveyOutcome false l survey
   pub goals : r .goals ≡ survey .goals
   pub live : r .live ≡ survey .live
-
--- The input is accepted, and these are its chain and tables.
-pub record Holds (f : Input) (c : Chain) (denominators edges order rewards : List ℕ) : Type 0 where
-  pub accepted : Accepted f
-  pub paid : ours c denominators edges order rewards ≡ paidIn f
 
 -- The chance, and nothing else.
 pub record ChanceAsked (f : Input) (r : Figures) : Type 0 where

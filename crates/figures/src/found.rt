@@ -1,27 +1,22 @@
 // What is found of a chain, as numbers: its figures, each with a work table of its own, and its counts.
 ghost use mathlib.Core.Path.{_≡_};
 ghost use mathlib.Core.List.{[]};
-ghost use lib.ListN.{replicate};
 ghost use Rattle.meaning.specs.Block.{Input};
-ghost use Rattle.meaning.specs.Refusal.{withList};
-ghost use Rattle.meaning.specs.Outcome.{refusal, ChanceOutcome, RewardOutcome, BoundsOutcome};
+ghost use Rattle.meaning.specs.Outcome.{ChanceOutcome, RewardOutcome, BoundsOutcome};
 ghost use Rattle.chain.specs.Lent.{lent};
-ghost use Rattle.engines.specs.Answer.{toldChance};
-ghost use Rattle.elimination.specs.Log.{logSize};
 ghost use Rattle.elimination.specs.Own.{ours, Found};
-ghost use Rattle.engines.specs.Trace.{Traced};
 ghost use Rattle.figures.specs.Told.{toldAnswer, toldLimits};
-ghost use Rattle.figures.specs.Found.{Counted, Holds, ReportAsked, AskedOf};
-use crate::Question;
+ghost use Rattle.opening.specs.Book.{Holds, Opened};
+ghost use Rattle.figures.specs.Found.{Counted, ReportAsked, AskedOf, FiguresOutcome};
 use crate::answer::Answer;
 use crate::answer::Counts;
 use crate::answer::Figures;
 use crate::answer::Limits;
+use crate::question::Question;
 use chain::Chain;
 use chain::edge;
-use engines::answer::Chance;
-use engines::answer::Trace;
 use engines::entry;
+use opening::Opening;
 use survey::Survey;
 
 fn chance(c: Chain, denominators: &[u64], edges: &[u64], order: &[u64]) -> Answer
@@ -97,7 +92,7 @@ fn whole(c: Chain, denominators: &[u64], edges: &[u64], order: &[u64], rewards: 
 }
 
 // What a question asks of the chain and tables of an accepted file.
-pub(crate) fn found(
+fn found(
     question: Question,
     c: Chain,
     denominators: &[u64],
@@ -116,29 +111,18 @@ pub(crate) fn found(
     }
 }
 
-// The chance and the step list of the chain and tables of an accepted file.
-pub(crate) fn trace(
-    c: Chain,
-    denominators: &[u64],
-    edges: &[u64],
-    order: &[u64],
-    list: usize,
-) -> Trace
-    ensures { λ r.
-        let l = ours c (now (denominators .entry)) (now (edges .entry)) (now (order .entry)) [] in
-        ⌜ Found (Traced (withList list l)) r ⌝ }
+// The same of an opened file.
+pub fn asked(opened: Opening, table: &[u64], question: Question) -> Figures
+    ensures { λ r. ⌜ ((f : Input) → Opened f opened (now (table .entry)) → FiguresOutcome f question r) ⌝ }
 {
-    let mut work = [0u64; Chain::WORK];
-    entry::trace(c, denominators, edges, order, &mut work, list)
-}
-
-// Of a file that is refused there is no record.
-pub(crate) fn no_trace(number: u32, place: usize) -> Trace
-    ensures { λ r. ⌜ (toldChance (r .chance) ≡ refusal number place) × (r .numbers ≡ replicate logSize 0) ⌝ }
-{
-    let numbers = [0u64; Trace::NUMBERS];
-    Trace {
-        chance: Chance::Refused { number, place },
-        numbers,
+    match opened {
+        Opening::Refused { number, place } => Figures::refusal(number, place),
+        Opening::Chain(book) => {
+            let denominators = opening::denominators(table, book);
+            let edges = opening::edges(table, book);
+            let order = opening::order(table, book);
+            let rewards = opening::rewards(table, book);
+            found(question, book.chain, denominators, edges, order, rewards)
+        }
     }
 }

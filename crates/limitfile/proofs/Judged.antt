@@ -30,7 +30,7 @@ use Rattle.near.specs.declared.answer.Nearly.the-variants.{Found as Around, Ref
 use Rattle.figures.specs.Told.{toldAnswer}
 use Rattle.figures.specs.Found.{FiguresOutcome}
 use Rattle.figures.specs.declared.answer.Figures.{Figures as Numbers}
-use Rattle.figures.specs.declared.Question.the-variants.{Chance}
+use Rattle.figures.specs.declared.question.Question.the-variants.{Chance}
 
 -- By the printed figures: the upper one first.
 module _ (m : Limit) (a : Near) (high : text.Figure) (up : high ≡ upperFigure (a .upper) (a .twos)) where

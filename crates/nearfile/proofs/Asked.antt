@@ -15,7 +15,7 @@ use Rattle.theory.specs.Files.NearFile.{file-near-one}
 use Rattle.near.proofs.Unique.{told-one}
 use Rattle.chain.specs.declared.Chain.{Chain}
 use Rattle.elimination.specs.Own.{ours, Found}
-use Rattle.figures.specs.Found.{Holds}
+use Rattle.opening.specs.Book.{Holds}
 use Rattle.near.specs.Answer.{toldNear, toldMiss, Proper}
 use Rattle.near.specs.declared.answer.Nearly.{Nearly}
 use Rattle.near.specs.declared.answer.Nearly.the-variants.{Refused}

@@ -2,21 +2,24 @@
 use Prim.Native.Nat.{ℕ, _*_}
 use mathlib.Core.Path.{_≡_, sym, ap, subst, _∙_}
 use mathlib.Core.Logic.{⊎-elim}
-use mathlib.Core.List.{List}
+use mathlib.Core.Bool.{Bool, false}
+use mathlib.Core.List.{List, []}
 use native.Mathlib.Omega.{arith}
 use lib.ListN.{length, take, drop, replicate, length-replicate, length-drop}
 use lib.Seq.{take-take}
-use Rattle.meaning.specs.Number.{tabFrom}
+use Rattle.meaning.specs.Number.{decides, tabFrom}
 use Rattle.meaning.specs.Chain.{mostStates, edgeSize, edgeNumber}
-use Rattle.meaning.specs.Refusal.{workSize}
+use Rattle.meaning.specs.Refusal.{workSize, ownWork}
 use Rattle.meaning.specs.Block.{Input, inputLength, blockSize, demanded, headStates, headEdges, denominatorIn, rewardIn, orderIn}
 use Rattle.meaning.specs.File.{FileRefused, Accepted, denominatorsIn, rewardsIn, ordersIn, edgeIn, edgesIn, Tables, Reading as Numbers, reading}
 use Rattle.theory.specs.Files.FileOne.{file-numbers}
 use Rattle.theory.specs.Files.Right.{stable, bounded}
 use Rattle.theory.specs.Numbers.Tab.{tab-length}
+use Rattle.theory.specs.Numbers.Decide.{fails}
+use Rattle.chain.specs.Lent.{lent}
 use Rattle.chainfile.specs.Tells.{Narrow, OpenOutcome}
 use Rattle.opening.specs.Sizes.{edgesAt, largestTable, smallTable, Long, Fits}
-use Rattle.opening.specs.Book.{Held, Opened}
+use Rattle.opening.specs.Book.{denominatorsOf, orderOf, rewardsOf, edgesOf, Holds, Held, Opened}
 use Rattle.opening.specs.Split.{statesPart, split}
 use Rattle.opening.specs.Opened.{told, OpeningOutcome, short, read}
 use Rattle.opening.specs.declared.book.Book.{Book}
@@ -80,6 +83,7 @@ module _ (f : Input) (before after : List ℕ) (r : Opening) (fits : Fits f (len
       record {
         few-states = omega arith;
         few-edges = omega arith;
+        count = en;
         holds =
             record {
               accepted = w;
@@ -105,3 +109,20 @@ module _ (f : Input) (before after : List ℕ) (r : Opening) (fits : Fits f (len
 pub opened : {f : Input} {before after : List ℕ} {r : Opening} → Fits f (length before) → OpeningOutcome f before r after → Opened f r after
 opened fits (short h e d) = absurd (omega (arith, fits .states))
 opened {f} {before} {after} {r} fits (read h o) = record { refused = refused f before after r fits o; held = held f before after r fits o }
+
+-- The tables that a question makes, of zeros.
+pub largest-opened : {f : Input} {after : List ℕ} {r : Opening} → OpeningOutcome f (replicate largestTable 0) r after → Opened f r after
+largest-opened {f} o = opened (largest f) o
+
+pub small-opened : {f : Input} {b : Bool} {after : List ℕ} {r : Opening} → decides (Long f) b → b ≡ false → OpeningOutcome f (replicate smallTable 0) r after
+    → Opened f r after
+small-opened {f} d e o = opened (small f (fails (Long f) d e)) o
+
+-- The parts that are taken of a table are what the file holds.
+pub taken : {f : Input} {b : Book} {table denominators edges order rewards : List ℕ} → Held f b table → denominators ≡ denominatorsOf b table
+    → edges ≡ edgesOf b table → order ≡ orderOf b table → rewards ≡ rewardsOf b table → Holds f (b .chain) denominators edges order rewards
+taken {b = b} h d e o r =
+    record {
+      accepted = h .holds .accepted;
+      paid = (λ i. ownWork (lent (b .chain) (d i) (e i) [] [] [] .chain) (o i) (r i)) ∙ h .holds .paid;
+    }

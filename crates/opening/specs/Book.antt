@@ -5,7 +5,7 @@ use mathlib.Core.List.{List, []}
 use lib.ListN.{take, drop}
 use Rattle.meaning.specs.Chain.{mostStates, mostEdges, edgeSize}
 use Rattle.meaning.specs.Refusal.{ownWork}
-use Rattle.meaning.specs.Block.{Input}
+use Rattle.meaning.specs.Block.{Input, headEdges}
 use Rattle.meaning.specs.File.{FileRefused, Accepted, paidIn}
 use Rattle.chain.specs.declared.Chain.{Chain as Frame}
 use Rattle.chain.specs.Lent.{lent}
@@ -35,6 +35,7 @@ pub record Holds (f : Input) (c : Frame) (denominators edges order rewards : Lis
 pub record Held (f : Input) (b : Book) (table : List ℕ) : Type 0 where
   pub few-states : b .chain .states ≤ mostStates
   pub few-edges : b .edges ≤ mostEdges
+  pub count : b .edges ≡ headEdges f
   pub holds : Holds f (b .chain) (denominatorsOf b table) (edgesOf b table) (orderOf b table) (rewardsOf b table)
 
 -- What is opened is what the file holds.

@@ -5,13 +5,12 @@ use mathlib.Core.List.{List, []}
 use native.Mathlib.Omega.{arith}
 use lib.ListN.{length}
 use Rattle.meaning.specs.Refusal.{Lent, chainAlone}
-use Rattle.meaning.specs.Block.{Input, headStates, orderIn}
+use Rattle.meaning.specs.Block.{Input, headStates}
 use Rattle.meaning.specs.File.{chainIn, bareIn}
 use Rattle.meaning.specs.Buffer.{Writing, noWriting}
 use Rattle.meaning.specs.Write.{Bytes, WriteOutcome}
 use Rattle.meaning.specs.Choice.{Choice as Numbers, ChoiceOutcome, list-wrong, refused, chosen}
 use Rattle.meaning.specs.Reorder.{longestFile, ReorderOutcome, chain-refused}
-use Rattle.theory.specs.Numbers.Tab.{tab-length}
 use Rattle.theory.specs.Outcomes.Places.{refused-places}
 use Rattle.theory.specs.Files.Reorder.{rewritten, rewritten-outcome}
 use Rattle.chain.specs.declared.Chain.{Chain as Frame}
@@ -19,9 +18,10 @@ use Rattle.chain.specs.Lent.{lent}
 use Rattle.choice.specs.declared.Choice.{Choice}
 use Rattle.choice.specs.declared.Choice.the-variants as choice
 use Rattle.choice.specs.Told.{told, Chooses}
-use Rattle.figures.specs.Found.{Holds}
+use Rattle.opening.specs.Book.{Holds}
 
-module _ {f : Input} (bytes : Bytes (f .kept)) {c : Frame} {d e o r : List ℕ} (h : Holds f c d e o r) (buffer : List ℕ) (room : longestFile ≤ length buffer) where
+module _ {f : Input} (bytes : Bytes (f .kept)) {c : Frame} {d e order r : List ℕ} (h : Holds f c d e order r) (o : List ℕ) (long : length o ≡ c .states)
+    (buffer : List ℕ) (room : longestFile ≤ length buffer) where
   chain-is : lent c d e [] [] [] .chain ≡ chainIn f
   chain-is = ap (λ (l : Lent). l .chain) (h .paid)
 
@@ -30,7 +30,7 @@ module _ {f : Input} (bytes : Bytes (f .kept)) {c : Frame} {d e o r : List ℕ} 
   of-file {a} {o′} = subst (λ l. ChoiceOutcome l o a o′) (λ i. chainAlone (chain-is i))
 
   list-long : length o ≡ headStates f
-  list-long = ap (λ (l : Lent). length (l .order)) (h .paid) ∙ tab-length 0 (headStates f) (orderIn f)
+  list-long = long ∙ ap (λ (l : Lent). l .chain .states) (h .paid)
 
   number-of : {a b : Numbers} → a ≡ b → a .number ≡ b .number
   number-of q = ap (λ (a : Numbers). a .number) q

@@ -24,7 +24,7 @@ use Rattle.bytes.proofs.Steps.{whole}
 use Rattle.figures.specs.Told.{toldAnswer, toldLimits}
 use Rattle.figures.specs.Found.{ReportAsked, FiguresOutcome, refused, accepted}
 use Rattle.figures.specs.declared.answer.Figures.{Figures}
-use Rattle.figures.specs.declared.Question.the-variants as question
+use Rattle.figures.specs.declared.question.Question.the-variants as question
 use Rattle.figures.proofs.Numbered.{file-refused}
 use Rattle.report.specs.Lines.{Ends, chain, file, toldLines}
 use Rattle.report.specs.Stands.{Stands}

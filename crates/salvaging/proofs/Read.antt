@@ -24,7 +24,7 @@ use Rattle.chainfile.specs.declared.Reading.{Reading}
 use Rattle.chainfile.specs.declared.Reading.the-variants.{Chain, Refused}
 use Rattle.chainfile.specs.declared.Left.{Left}
 use Rattle.elimination.specs.Own.{ours}
-use Rattle.figures.proofs.Opened.{at}
+use Rattle.opening.proofs.Reading.{at}
 use Rattle.salvaging.specs.Holds.{Holds}
 
 -- The tables hold what is left at their front.

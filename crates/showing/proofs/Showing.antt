@@ -3,40 +3,47 @@ use Prim.Native.Nat.{ℕ, _*_, _≤_, _<_}
 use native.Mathlib.Omega.{arith}
 use mathlib.Core.Path.{_≡_, refl, sym, ap, subst, _∙_}
 use mathlib.Core.List.{List, []}
-use lib.ListN.{length, take, length-append}
-use lib.Seq.{length-take-le}
+use lib.ListN.{length, length-append}
 use borrow.Author.Tests.{ne-eqb}
 use Rattle.meaning.specs.Number.{filled}
 use Rattle.meaning.specs.Refusal.{Lent}
-use Rattle.meaning.specs.Chain.{edgeSize, edgeCount}
-use Rattle.meaning.specs.Block.{Input}
-use Rattle.meaning.specs.File.{FileRefused, Tables, paidIn}
+use Rattle.meaning.specs.Chain.{mostStates, edgeSize, edgeCount, edgeNumber}
+use Rattle.meaning.specs.Block.{Input, headStates, headEdges, orderIn}
+use Rattle.meaning.specs.File.{FileRefused, edgeIn, paidIn}
 use Rattle.meaning.specs.Buffer.{Writing, writing, noWriting}
 use Rattle.meaning.specs.Report.{TextOutcome, AnswerOutcome}
 use Rattle.meaning.specs.ChainText.{chainText, textOf}
 use Rattle.meaning.specs.Translate.{Shown, shownRoom, ShowOutcome, TextedOutcome, short, file-refused, texted}
+use Rattle.theory.specs.Numbers.Tab.{tab-length}
 use Rattle.theory.specs.Files.FileOne.{file-numbers}
 use Rattle.chain.specs.Lent.{lent}
 use Rattle.chain.specs.declared.Chain.{Chain}
 use Rattle.bytes.specs.Written.{Written}
-use Rattle.figures.proofs.Opened.{Opened}
+use Rattle.opening.specs.Book.{Holds}
 use Rattle.report.specs.Stands.{answerOf, told}
 use Rattle.report.specs.declared.Printed.{Printed}
 use Rattle.report.specs.declared.Printed.the-variants.{Length, Refused}
 use Rattle.report.proofs.ChainLines.{stands}
 
-module _ {f : Input} {c : Chain} {count : ℕ} {t : Tables} (o : Opened f c count t) where
-  count-is : edgeCount (take (edgeSize * count) (t .edges)) ≡ count
-  count-is = omega (arith, length-take-le (edgeSize * count) (t .edges) (o .edges))
+module _ {f : Input} {c : Chain} {d es o r : List ℕ} (h : Holds f c d es o r) {count : ℕ} (e : count ≡ headEdges f) where
+  count-is : edgeCount es ≡ count
+  count-is =
+      let n : length es ≡ edgeSize * headEdges f =
+      ap (λ (l : Lent). length (l .chain .edges)) (h .paid) ∙ tab-length 0 (edgeSize * headEdges f) (edgeNumber (edgeIn f)) in
+      omega arith
 
-  pub show-text : {before after : List ℕ} {r : ℕ} → shownRoom ≤ length before
-      → (edgeCount (take (edgeSize * count) (t .edges)) ≡ count
-      → Written before 0 (chainText (lent c (take (c .states) (t .denominators)) (take (edgeSize * count) (t .edges)) (take (c .states) (t .order)) (take (c .states) (t .rewards)) [])) after r)
-      → TextedOutcome f before (writing r) after
+  pub order-few : c .states ≤ mostStates → length o ≤ mostStates
+  order-few few =
+      let n : length o ≡ headStates f = ap (λ (l : Lent). length (l .order)) (h .paid) ∙ tab-length 0 (headStates f) (orderIn f) in
+      omega (arith, ap (λ (l : Lent). l .chain .states) (h .paid))
+
+  pub show-text : {before after : List ℕ} {k : ℕ} → shownRoom ≤ length before
+      → (edgeCount es ≡ count → Written before 0 (chainText (lent c d es o r [])) after k)
+      → TextedOutcome f before (writing k) after
   show-text {before} room w =
-      let e = ap chainText (o .holds .paid) in
+      let e = ap chainText (h .paid) in
       let s = stands {Text = λ (t : List ℕ). t ≡ chainText (paidIn f)} e (w count-is) in
-      texted room (o .holds .accepted) (ap writing (s .whole ∙ ap length (s .wanted))) (s .bytes ∙ ap (λ (t : List ℕ). filled t before) (s .wanted))
+      texted room (h .accepted) (ap writing (s .whole ∙ ap length (s .wanted))) (s .bytes ∙ ap (λ (t : List ℕ). filled t before) (s .wanted))
 
 -- A text has bytes, so that none is mistaken for a refusal.
 pub text-some : (l : Lent) → 0 < length (chainText l)

@@ -1,10 +1,13 @@
 // The text form of chain files, written: a chain file is shown as a text.
-ghost use Rattle.meaning.specs.Translate.{ShowOutcome, TextedOutcome};
+ghost use Prim.Native.Nat.{_≤_};
+ghost use lib.ListN.{length};
+ghost use Rattle.meaning.specs.Block.{Input};
+ghost use Rattle.meaning.specs.Translate.{shownRoom, ShowOutcome, TextedOutcome};
 ghost use Rattle.chainfile.specs.Input.{input};
+ghost use Rattle.opening.specs.Book.{Opened};
 ghost use Rattle.report.specs.Stands.{told};
 use chain::Chain;
-use chain::edge;
-use chainfile::Reading;
+use opening::Opening;
 use report::Printed;
 
 mod print;
@@ -21,6 +24,35 @@ pub const ROOM: usize = (7 + 21)
     + (5 + Chain::STATES * 21 + 1)
     + Chain::EDGES * EDGE_LINE;
 
+// Writes the text of an opened file.
+fn written(opened: Opening, table: &[u64], buffer: &mut [u8]) -> Printed
+    requires { ⌜ shownRoom ≤ length (now buffer) ⌝ }
+    requires { ⌜ ((f : Input) × Opened f opened (now table)) ⌝ }
+    ensures { λ r.
+        let t = now (table .entry) in
+        ⌜ ((f : Input) → Opened f opened t → TextedOutcome f (now (buffer .entry)) (told r) (now (buffer .exit))) ⌝ }
+{
+    match opened {
+        Opening::Refused { number, place } => Printed::Refused { number, place },
+        Opening::Chain(book) => {
+            let count = book.edges;
+            let denominators = opening::denominators(table, book);
+            let edges = opening::edges(table, book);
+            let order = opening::order(table, book);
+            let rewards = opening::rewards(table, book);
+            Printed::Length(print::lines(
+                book.chain,
+                denominators,
+                count,
+                edges,
+                order,
+                rewards,
+                buffer,
+            ))
+        }
+    }
+}
+
 // Writes the text of the chain file of which `kept` holds the first bytes and `more` counts the others, at the front of the buffer, and answers
 // its length. A refusal leaves the whole buffer.
 pub fn text(kept: &[u8], more: u64, buffer: &mut [u8]) -> Printed
@@ -32,36 +64,12 @@ pub fn text(kept: &[u8], more: u64, buffer: &mut [u8]) -> Printed
             place: 0,
         };
     }
-    let mut denominators = [0u64; Chain::STATES];
-    let mut edges = [0u64; edge::MOST];
-    let mut order = [0u64; Chain::STATES];
-    let mut rewards = [0u64; Chain::STATES];
-    match chainfile::open_file(
-        kept,
-        more,
-        &mut denominators,
-        &mut edges,
-        &mut order,
-        &mut rewards,
-    ) {
-        Reading::Refused { number, place } => Printed::Refused { number, place },
-        Reading::Chain {
-            chain,
-            edges: count,
-        } => {
-            let n = chain.states;
-            let e = edge::SIZE * count;
-            Printed::Length(print::lines(
-                chain,
-                &denominators[..n],
-                count,
-                &edges[..e],
-                &order[..n],
-                &rewards[..n],
-                buffer,
-            ))
-        }
+    if opening::long(kept, more) {
+        let mut table = [0u64; opening::LARGEST];
+        return written(opening::of(kept, more, &mut table), &table, buffer);
     }
+    let mut table = [0u64; opening::SMALL];
+    written(opening::of(kept, more, &mut table), &table, buffer)
 }
 
 // Shows it: a refusal's line is written where there is no text.

@@ -1,25 +1,16 @@
-use Prim.Native.Nat.{_*_, _<_}
-use native.Mathlib.Omega.{arith}
 use borrow.Author.Needs.{needs}
-use Rattle.meaning.specs.Block.{Input, inputLength, blockSize}
-use Rattle.theory.specs.Numbers.Decide.{fails}
-use Rattle.chainfile.specs.Input.{input}
-use Rattle.figures.proofs.Opened.{largest, small}
+use Rattle.opening.proofs.Held.{largest-opened, small-opened}
 use Rattle.figures.proofs.ask.Statement.{statement}
 use Rattle.figures.proofs.ask.Tie as tie
 
-abbrev f : tie.Start → Input
-f s = input (s .args .kept .now) (s .args .more)
+returns : tie.Need-returns
+returns c = c .asked .ensures _ (largest-opened (c .before .before .before .of .ensures))
 
-asked-requires : tie.Need-asked-requires
-asked-requires c κs = largest _
-
-asked-requires-2 : tie.Need-asked-requires-2
-asked-requires-2 c κs =
-    let e = c .before in
-    let g = f (e .before .before .before) in
-    let short : 8 * blockSize < inputLength g → ⊥ = fails (8 * blockSize < inputLength g) (e .before .long .ensures) (e .if1 .left) in
-    small g (omega arith)
+returns-2 : tie.Need-returns-2
+returns-2 c =
+    let read = c .before .before .before in
+    let short = read .before .before in
+    c .asked2 .ensures _ (small-opened (short .before .long .ensures) (short .if1 .left) (read .of2 .ensures))
 
 pub ask-spec : {M : Type 1} → statement M
 ask-spec =
@@ -27,8 +18,12 @@ ask-spec =
     (tie.spec
     (λ c κs. search needs)
     (λ c. search needs)
-    asked-requires
+    (λ c κs. search needs)
     (λ c. search needs)
+    (λ c κs. search needs)
+    returns
     (λ c. search needs)
-    asked-requires-2
-    (λ c. search needs))
+    (λ c κs. search needs)
+    (λ c. search needs)
+    (λ c κs. search needs)
+    returns-2)

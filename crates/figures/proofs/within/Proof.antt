@@ -1,76 +1,29 @@
-use mathlib.Core.Path.{refl, sym}
-use native.Mathlib.Omega.{arith}
-use lib.Seq.{length-take-le}
 use borrow.Author.Needs.{needs}
-use Rattle.meaning.specs.Block.{Input}
-use Rattle.meaning.specs.File.{Tables}
-use Rattle.meaning.specs.Within.{FileWithin}
-use Rattle.chainfile.specs.Input.{input}
-use Rattle.chainfile.specs.Tells.{tables}
-use Rattle.figures.proofs.Opened.{Opened, largest, file-refused, file-opened}
-use Rattle.figures.proofs.Rounds.{refused-within, asked-within}
+use Rattle.opening.proofs.Held.{largest-opened, small-opened}
 use Rattle.figures.proofs.within.Statement.{statement}
 use Rattle.figures.proofs.within.Tie as tie
 
-abbrev start : tie.After-open-file → tie.Start
-start r = r .before .before .before .before .before .before .before
-
-abbrev f : tie.Start → Input
-f s = input (s .args .kept .now) (s .args .more)
-
-abbrev after : tie.After-open-file → Tables
-after r = let t = r .open-file .last .1 .1 in tables (t .0) (t .1 .0) (t .1 .1 .0) (t .1 .1 .1 .0)
-
--- Where the file was read, before each of the two cases.
-abbrev accepted-at : tie.After-known-told2 → tie.After-open-file
-accepted-at c = c .before .before .before .before .before .before .before
-
-opening : (c : tie.After-known-told2) → Opened (f (start (accepted-at c))) (c .before .chain .given .0 .0) (c .before .chain .given .0 .1 .0) (after (accepted-at c))
-opening c = file-opened (largest _) (accepted-at c .open-file .ensures) (c .before .chain .given .1)
-
-mul-e : tie.Need-mul-e
-mul-e c = omega (arith, opening c .few-edges)
-
-array-share-prefix-denominators : tie.Need-array-share-prefix-denominators
-array-share-prefix-denominators c = opening c .denominators
-
-slice-aggregate-within : tie.Need-slice-aggregate-within
-slice-aggregate-within c = sym (length-take-le _ _ (opening (c .before) .denominators))
-
-array-share-prefix-edges : tie.Need-array-share-prefix-edges
-array-share-prefix-edges c = opening (c .before) .edges
-
-slice-aggregate-within-2 : tie.Need-slice-aggregate-within-2
-slice-aggregate-within-2 c = sym (length-take-le _ _ (opening (c .before .before) .edges))
-
 returns : tie.Need-returns
-returns c = record { outcome = FileWithin.many-steps (search needs) refl; proper = search needs }
+returns c = c .within .ensures _ (largest-opened (c .before .before .before .of .ensures))
 
 returns-2 : tie.Need-returns-2
 returns-2 c =
-    let at = c .before .before .before .before .before .before .before in
-    refused-within (search needs) (file-refused (largest _) (at .open-file .ensures) (c .before .number .given .1))
-
-returns-3 : tie.Need-returns-3
-returns-3 c = asked-within (opening (c .before .before .before) .holds) (c .within .ensures)
+    let read = c .before .before .before in
+    let short = read .before .before in
+    c .within2 .ensures _ (small-opened (short .before .long .ensures) (short .if1 .left) (read .of2 .ensures))
 
 pub within-spec : {M : Type 1} → statement M
 within-spec =
     tie.close
     (tie.spec
+    (λ c κs. search needs)
+    (λ c. search needs)
+    (λ c κs. search needs)
+    (λ c. search needs)
+    (λ c κs. search needs)
     returns
     (λ c. search needs)
-    (λ c. search needs)
-    (λ c. search needs)
-    (λ c. search needs)
     (λ c κs. search needs)
     (λ c. search needs)
-    (λ c. search needs)
-    mul-e
-    array-share-prefix-denominators
-    slice-aggregate-within
-    array-share-prefix-edges
-    slice-aggregate-within-2
     (λ c κs. search needs)
-    returns-2
-    returns-3)
+    returns-2)

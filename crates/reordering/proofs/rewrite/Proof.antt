@@ -7,13 +7,13 @@ use Rattle.reordering.proofs.rewrite.Tie as tie
 returns : tie.Need-returns
 returns c =
     let choose = c .before .before .before .before .before in
-    λ f b h. choice-refuses b h _ (choose .before .before .before .before .before .before .before .pre) (choose .choose .ensures) (c .before .number .given .1)
+    λ f order b h l. choice-refuses b h _ l _ (choose .before .before .before .before .before .before .before .pre) (choose .choose .ensures) (c .before .number .given .1)
 
 returns-2 : tie.Need-returns-2
 returns-2 c =
     let choose = c .before .before .before .before .before .before .before .before .before in
-    λ f b h.
-    choice-written b h _ (choose .before .before .before .before .before .before .before .pre) (choose .choose .ensures) (c .before .before .before .before .before .enum-told .given .1) (c .before .before .write .ensures)
+    λ f order b h l.
+    choice-written b h _ l _ (choose .before .before .before .before .before .before .before .pre) (choose .choose .ensures) (c .before .before .before .before .before .enum-told .given .1) (c .before .before .write .ensures)
 
 pub rewrite-spec : {M : Type 1} → statement M
 rewrite-spec =

@@ -14,7 +14,7 @@ use Rattle.equations.specs.Told.{Withins}
 use Rattle.equations.specs.declared.Parts.{Parts}
 use Rattle.equations.specs.declared.Parts.the-variants.{Refused}
 use Rattle.equations.proofs.Unique.{told-one}
-use Rattle.figures.specs.Found.{Holds}
+use Rattle.opening.specs.Book.{Holds}
 use Rattle.figures.specs.Within.{FileWithins}
 use Rattle.figures.proofs.Outcomes.{bare}
 
