@@ -7,8 +7,10 @@ use mathlib.Core.List.{List, []}
 use native.Mathlib.Omega.{arith}
 use lib.ListN.{length, take, drop, replicate, length-replicate, length-drop}
 use lib.Seq.{take-take}
-use Rattle.meaning.specs.Number.{decides, tabFrom}
-use Rattle.meaning.specs.Chain.{mostStates, edgeSize, edgeNumber}
+use lib.Dec.{ltb}
+use borrow.Author.Tests.{le-ltb}
+use Rattle.meaning.specs.Number.{choose, decides, tabFrom}
+use Rattle.meaning.specs.Chain.{mostStates, edgeSize, edgeCount, edgeNumber}
 use Rattle.meaning.specs.Refusal.{workSize, ownWork}
 use Rattle.meaning.specs.Block.{Input, inputLength, blockSize, demanded, headStates, headEdges, denominatorIn, rewardIn, orderIn}
 use Rattle.meaning.specs.File.{FileRefused, Accepted, denominatorsIn, rewardsIn, ordersIn, edgeIn, edgesIn, Tables, Reading as Numbers, reading}
@@ -77,7 +79,10 @@ module _ (f : Input) (before after : List ℕ) (r : Opening) (fits : Fits f (len
       let part : (from : ℕ) → take (b .chain .states) (drop from after) ≡ take (b .chain .states) (statesPart from after) =
       λ from. sym (take-take (b .chain .states) mostStates (drop from after) (omega arith)) in
       let fd = part 0 ∙ at (denominatorsIn f) _ _ (size (denominatorIn f)) (ap (λ (t : Tables). t .denominators) d) .1 in
-      let fe = at (edgesIn f) _ _ (ap (λ k. edgeSize * k) en ∙ sym (tab-length 0 (edgeSize * headEdges f) (edgeNumber (edgeIn f)))) (ap (λ (t : Tables). t .edges) d) .1 in
+      let fe = at (edgesIn f) _ _ (ap (λ k. edgeSize * k) en ∙ sym (tab-length 0 (edgeSize * headEdges f) (edgeNumber (edgeIn f)))) (ap (λ (t : Tables). t .edges) d) in
+      let long = fe .0 in
+      let there : ltb (edgeCount (drop edgesAt after)) (b .edges) ≡ false = le-ltb (edgeCount (drop edgesAt after)) (b .edges) (omega (arith, long)) in
+      let edges : edgesOf b after ≡ edgesIn f = ap (λ t. choose t [] (take (edgeSize * b .edges) (drop edgesAt after))) there ∙ fe .1 in
       let fo = part mostStates ∙ at (ordersIn f) _ _ (size (orderIn f)) (ap (λ (t : Tables). t .order) d) .1 in
       let fr = part (2 * mostStates) ∙ at (rewardsIn f) _ _ (size (rewardIn f)) (ap (λ (t : Tables). t .rewards) d) .1 in
       record {
@@ -96,7 +101,7 @@ module _ (f : Input) (before after : List ℕ) (r : Opening) (fits : Fits f (len
                           start = ap (λ (a : Numbers). a .start) z i;
                           goals = ap (λ (a : Numbers). a .goals) z i;
                           denominators = fd i;
-                          edges = fe i;
+                          edges = edges i;
                         };
                     order = fo i;
                     rewards = fr i;

@@ -3,7 +3,9 @@ use Prim.Native.Nat.{ℕ, _*_, _≤_}
 use mathlib.Core.Path.{_≡_}
 use mathlib.Core.List.{List, []}
 use lib.ListN.{take, drop}
-use Rattle.meaning.specs.Chain.{mostStates, mostEdges, edgeSize}
+use lib.Dec.{ltb}
+use Rattle.meaning.specs.Number.{choose}
+use Rattle.meaning.specs.Chain.{mostStates, mostEdges, edgeSize, edgeCount}
 use Rattle.meaning.specs.Refusal.{ownWork}
 use Rattle.meaning.specs.Block.{Input, headEdges}
 use Rattle.meaning.specs.File.{FileRefused, Accepted, paidIn}
@@ -23,8 +25,10 @@ orderOf b table = take (b .chain .states) (drop mostStates table)
 abbrev pub rewardsOf : Book → List ℕ → List ℕ
 rewardsOf b table = take (b .chain .states) (drop (2 * mostStates) table)
 
+-- None where the table has not so many.
 abbrev pub edgesOf : Book → List ℕ → List ℕ
-edgesOf b table = take (edgeSize * b .edges) (drop edgesAt table)
+edgesOf b table =
+    let rest = drop edgesAt table in choose (ltb (edgeCount rest) (b .edges)) [] (take (edgeSize * b .edges) rest)
 
 -- The input is accepted, and these are its chain and tables.
 pub record Holds (f : Input) (c : Frame) (denominators edges order rewards : List ℕ) : Type 0 where
