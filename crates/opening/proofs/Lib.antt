@@ -1,3 +1,4 @@
 pub mod Placing
 pub mod Reading
 pub mod Held
+pub mod Unique
