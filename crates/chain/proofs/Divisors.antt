@@ -16,8 +16,7 @@ use Rattle.theory.specs.Numbers.Sum.{same, below}
 use Rattle.theory.specs.Numbers.Gcd.{gcd-greatest, greatest-one, gcd-zero, gcd-step}
 use Rattle.theory.specs.Numbers.Shift.{pow-whole}
 use Rattle.theory.specs.Numbers.Twos.{gcd-scale, odd-twos}
-use Rattle.theory.specs.Numbers.Bits.{in-one}
-use Rattle.theory.specs.Chains.Sets.{bits-same}
+use Rattle.theory.specs.Numbers.Bits.{in-one, bits-same}
 use Rattle.chain.specs.Rising.{Lowest, Others}
 use Rattle.chain.proofs.Lowest.{gcdOf-more, gcd-one}
 use Rattle.chain.proofs.Rising.{zeros-below, one-at}

@@ -10,7 +10,7 @@ use Rattle.meaning.specs.Chain.{mostStates}
 use Rattle.meaning.specs.Number.{bit}
 use Rattle.theory.specs.Numbers.Sum.{same}
 use Rattle.theory.specs.Numbers.Twos.{twos}
-use Rattle.theory.specs.Chains.Sets.{bit-zero, bit-suc}
+use Rattle.theory.specs.Numbers.Bits.{bit-zero, bit-suc}
 use Rattle.chain.specs.Rising.{Lowest}
 
 -- The set of one of the states.

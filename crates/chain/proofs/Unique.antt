@@ -6,7 +6,7 @@ use mathlib.Core.Bool.{Bool, true, false}
 use native.Mathlib.Omega.{arith}
 use lib.Count.{trailingZeros}
 use Rattle.theory.specs.Numbers.Sum.{same, below}
-use Rattle.theory.specs.Chains.Sets.{bits-same}
+use Rattle.theory.specs.Numbers.Bits.{bits-same}
 use Rattle.meaning.specs.Number.{decides}
 use Rattle.chain.specs.Reduce.{Common}
 use Rattle.chain.specs.Rising.{Lowest, Others}

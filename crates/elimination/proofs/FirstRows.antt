@@ -18,8 +18,7 @@ use Rattle.meaning.specs.Step.{row, Sets, RightTo, given, firstRow, noRow, firs
 use Rattle.meaning.specs.Refusal.{Lent, Entry, workSize, WellFormed}
 use Rattle.theory.specs.Numbers.Sum.{same, below, sum-ext, sum-zero, sum-term}
 use Rattle.theory.specs.Numbers.Tab.{tab-ext}
-use Rattle.theory.specs.Numbers.Bits.{set-apart}
-use Rattle.theory.specs.Chains.Sets.{bit-below}
+use Rattle.theory.specs.Numbers.Bits.{set-apart, bit-below}
 use Rattle.theory.specs.Chains.Fine.{reached-to}
 use Rattle.theory.specs.Chains.Flow.{flow-ext}
 use Rattle.theory.specs.Stages.Given.{Fate, LiveRow, goes-on, given-state, given-goal, given-trap, given-unknown, given-reward, given-length, given-whole}

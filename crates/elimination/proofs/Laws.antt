@@ -17,8 +17,7 @@ use Rattle.meaning.specs.Row.{Row, cell, width, over, unknownColumn, rewardColu
 use Rattle.meaning.specs.Step.{noRow}
 use Rattle.theory.specs.Numbers.Tab.{getD-zeros}
 use Rattle.theory.specs.Numbers.Sum.{same, below, sum-term}
-use Rattle.theory.specs.Chains.Sets.{bits-same}
-use Rattle.theory.specs.Numbers.Bits.{in-either, set-below}
+use Rattle.theory.specs.Numbers.Bits.{bits-same, in-either, set-below}
 use Rattle.chain.specs.Rising.{placeOf}
 use Rattle.elimination.specs.Packed.{targetsOf, unknownAt, weightsAt, endOfPart, weightOf, unpacked, Below, Packed, Modest, Room}
 use Rattle.elimination.specs.Row.{Small, Fit}

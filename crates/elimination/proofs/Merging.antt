@@ -16,8 +16,7 @@ use Rattle.meaning.specs.Chain.{mostStates}
 use Rattle.meaning.specs.Number.{choose, bit, tabFrom}
 use Rattle.meaning.specs.Row.{cell, width}
 use Rattle.meaning.specs.Step.{combined}
-use Rattle.theory.specs.Chains.Sets.{bit-below}
-use Rattle.theory.specs.Numbers.Bits.{in-either}
+use Rattle.theory.specs.Numbers.Bits.{bit-below, in-either}
 use Rattle.theory.specs.Numbers.Sum.{below}
 use Rattle.theory.specs.Numbers.Tab.{getD-zeros}
 use Rattle.chain.specs.Rising.{placeOf}

@@ -11,7 +11,7 @@ use Rattle.meaning.specs.Block.{Input}
 use Rattle.meaning.specs.File.{plainIn, paidIn, bareIn}
 use Rattle.meaning.specs.Steps.{StepRecord}
 use Rattle.meaning.specs.FileSteps.{FileSteps, file-refused, asked}
-use Rattle.theory.specs.Chains.Counted.{survey-one}
+use Rattle.theory.specs.Outcomes.Surveyed.{survey-one}
 use Rattle.theory.specs.Outcomes.Entries.{chance-determined, reward-determined, bounds-determined}
 use Rattle.theory.specs.Files.FileOne.{file-one, file-numbers, accepted-unrefused}
 use Rattle.theory.specs.Files.StepsOne.{file-steps-one}

@@ -11,7 +11,8 @@ use Rattle.meaning.specs.Refusal.{Lent, bareOf, EndFault, Applies, Refused, Wel
 use Rattle.meaning.specs.Survey.{Survey as Numbers, noSurvey, SurveyOutcome, refused, surveyed}
 use Rattle.theory.specs.Outcomes.Formed.{few-states, goals-in, start-in, from-in, to-in}
 use Rattle.theory.specs.Numbers.Bits.{set-below}
-use Rattle.theory.specs.Chains.Counted.{count-ones, goals-some, survey-one}
+use Rattle.theory.specs.Chains.Counted.{count-ones}
+use Rattle.theory.specs.Outcomes.Surveyed.{goals-some, survey-one}
 use Rattle.meaning.specs.Number.{decides}
 use Rattle.survey.specs.Sets.{setsOf, Known}
 use Rattle.survey.specs.Told.{told}

@@ -5,7 +5,6 @@ pub mod Shares
 pub mod Earnings
 pub mod Unique
 pub mod Below
-pub mod Existence
 pub mod Surely
 pub mod Compared
 pub mod Moved

@@ -1,4 +1,4 @@
--- Chain files, the report, the step list and the calls from C: one outcome each; and what damage to a file meets.
+-- Chain files, the report, the step list and the calls from C: one outcome each; what damage to a file meets; and the cases worked by hand, of chains and of files.
 pub mod Fletcher
 pub mod Sums
 pub mod Head
@@ -29,3 +29,4 @@ pub mod CallRead
 pub mod CallBounds
 pub mod CallFile
 pub mod Reorder
+pub mod Listed

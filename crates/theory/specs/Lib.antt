@@ -9,9 +9,9 @@ pub mod Figures
 pub mod Rows
 -- The table, from the first rows to the last: what each step keeps, and what the last row says.
 pub mod Stages
--- From a well-formed input to the answer: every entry has one outcome, and what it is held to; the chains worked by hand.
+-- From a well-formed input to the answer: every entry has one outcome, and what it is held to.
 pub mod Outcomes
--- Chain files, the report, the step list and the calls from C: one outcome each; and what damage to a file meets.
+-- Chain files, the report, the step list and the calls from C: one outcome each; what damage to a file meets; and the cases worked by hand, of chains and of files.
 pub mod Files
 -- Planning copies: the chain of a plan is well formed, and the planner's answer is one.
 pub mod Plans

@@ -1,5 +1,6 @@
--- From a well-formed input to the answer: every entry has one outcome, and what it is held to; the chains worked by hand.
+-- From a well-formed input to the answer: every entry has one outcome, and what it is held to.
 pub mod Formed
+pub mod Existence
 pub mod OwnWork
 pub mod LeftFormed
 pub mod Bare
@@ -11,6 +12,7 @@ pub mod Whole
 pub mod Outside
 pub mod Computed
 pub mod Determined
+pub mod Surveyed
 pub mod Entries
 pub mod DemandTwo
 pub mod DemandThree
@@ -37,4 +39,3 @@ pub mod Band
 pub mod Line
 pub mod EdgeRewards
 pub mod OldRewards
-pub mod Listed

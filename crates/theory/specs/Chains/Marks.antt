@@ -11,7 +11,8 @@ use Rattle.meaning.specs.Number.{choose, bit}
 use Rattle.meaning.specs.Chain.{Chain, edgeCount, from, to, PathTo, ToGoal, FromStart, Live}
 use Rattle.meaning.specs.Step.{Sets, Right}
 use Rattle.theory.specs.Numbers.Sum.{same, last-or-below}
-use Rattle.theory.specs.Chains.Sets.{packed, packed-set, bit-zero, bit-suc, bit-below}
+use Rattle.theory.specs.Chains.Sets.{packed, packed-set}
+use Rattle.theory.specs.Numbers.Bits.{bit-zero, bit-suc, bit-below}
 
 -- Whether i is in the set s.
 abbrev pub has : ℕ → ℕ → Bool

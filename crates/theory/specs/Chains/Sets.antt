@@ -4,33 +4,18 @@ use mathlib.Core.Path.{_≡_, refl, sym, _∙_}
 use mathlib.Core.Logic.{_↔_, ⊎-elim}
 use mathlib.Core.Bool.{Bool, true, false}
 use native.Mathlib.Omega.{arith}
-use native.Mathlib.Nat.{div-one, div-div-eq-div-mul, pow-succ', div-eq-of-lt, pow-le-pow-right, zero-div}
+use native.Mathlib.Nat.{zero-div}
 use Rattle.meaning.specs.Number.{only, bit}
 use Rattle.meaning.specs.Chain.{Chain, edgeCount, from, Goal, PathTo, ToGoal, LiveTo}
 use Rattle.meaning.specs.Step.{Sets, RightTo, Right}
 use Rattle.theory.specs.Numbers.Sum.{same, below}
+use Rattle.theory.specs.Numbers.Bits.{bit-zero, bit-suc, bit-below, bits-same}
 use Rattle.theory.specs.Chains.Path.{test, test-law, decGoal, decPathTo, decLiveTo}
 
 -- The number whose bits, up to n, are the tests.
 unfoldable pub packed : ℕ → (ℕ → Bool) → ℕ
 packed zero f = 0
 packed (suc n) f = only (f 0) 1 + 2 * packed n (λ i. f (suc i))
-
-pub bit-zero : (s : ℕ) → bit s 0 ≡ s % 2
-bit-zero s = rw (div-one s)
-
-pub bit-suc : (s i : ℕ) → bit s (suc i) ≡ bit (s / 2) i
-bit-suc s i = rw (pow-succ' 2 i, div-div-eq-div-mul s 2 (2 ^ i))
-
--- A number below 2 ^ n has no bits from n on.
-pub bit-below : (s n i : ℕ) → s < 2 ^ n → bit s i ≡ 1 → i < n
-bit-below s n i l b =
-    ⊎-elim
-    (λ (h : i < n). h)
-    (λ (h : n ≤ i).
-    let m : 2 ^ n ≤ 2 ^ i = pow-le-pow-right {n = 2} (omega arith) h in
-    absurd (omega (arith, rw (div-eq-of-lt {n = s} {m = 2 ^ i} (omega arith)) at b)))
-    (below i n)
 
 only-low : (b : Bool) (t : ℕ) → (only b 1 + 2 * t) % 2 ≡ only b 1
 only-low true t = omega arith
@@ -55,18 +40,6 @@ unfolding packed
 packed-past zero f i h = rw (zero-div (2 ^ i))
 packed-past (suc n) f zero h = absurd (omega arith)
 packed-past (suc n) f (suc i) h = packed-suc n f i ∙ packed-past n (λ j. f (suc j)) i (omega arith)
-
--- Two numbers with the same bits are one.
-bits-in : (k s t : ℕ) → s ≤ k → t ≤ k → ((i : ℕ) → bit s i ≡ bit t i) → s ≡ t
-bits-in zero s t h l e = omega arith
-bits-in (suc k) s t h l e =
-    let first : s % 2 ≡ t % 2 = sym (bit-zero s) ∙ e 0 ∙ bit-zero t in
-    let rest : s / 2 ≡ t / 2 =
-    bits-in k (s / 2) (t / 2) (omega arith) (omega arith) (λ i. sym (bit-suc s i) ∙ e (suc i) ∙ bit-suc t i) in
-    omega arith
-
-pub bits-same : {s t : ℕ} → ((i : ℕ) → bit s i ≡ bit t i) → s ≡ t
-bits-same {s} {t} e = bits-in (s + t) s t (omega arith) (omega arith) e
 
 -- Two numbers of one set are one.
 pub set-one : (P : ℕ → Type 0) (s t : ℕ) → ((i : ℕ) → (bit s i ≡ 1) ↔ P i) → ((i : ℕ) → (bit t i ≡ 1) ↔ P i) → s ≡ t

@@ -1,15 +1,45 @@
--- Laws of the bits of a number that is made from others.
+-- Laws of the bits of a number, and of one that is made from others.
 use Prim.Native.Nat.{ℕ, zero, suc, _+_, _*_, _/_, _%_, _^_, _≤_, _<_, min, max}
 use mathlib.Core.Path.{_≡_, refl, sym, _∙_}
 use mathlib.Core.Logic.{_⊎_, inl, inr, _↔_, ⊎-elim}
 use native.Mathlib.Omega.{arith}
-use native.Mathlib.Nat.{pow-succ', zero-div, mod-eq-of-lt, one-mul}
+use native.Mathlib.Nat.{pow-succ', pow-le-pow-right, div-one, div-div-eq-div-mul, div-eq-of-lt, zero-div, mod-lt, mod-eq-of-lt, one-mul}
 use lib.Bits.{bitAnd, bitOr, bitXor, differ, and-shr, or-shr, xor-shr, and-step, or-step, xor-step}
 use lib.Pow.{pow-lt}
 use Rattle.meaning.specs.Number.{bit}
 use Rattle.meaning.specs.Chain.{mostStates}
-use Rattle.theory.specs.Numbers.Sum.{same}
-use Rattle.theory.specs.Chains.Sets.{bit-zero, bit-suc, bit-below, bits-same}
+use Rattle.theory.specs.Numbers.Sum.{same, below}
+
+pub bit-zero : (s : ℕ) → bit s 0 ≡ s % 2
+bit-zero s = rw (div-one s)
+
+pub bit-suc : (s i : ℕ) → bit s (suc i) ≡ bit (s / 2) i
+bit-suc s i = rw (pow-succ' 2 i, div-div-eq-div-mul s 2 (2 ^ i))
+
+-- A number below 2 ^ n has no bits from n on.
+pub bit-below : (s n i : ℕ) → s < 2 ^ n → bit s i ≡ 1 → i < n
+bit-below s n i l b =
+    ⊎-elim
+    (λ (h : i < n). h)
+    (λ (h : n ≤ i).
+    let m : 2 ^ n ≤ 2 ^ i = pow-le-pow-right {n = 2} (omega arith) h in
+    absurd (omega (arith, rw (div-eq-of-lt {n = s} {m = 2 ^ i} (omega arith)) at b)))
+    (below i n)
+
+-- Two numbers with the same bits are one.
+bits-in : (k s t : ℕ) → s ≤ k → t ≤ k → ((i : ℕ) → bit s i ≡ bit t i) → s ≡ t
+bits-in zero s t h l e = omega arith
+bits-in (suc k) s t h l e =
+    let first : s % 2 ≡ t % 2 = sym (bit-zero s) ∙ e 0 ∙ bit-zero t in
+    let rest : s / 2 ≡ t / 2 =
+    bits-in k (s / 2) (t / 2) (omega arith) (omega arith) (λ i. sym (bit-suc s i) ∙ e (suc i) ∙ bit-suc t i) in
+    omega arith
+
+pub bits-same : {s t : ℕ} → ((i : ℕ) → bit s i ≡ bit t i) → s ≡ t
+bits-same {s} {t} e = bits-in (s + t) s t (omega arith) (omega arith) e
+
+pub bit-small : (s i : ℕ) → bit s i < 2
+bit-small s i = mod-lt (s / 2 ^ i) (omega arith)
 
 -- The last digit of a number that is given by its digits.
 digit : (x r c : ℕ) → x ≡ r * 2 + c → c < 2 → x % 2 ≡ c

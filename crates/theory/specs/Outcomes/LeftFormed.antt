@@ -13,7 +13,8 @@ use Rattle.meaning.specs.Left.{shortRows}
 use Rattle.theory.specs.Numbers.Search.{either}
 use Rattle.theory.specs.Numbers.Sum.{below}
 use Rattle.theory.specs.Chains.Path.{decGoal}
-use Rattle.theory.specs.Chains.Sets.{bit-below, right-to-exists}
+use Rattle.theory.specs.Chains.Sets.{right-to-exists}
+use Rattle.theory.specs.Numbers.Bits.{bit-below}
 use Rattle.theory.specs.Outcomes.Formed.{denominators-length, goals-in, from-in}
 
 module _ (l : Lent) (formed : WellFormed shortRows l) where

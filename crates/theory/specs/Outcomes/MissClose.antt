@@ -18,7 +18,7 @@ use Rattle.theory.specs.Numbers.Sum.{same, below}
 use Rattle.theory.specs.Numbers.Sure.{quotient, twosOf}
 use Rattle.theory.specs.Numbers.Narrow.{quotient-large, narrow-answer, narrow-parts, narrow-apart}
 use Rattle.theory.specs.Chains.Sets.{right-one}
-use Rattle.theory.specs.Figures.Existence.{chance-is-there}
+use Rattle.theory.specs.Outcomes.Existence.{chance-is-there}
 use Rattle.theory.specs.Figures.Surely.{chance-sure}
 use Rattle.theory.specs.Figures.Unique.{chance-one}
 use Rattle.theory.specs.Stages.Last.{Prepared}

@@ -12,7 +12,7 @@ use Rattle.meaning.specs.Near.{nearOutside, nearStage, rowsMade, Near, nearLive
 use Rattle.theory.specs.Numbers.Sure.{quotient, twosOf}
 use Rattle.theory.specs.Numbers.Narrow.{quotient-large, narrow-answer, narrow-parts, narrow-apart}
 use Rattle.theory.specs.Chains.Sets.{right-one}
-use Rattle.theory.specs.Figures.Existence.{chance-is-there}
+use Rattle.theory.specs.Outcomes.Existence.{chance-is-there}
 use Rattle.theory.specs.Stages.Last.{Prepared}
 use Rattle.theory.specs.Stages.NearLast.{rows-most, last-goal, last-some, last-twice}
 use Rattle.theory.specs.Outcomes.Formed.{few-states}

@@ -1,6 +1,6 @@
 -- The planner's answer is one; and one copy with loss 1 and finish 3 is 1/4, whatever the rebuild.
 use Prim.Native.Nat.{ℕ, zero, suc, _≤_, _<_}
-use mathlib.Core.Path.{_≡_, refl, sym, ap, ap₂, _∙_}
+use mathlib.Core.Path.{_≡_, refl, sym, ap₂, _∙_}
 use mathlib.Core.Logic.{inl, inr}
 use mathlib.Core.List.{List, List·Memᴰ·head}
 use native.Mathlib.Omega.{arith}
@@ -11,7 +11,7 @@ use Rattle.meaning.specs.Cases.{Case, oneCopy}
 use Rattle.theory.specs.Outcomes.Determined.{meet}
 use Rattle.theory.specs.Outcomes.Formed.{formed-fine}
 use Rattle.theory.specs.Outcomes.DemandTwo.{chance-is, chance-refuses}
-use Rattle.theory.specs.Outcomes.Listed.{cases-hold}
+use Rattle.theory.specs.Files.Listed.{cases-hold}
 use Rattle.theory.specs.Figures.Unique.{chance-one}
 use Rattle.theory.specs.Plans.Formed.{copies-plain}
 

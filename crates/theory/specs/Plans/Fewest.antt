@@ -1,20 +1,18 @@
 -- What is said of the fewest copies holds: it is one answer; that many copies or more keep the limit, and below the first that is open all break it.
-use Prim.Native.Nat.{ℕ, _+_, _-_, _*_, _^_, _≤_, _<_}
-use mathlib.Core.Path.{_≡_, refl, sym, ap, ap₂, subst, _∙_}
-use mathlib.Core.Logic.{_↔_, _⊎_, inl, inr, ⊎-elim}
-use mathlib.Core.List.{List}
+use Prim.Native.Nat.{ℕ, _+_, _-_, _^_, _≤_, _<_}
+use mathlib.Core.Path.{_≡_, refl, sym, _∙_}
+use mathlib.Core.Logic.{_↔_, ⊎-elim}
 use native.Mathlib.Omega.{arith}
-use native.Mathlib.Nat.{mul-le-mul-right, le-of-mul-le-mul-left}
 use Rattle.meaning.specs.Figure.{Chance}
-use Rattle.meaning.specs.Refusal.{Lent, plain}
+use Rattle.meaning.specs.Refusal.{plain}
 use Rattle.meaning.specs.Near.{Near}
 use Rattle.meaning.specs.Copies.{Plan, mostCopies, Sensible, copiesChain, copiesLent}
 use Rattle.meaning.specs.Limit.{Limit}
-use Rattle.meaning.specs.FileLimit.{Verdict, kept, broken, undecided}
+use Rattle.meaning.specs.FileLimit.{Verdict, kept, broken}
 use Rattle.meaning.specs.PlanTable.{Weights, withCopies}
 use Rattle.meaning.specs.Fewest.{PlanVerdict, Verdicts, Fewest}
 use Rattle.theory.specs.Numbers.Sum.{below}
-use Rattle.theory.specs.Figures.Existence.{chance-is-there}
+use Rattle.theory.specs.Outcomes.Existence.{chance-is-there}
 use Rattle.theory.specs.Limits.Verdict.{Within, verdict-kept, verdict-broken, within-below}
 use Rattle.theory.specs.Plans.Formed.{copies-plain}
 use Rattle.theory.specs.Plans.More.{answered, more-copies-most}

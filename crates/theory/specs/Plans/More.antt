@@ -15,7 +15,7 @@ use Rattle.theory.specs.Numbers.Sum.{below}
 use Rattle.theory.specs.Numbers.Bits.{in-one}
 use Rattle.theory.specs.Numbers.Tab.{tab-at}
 use Rattle.theory.specs.Outcomes.Formed.{formed-fine}
-use Rattle.theory.specs.Figures.Existence.{chances-exist}
+use Rattle.theory.specs.Outcomes.Existence.{chances-exist}
 use Rattle.theory.specs.Figures.Unique.{chance-one}
 use Rattle.theory.specs.Plans.Kinds.{Kind, loses, rebuilt, ends, empty, done, kind, losing, copies-count}
 use Rattle.theory.specs.Plans.Sums.{flow-between, flow-full}

@@ -11,7 +11,7 @@ use Rattle.meaning.specs.Figure.{Chance}
 use Rattle.meaning.specs.Refusal.{Lent, bare, WellFormed}
 use Rattle.meaning.specs.Within.{mostSteps, allParts, held, common, reachedIn, Within, noWithin, within, WithinOutcome, many-steps, refused, answered}
 use Rattle.theory.specs.Numbers.Sum.{below}
-use Rattle.theory.specs.Figures.Existence.{chances-exist}
+use Rattle.theory.specs.Outcomes.Existence.{chances-exist}
 use Rattle.theory.specs.Outcomes.Formed.{formed-fine, start-in}
 use Rattle.theory.specs.Outcomes.Look.{LookResult, look}
 use Rattle.theory.specs.Outcomes.Determined.{refused-one, refused-unformed}

@@ -7,7 +7,7 @@ use Rattle.meaning.specs.Number.{sumTo}
 use Rattle.meaning.specs.Row.{Row, cell, total}
 use Rattle.theory.specs.Numbers.Sum.{same, below, sum-ext, sum-add, sum-scale, sum-next}
 use Rattle.theory.specs.Rows.Relation.{worth, AtMostRow, AtLeastRow}
-use Rattle.theory.specs.Stages.Given.{Columns}
+use Rattle.theory.specs.Rows.Columns.{Columns}
 
 -- Values and what is left of them to d.
 pub record Flips (n d : ℕ) (v w : ℕ → ℕ) : Type 0 where

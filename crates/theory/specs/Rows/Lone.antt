@@ -6,7 +6,7 @@ use Rattle.meaning.specs.Row.{Row, cell, total}
 use Rattle.meaning.specs.Step.{outside}
 use Rattle.theory.specs.Numbers.Sum.{sum-next, sum-alone}
 use Rattle.theory.specs.Rows.Relation.{worth, AtMostRow, AtLeastRow}
-use Rattle.theory.specs.Stages.Given.{Columns}
+use Rattle.theory.specs.Rows.Columns.{Columns}
 
 -- A row whose weight goes to its own state s, and to no other state.
 module _ (n s : ℕ) (r : Row) (here : s < n) (alone : (j : ℕ) → j < n → (j ≡ s → ⊥) → cell r j ≡ 0) where

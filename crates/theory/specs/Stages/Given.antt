@@ -1,14 +1,14 @@
 -- The row of a live state as the chain gives it: its columns, and what it says of the chances and of the rewards.
-use Prim.Native.Nat.{ℕ, _+_, _*_, _-_, _/_, _^_, _<_}
+use Prim.Native.Nat.{ℕ, _+_, _*_, _-_, _<_}
 use mathlib.Core.Path.{_≡_, refl, sym, ap, subst, _∙_}
 use mathlib.Core.Logic.{⊎-elim}
 use mathlib.Core.Bool.{Bool, true, false}
 use native.Mathlib.Omega.{arith}
-use native.Mathlib.Nat.{mod-lt, mul-zero}
-use lib.Dec.{eqb, ltb}
+use native.Mathlib.Nat.{mul-zero}
+use lib.Dec.{eqb}
 use lib.ListN.{length}
 use borrow.Author.Tests.{eq-eqb, ne-eqb, lt-ltb, le-ltb}
-use Rattle.meaning.specs.Number.{sumTo, only, choose, bit}
+use Rattle.meaning.specs.Number.{sumTo, only, bit}
 use Rattle.meaning.specs.Chain.{Chain, denominator, edgeCount, from, to, along, Goal, PathTo, FromStart, LiveTo}
 use Rattle.meaning.specs.Figure.{Shares, Missed, Earns}
 use Rattle.meaning.specs.Row.{Row, cell, total}
@@ -16,40 +16,14 @@ use Rattle.meaning.specs.Step.{Sets, RightTo, Right, given}
 use Rattle.theory.specs.Numbers.Sum.{same, sum-ext, sum-one, sum-next}
 use Rattle.theory.specs.Numbers.Tab.{tab-at, tab-length}
 use Rattle.theory.specs.Chains.Fine.{Fine, FineTo, fine-whole}
+use Rattle.theory.specs.Numbers.Bits.{bit-small}
 use Rattle.theory.specs.Rows.Relation.{worth, ones}
+use Rattle.theory.specs.Rows.Columns.{Columns}
 use Rattle.theory.specs.Chains.Flow.{flow-ext, flow-add, flow-scale, flow-swap}
 
 -- A live state by the sets.
 abbrev pub LiveRow : Chain → Sets → ℕ → Type 0
 LiveRow c k i = (i < c .states) × (bit (k .live) i ≡ 1)
-
--- What the columns are worth: the states, then Goal, Trap, Unknown and Reward.
-pub record Columns (n : ℕ) (x : ℕ → ℕ) (g t u w : ℕ) (v : ℕ → ℕ) : Type 0 where
-  pub state : (j : ℕ) → j < n → v j ≡ x j
-  pub goal : v n ≡ g
-  pub trap : v (n + 1) ≡ t
-  pub unknown : v (n + 2) ≡ u
-  pub paid : v (n + 3) ≡ w
-
-pub columns : ℕ → (ℕ → ℕ) → ℕ → ℕ → ℕ → ℕ → ℕ → ℕ
-columns n x g t u w j =
-    choose (ltb j n) (x j) (choose (eqb j n) g (choose (eqb j (n + 1)) t (choose (eqb j (n + 2)) u w)))
-
-pub columns-are : (n : ℕ) (x : ℕ → ℕ) (g t u w : ℕ) → Columns n x g t u w (columns n x g t u w)
-unfolding columns
-columns-are n x g t u w =
-    record {
-      state = λ j h. rw (lt-ltb j n h);
-      goal = rw (le-ltb n n (omega arith), eq-eqb n n refl);
-      trap = rw (le-ltb (n + 1) n (omega arith), ne-eqb (n + 1) n (omega arith), eq-eqb (n + 1) (n + 1) refl);
-      unknown =
-          rw (le-ltb (n + 2) n (omega arith), ne-eqb (n + 2) n (omega arith), ne-eqb (n + 2) (n + 1) (omega arith), eq-eqb (n + 2) (n + 2) refl);
-      paid =
-          rw (le-ltb (n + 3) n (omega arith), ne-eqb (n + 3) n (omega arith), ne-eqb (n + 3) (n + 1) (omega arith), ne-eqb (n + 3) (n + 2) (omega arith));
-    }
-
-pub bit-small : (s i : ℕ) → bit s i < 2
-bit-small s i = mod-lt (s / 2 ^ i) (omega arith)
 
 -- What becomes of a state that is reached: it is live, or a goal, or can only miss.
 pub data Fate (c : Chain) (k : Sets) (t : ℕ) : Type 0 where

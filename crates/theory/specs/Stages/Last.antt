@@ -16,7 +16,8 @@ use Rattle.theory.specs.Rows.Relation.{worth, AtMostRow, AtLeastRow}
 use Rattle.theory.specs.Stages.Leads.{Sound}
 use Rattle.theory.specs.Stages.Removal.{steady-least, steady-most, steady-known}
 use Rattle.theory.specs.Chains.Fine.{Fine, FineTo, fine-whole}
-use Rattle.theory.specs.Stages.Given.{LiveRow, Columns, columns, columns-are, given-shares, given-earns}
+use Rattle.theory.specs.Stages.Given.{LiveRow, given-shares, given-earns}
+use Rattle.theory.specs.Rows.Columns.{Columns, columns, columns-are}
 use Rattle.theory.specs.Stages.First.{first-least, first-most, first-known, first-sound}
 use Rattle.theory.specs.Stages.Stage.{StageKept, sound-stage, loose-stage, steady-stage, kept-start, kept-turn, only-start}
 use Rattle.theory.specs.Figures.Below.{share-below}

@@ -16,7 +16,8 @@ use Rattle.theory.specs.Chains.Parted.{Joins}
 use Rattle.theory.specs.Chains.Path.{decToGoal}
 use Rattle.theory.specs.Rows.Relation.{worth}
 use Rattle.theory.specs.Figures.Below.{share-below}
-use Rattle.theory.specs.Stages.Given.{LiveRow, Columns, columns-are, Fate, live, won, lost, fare, given-worth, given-whole, goes-on}
+use Rattle.theory.specs.Stages.Given.{LiveRow, Fate, live, won, lost, fare, given-worth, given-whole, goes-on}
+use Rattle.theory.specs.Rows.Columns.{Columns, columns-are}
 use Rattle.theory.specs.Stages.Last.{PreparedTo, value-least, value-most}
 
 -- The same chain with other edges.

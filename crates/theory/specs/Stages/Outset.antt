@@ -22,7 +22,8 @@ use Rattle.theory.specs.Chains.Fine.{Fine, fine-whole}
 use Rattle.theory.specs.Rows.Relation.{worth}
 use Rattle.theory.specs.Rows.Settle.{settled-zero, one-engine}
 use Rattle.theory.specs.Stages.Leads.{Leads, Sound}
-use Rattle.theory.specs.Stages.Given.{LiveRow, Columns, columns, columns-are, given-state, given-unknown, given-length, given-shares}
+use Rattle.theory.specs.Stages.Given.{LiveRow, given-state, given-unknown, given-length, given-shares}
+use Rattle.theory.specs.Rows.Columns.{Columns, columns, columns-are}
 use Rattle.theory.specs.Stages.Seen.{seen}
 use Rattle.theory.specs.Stages.First.{first-row, first-sound}
 

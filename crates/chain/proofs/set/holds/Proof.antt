@@ -4,7 +4,7 @@ use native.Mathlib.Omega.{arith}
 use borrow.Author.Needs.{needs}
 use borrow.Author.Tests.{ne-eqb}
 use Rattle.meaning.specs.Number.{bit}
-use Rattle.theory.specs.Chains.Sets.{bit-below}
+use Rattle.theory.specs.Numbers.Bits.{bit-below}
 use Rattle.chain.proofs.set.holds.Statement.{statement}
 use Rattle.chain.proofs.set.holds.Tie as tie
 
