@@ -5,7 +5,6 @@ use mathlib.Core.Logic.{_↔_, _⊎_, inl, inr, ⊎-elim}
 use mathlib.Core.Bool.{true, false}
 use mathlib.Core.List.{List}
 use native.Mathlib.Omega.{arith}
-use native.Mathlib.Nat.{zero-div}
 use lib.Bits.{bitAnd, bitOr, bitXor}
 use lib.Dec.{eqb}
 use lib.ListN.{length, getD, set, length-set, replicate, length-replicate}
@@ -14,18 +13,12 @@ use borrow.Author.Tests.{eqb-true, eqb-false}
 use Rattle.meaning.specs.Number.{bit}
 use Rattle.meaning.specs.Chain.{from, to}
 use Rattle.meaning.specs.Step.{Sets}
-use Rattle.theory.specs.Numbers.Bits.{in-first, in-either, in-one}
+use Rattle.theory.specs.Numbers.Bits.{nothing-in, in-first, in-either, in-one}
 use Rattle.theory.specs.Numbers.Sum.{same, last-or-below}
 use Rattle.theory.specs.Numbers.Tab.{getD-zeros}
 use Rattle.theory.specs.Stages.Weighs.{Into, state, goal, trap, Brings, Brought}
 use Rattle.survey.specs.Sets.{Exactly}
 use Rattle.choice.specs.Columns.{columnCount, In, Among, Without, Joined, Carried, Gathered, PassedOn}
-
-pub nothing-in : (i : ℕ) → bit 0 i ≡ 1 → ⊥
-nothing-in i b = omega (arith, rw (zero-div (2 ^ i)) at b)
-
-pub zero-bit : (set i : ℕ) → eqb (bit set i) 1 ≡ false → 0 ≡ bit set i
-zero-bit set i e = let d = eqb-false (bit set i) 1 e in omega (arith, d)
 
 pub without-set : (set i : ℕ) → Exactly (Without set i) (bitXor set (bitAnd set (2 ^ i)))
 without-set set i q = (

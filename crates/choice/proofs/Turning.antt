@@ -20,7 +20,7 @@ use Rattle.choice.specs.Columns.{Weighed, Without, Emptied}
 use Rattle.choice.specs.Turns.{Held, productIn, mostProduct, Picked, Ready, Turned}
 use Rattle.choice.specs.declared.turns.Pick.{Pick}
 use Rattle.choice.specs.declared.turns.Tally.{Tally}
-use Rattle.choice.proofs.Members.{nothing-in}
+use Rattle.theory.specs.Numbers.Bits.{nothing-in}
 use Rattle.choice.proofs.Weights.{weighed-product, weighed-removed}
 
 pub record Turning (c : Chain) (k : Sets) (n p left sum : ℕ) (columns o : List ℕ) : Type 0 where

@@ -23,7 +23,7 @@ use Rattle.theory.specs.Stages.Weighs.{Wide, Brought, first-weighs, removed-wei
 use Rattle.survey.specs.Sets.{Exactly}
 use Rattle.choice.specs.Columns.{In, Weighed, Without, Gathered, columnsIn, rowsIn, PassedOn, Stays, Emptied}
 use Rattle.choice.specs.Turns.{productIn}
-use Rattle.choice.proofs.Members.{nothing-in}
+use Rattle.theory.specs.Numbers.Bits.{nothing-in}
 
 -- A count is a sum of ones.
 count-sum : {P : ℕ → Type 0} (f : ℕ → ℕ) {n m : ℕ} → ((i : ℕ) → P i → f i ≡ 1) → ((i : ℕ) → (P i → ⊥) → f i ≡ 0) → Count P n m → sumTo f n ≡ m

@@ -1,16 +1,15 @@
 -- Laws of a list that grows at the front of a table.
-use Prim.Native.Nat.{ℕ, suc, _+_, _*_, _≤_, _<_}
+use Prim.Native.Nat.{ℕ, _+_, _*_, _≤_, _<_}
 use mathlib.Core.Path.{_≡_, refl, sym, ap, subst, _∙_}
 use mathlib.Core.List.{List, [], _∷_, _++_, append-assoc, append-nil}
 use native.Mathlib.Omega.{arith}
 use native.Mathlib.Numerals.{add-one}
-use lib.ListN.{length, set, take, length-append, length-set, List·getD-append}
-use lib.Seq.{take-suc-set, getD-at}
+use lib.ListN.{length, set, take, length-append, length-set}
+use lib.Seq.{take-suc-set}
 use Rattle.meaning.specs.Number.{tabFrom}
 use Rattle.meaning.specs.Chain.{edgeSize}
 use Rattle.meaning.specs.Copies.{each}
-use Rattle.theory.specs.Numbers.Sum.{last-or-below}
-use Rattle.theory.specs.Numbers.Tab.{tab-at, tab-length, tab-of}
+use Rattle.theory.specs.Numbers.Tab.{tab-more}
 use Rattle.theory.specs.Chains.Joined.{Edges, each-edges}
 use Rattle.copies.specs.Grown.{Grown}
 
@@ -77,19 +76,10 @@ module _ {f : ℕ → ℕ} {before : List ℕ} {n : ℕ} where
     filled-more {after} {v} {next} h e y =
         let z : next ≡ k + 1 = y .past in
         record {
-          grown = subst (λ s. Grown before 0 s after (k + 1)) (tab-more k ∙ ap (λ m. tabFrom 0 m f) (sym (add-one k)))
+          grown = subst (λ s. Grown before 0 s after (k + 1)) (sym (tab-more k f))
               (subst (λ m. Grown before 0 (tabFrom 0 k f ++ (f k ∷ [])) after m) z (grown-more (x .grown) (subst (λ v. Grown middle k (v ∷ []) after next) e y)));
           few = omega arith;
         }
-      where
-        tab-more : (k : ℕ) → tabFrom 0 k f ++ (f k ∷ []) ≡ tabFrom 0 (suc k) f
-        tab-more k =
-            let e = tab-length 0 k f in
-            tab-of 0 (suc k) f (tabFrom 0 k f ++ (f k ∷ [])) (length-append (tabFrom 0 k f) (f k ∷ []) ∙ omega arith)
-            (λ j h.
-            last-or-below h
-            (λ (q : j ≡ k). rw q (getD-at (tabFrom 0 k f) (f k) [] 0 k e))
-            (λ (l : j < k). List·getD-append (tabFrom 0 k f) (f k ∷ []) 0 j (omega arith) ∙ tab-at k f 0 j l))
 
     pub filled-all : n ≤ k → Grown before 0 (tabFrom 0 n f) middle n
     filled-all h = let e : n ≡ k = omega (arith, x .few) in rw e (x .grown)

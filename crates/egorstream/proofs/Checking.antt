@@ -7,8 +7,8 @@ use Rattle.meaning.specs.Block.{Input}
 use Rattle.meaning.specs.Judge.{FileJudged}
 use Rattle.theory.specs.Judging.Texts.{file-judged-one, file-judged-number, file-judged-state}
 use Rattle.equations.specs.Judge.{told}
-use Rattle.equations.specs.declared.Verdict.{Verdict}
-use Rattle.equations.specs.declared.Verdict.the-variants.{No, Refused}
+use Rattle.equations.specs.declared.verdict.Verdict.{Verdict}
+use Rattle.equations.specs.declared.verdict.Verdict.the-variants.{No, Refused}
 use Rattle.egorstream.specs.Check.{shown, Checks}
 use Rattle.egorstream.specs.declared.check.Checked.{Checked}
 

@@ -76,13 +76,15 @@ around-one x y =
       «upper_tens» = h i .tens;
     }
 
-pub nears-unique : {f : Input} {from : From} (r r′ : Nearness) → Nears f from r → Nears f from r′ → r ≡ r′
-nears-unique r r′ x y =
-    let e = file-near-one (x .outcome) (y .outcome) in
-    let z = subst (λ (m : Near). Tells (y .chance) m r) (e .1) (subst (λ (c : Near). Tells c (x .missing) r) (e .0) (x .tells)) in
-    let q = y .tells in
+-- So do the two chances determine what is told of them.
+pub tells-one : {a b c d : Near} (r r′ : Nearness) → a ≡ c → b ≡ d → Tells a b r → Tells c d r′ → r ≡ r′
+tells-one {b = b} {c} r r′ e h x q =
+    let z = subst (λ (m : Near). Tells c m r) h (subst (λ (c : Near). Tells c b r) e x) in
     let number = z .number ∙ sym (q .number) in
     let place = z .place ∙ sym (q .place) in
     let chance = around-one (z .near) (q .near) in
     let miss = around-one (z .miss) (q .miss) in
     λ i. record { number = number i; place = place i; near = chance i; miss = miss i }
+
+pub nears-unique : {f : Input} {from : From} (r r′ : Nearness) → Nears f from r → Nears f from r′ → r ≡ r′
+nears-unique r r′ x y = let e = file-near-one (x .outcome) (y .outcome) in tells-one r r′ (e .0) (e .1) (x .tells) (y .tells)

@@ -1,4 +1,3 @@
-pub mod Made
 pub mod Judging
 pub mod Rounds
 pub mod Unique

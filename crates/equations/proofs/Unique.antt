@@ -12,8 +12,8 @@ use Rattle.equations.specs.Told.{told, Proper, Withins}
 use Rattle.equations.specs.declared.Parts.{Parts}
 use Rattle.equations.specs.declared.Parts.the-variants.{Held, Refused}
 use Rattle.equations.specs.Judge.{told as toldVerdict}
-use Rattle.equations.specs.declared.Verdict.{Verdict}
-use Rattle.equations.specs.declared.Verdict.the-variants as verdict
+use Rattle.equations.specs.declared.verdict.Verdict.{Verdict}
+use Rattle.equations.specs.declared.verdict.Verdict.the-variants as verdict
 
 -- The numbers of an answer, a refusal's above 0, determine it.
 pub told-one : (r r′ : Parts) → Proper r → Proper r′ → told r ≡ told r′ → r ≡ r′

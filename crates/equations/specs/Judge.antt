@@ -10,8 +10,8 @@ use Rattle.meaning.specs.Number.{bit}
 use Rattle.meaning.specs.Chain.{mostStates, ToGoal}
 use Rattle.meaning.specs.Refusal.{Lent}
 use Rattle.meaning.specs.Judge.{Verdict as Said, right, wrong, refusal, Sent}
-use Rattle.equations.specs.declared.Verdict.{Verdict}
-use Rattle.equations.specs.declared.Verdict.the-variants.{Yes, No, Refused}
+use Rattle.equations.specs.declared.verdict.Verdict.{Verdict}
+use Rattle.equations.specs.declared.verdict.Verdict.the-variants.{Yes, No, Refused}
 
 -- A state's share differs from what is asked of it: the whole at a goal, else its equation where a path leads to a goal, else 0.
 abbrev pub Differs : Bool → Bool → ℕ → ℕ → ℕ → ℕ → Type 0

@@ -12,8 +12,10 @@ use survey::Survey;
 mod flow;
 mod judge;
 mod round;
+mod verdict;
 
 pub use round::PARTS;
+pub use verdict::Verdict;
 
 // The most steps.
 pub const STEPS: u64 = 1000;
@@ -38,13 +40,6 @@ pub fn within(c: Chain, denominators: &[u64], edges: &[u64], steps: u64) -> Part
         return Parts::Refused { number, place };
     }
     Parts::Held(round::rounds(c, denominators, edges, steps))
-}
-
-// What is said of a table: yes; no, with a state; or a refusal. told gives document 01's numbers for each case.
-pub enum Verdict {
-    Yes,
-    No(usize),
-    Refused { number: u32, place: usize },
 }
 
 // Whether a table is the chance at every state: one denominator, and a numerator for each state.

@@ -14,7 +14,7 @@ use Rattle.theory.specs.Judging.Texts.{file-judged-one}
 use Rattle.chain.specs.declared.Chain.{Chain}
 use Rattle.chain.specs.Lent.{lent}
 use Rattle.equations.specs.Judge.{told}
-use Rattle.equations.specs.declared.Verdict.{Verdict}
+use Rattle.equations.specs.declared.verdict.Verdict.{Verdict}
 use Rattle.equations.proofs.Unique.{told-verdict}
 use Rattle.opening.specs.Book.{Holds}
 use Rattle.figures.proofs.Outcomes.{bare}

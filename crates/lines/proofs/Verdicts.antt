@@ -13,8 +13,8 @@ use Rattle.bytes.specs.Written.{Written, Stored}
 use Rattle.bytes.proofs.Steps.{join, kept}
 use Rattle.bytes.proofs.Storing.{stored}
 use Rattle.equations.specs.Judge.{told as verdict-told}
-use Rattle.equations.specs.declared.Verdict.{Verdict}
-use Rattle.equations.specs.declared.Verdict.the-variants.{Yes, No, Refused}
+use Rattle.equations.specs.declared.verdict.Verdict.{Verdict}
+use Rattle.equations.specs.declared.verdict.Verdict.the-variants.{Yes, No, Refused}
 use Rattle.text.specs.Pieces.{Named}
 use Rattle.report.specs.Stands.{told, answerOf}
 use Rattle.report.specs.declared.Printed.{Printed}

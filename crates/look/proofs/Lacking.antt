@@ -5,40 +5,20 @@ use mathlib.Core.List.{List, []}
 use mathlib.Core.Logic.{⊎-elim}
 use native.Mathlib.Omega.{arith}
 use native.Mathlib.Numerals.{add-one}
-use lib.ListN.{length, getD, set, replicate, length-set, length-replicate}
-use lib.Seq.{getD-set-same, getD-set-other}
+use lib.ListN.{length, getD, replicate}
 use borrow.Author.Tests.{eq-eqb, ne-eqb}
 use Rattle.meaning.specs.Number.{sumTo}
 use Rattle.meaning.specs.Chain.{mostStates, edgeCount, from, weight, carried, flow, rowSum}
 use Rattle.theory.specs.Numbers.Sum.{same, sum-next}
+use Rattle.theory.specs.Numbers.Walk.{Walked, walk-size}
 use Rattle.look.specs.Sums.{Lacks, TakenOut}
 
--- The first i of 64 numbers are filled in.
-pub record Filling (numbers r : List ℕ) (i : ℕ) : Type 0 where
-  pub size : length r ≡ mostStates
-  pub past : i ≤ mostStates
-  pub is : (k : ℕ) → k < i → getD r k 0 ≡ getD numbers k 0
-
-module _ (numbers : List ℕ) where
-  pub filling-none : Filling numbers (replicate mostStates 0) 0
-  filling-none = record { size = length-replicate {A = ℕ} mostStates 0; past = omega arith; is = λ k h. absurd (omega arith) }
-
-  pub filling-more : {r : List ℕ} {i x : ℕ} → Filling numbers r i → i < mostStates → x ≡ getD numbers i 0
-      → Filling numbers (set r i x) (i + 1)
-  filling-more {r} {i} {x} f h e =
-      record {
-        size = length-set r i x ∙ f .size;
-        past = omega arith;
-        is = λ k l.
-            ⊎-elim
-            (λ (q : k ≡ i). rw q (getD-set-same r i x 0 (omega (arith, f .size)) ∙ e))
-            (λ (d : k ≡ i → ⊥). getD-set-other r i k x 0 d ∙ f .is k (omega arith))
-            (same k i);
-      }
-
-  pub filling-all : {r : List ℕ} {i : ℕ} → Filling numbers r i → mostStates ≤ i → Lacks numbers [] r
-  unfolding flow sumTo
-  filling-all f h = record { size = f .size; is = λ k l. let z : rowSum [] k ≡ 0 = refl in omega (arith, z, f .is k (omega (arith, f .past))) }
+-- A copy of the denominators lacks what rows of no edge lack.
+pub lacks-none : (denominators : List ℕ) {r : List ℕ} {i : ℕ} → Walked (λ j. getD denominators j 0) (replicate mostStates 0) i r → mostStates ≤ i
+    → Lacks denominators [] r
+unfolding flow sumTo
+lacks-none denominators w h =
+    record { size = walk-size mostStates w; is = λ k l. let z : rowSum [] k ≡ 0 = refl in omega (arith, z, w .new k (omega arith)) }
 
 -- The weights of the first e edges are taken out.
 pub record Lacking (denominators edges r : List ℕ) (e : ℕ) : Type 0 where

@@ -1,6 +1,5 @@
 pub mod Found
 pub mod Ends
-pub mod Joined
 pub mod Seen
 pub mod Ordered
 pub mod Gather

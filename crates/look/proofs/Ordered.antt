@@ -9,7 +9,8 @@ use lib.Bits.{bitOr}
 use lib.ListN.{getD}
 use Rattle.meaning.specs.Number.{bit}
 use Rattle.meaning.specs.Refusal.{OrderFault}
-use Rattle.look.proofs.Joined.{in-joined, Before, longer}
+use Rattle.theory.specs.Numbers.Bits.{in-joined}
+use Rattle.theory.specs.Numbers.Search.{Before, longer}
 
 -- State s is one of the first p entries.
 abbrev Stood : List ℕ → ℕ → ℕ → Type 0

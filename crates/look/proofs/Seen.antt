@@ -12,7 +12,8 @@ use Rattle.meaning.specs.Number.{bit}
 use Rattle.meaning.specs.Chain.{mostStates, edgeCount, from, to}
 use Rattle.meaning.specs.Refusal.{PairFault}
 use Rattle.theory.specs.Numbers.Sum.{same}
-use Rattle.look.proofs.Joined.{in-joined, Before, longer}
+use Rattle.theory.specs.Numbers.Bits.{in-joined}
+use Rattle.theory.specs.Numbers.Search.{Before, longer}
 
 -- One of the first e edges leads from i to j.
 abbrev Led : List ℕ → ℕ → ℕ → ℕ → Type 0

@@ -1,14 +1,10 @@
 -- When a row sum is wrong.
 use Prim.Native.Nat.{ℕ, _<_}
-use mathlib.Core.Path.{_≡_, refl, sym, _∙_}
+use mathlib.Core.Path.{_≡_, refl}
 use mathlib.Core.Bool.{Bool, true, false, not}
-use mathlib.Core.List.{List}
-use native.Mathlib.Omega.{arith}
-use lib.ListN.{getD}
 use lib.Dec.{eqb, ltb}
 use borrow.Author.Tests.{eqb-true, eqb-false}
 use Rattle.meaning.specs.Number.{decides}
-use Rattle.meaning.specs.Chain.{rowSum}
 use Rattle.meaning.specs.Refusal.{WrongSum}
 use Rattle.theory.specs.Numbers.Decide.{compares}
 

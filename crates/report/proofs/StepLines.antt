@@ -2,16 +2,14 @@
 use Prim.Native.Nat.{ℕ, _+_, _*_, _^_, _≤_, _<_}
 use mathlib.Core.Path.{_≡_, refl, sym, ap, subst, _∙_}
 use mathlib.Core.List.{List, [], _∷_, _++_, append-nil, append-assoc}
-use native.Mathlib.Nat.{zero-add}
 use native.Mathlib.Omega.{arith}
-use native.Mathlib.Numerals.{add-one}
 use lib.ListN.{length, length-append}
 use Rattle.meaning.specs.Number.{tabFrom}
 use Rattle.meaning.specs.Chain.{mostStates}
 use Rattle.meaning.specs.Steps.{StepRecord}
 use Rattle.meaning.specs.Report.{recordText, recordsText}
 use Rattle.theory.specs.Numbers.Decimal.{digits}
-use Rattle.theory.specs.Numbers.Tab.{tab-last}
+use Rattle.theory.specs.Numbers.Tab.{tab-more}
 use Rattle.bytes.specs.Written.{Written}
 use Rattle.bytes.proofs.Steps.{join}
 use Rattle.text.specs.Puts.{Puts}
@@ -56,14 +54,10 @@ module _ {before numbers : List ℕ} where
   more {i} {next = next} {later = later} l few long w =
       let r = recordIn numbers i in
       let line = w .0 .written (omega (arith, l .near, w .1)) in
-      let last : tabFrom 0 (i + 1) (recordIn numbers) ≡ tabFrom 0 i (recordIn numbers) ++ (r ∷ []) =
-      ap (λ (k : ℕ). tabFrom 0 k (recordIn numbers)) (add-one i)
-      ∙ tab-last 0 i (recordIn numbers)
-      ∙ ap (λ (j : ℕ). tabFrom 0 i (recordIn numbers) ++ (recordIn numbers j ∷ [])) (zero-add i) in
       record {
         written =
             subst (λ (t : List ℕ). Written before 0 t later next)
-            (sym (ap recordsText last ∙ records-more (tabFrom 0 i (recordIn numbers)) r))
+            (sym (ap recordsText (tab-more i (recordIn numbers)) ∙ records-more (tabFrom 0 i (recordIn numbers)) r))
             (join (l .written) line);
         near = omega (arith, l .near, line .past, w .1);
       }

@@ -1,7 +1,7 @@
 -- The lines of a chain's text, from their pieces.
 use Prim.Native.Nat.{ℕ, _+_, _*_, _^_, _≤_, _<_}
 use native.Mathlib.Omega.{arith}
-use native.Mathlib.Nat.{zero-add, one-mul, add-mul}
+use native.Mathlib.Nat.{one-mul, add-mul}
 use native.Mathlib.Numerals.{add-one}
 use mathlib.Core.Path.{_≡_, refl, sym, ap, subst, _∙_}
 use mathlib.Core.Bool.{Bool, true, false}
@@ -12,7 +12,7 @@ use Rattle.meaning.specs.Number.{choose, tabFrom}
 use Rattle.meaning.specs.Text.{bytesOf}
 use Rattle.meaning.specs.Report.{namedText}
 use Rattle.meaning.specs.ChainText.{stateLine, edgeLine, spaced, orderLine, textOf}
-use Rattle.theory.specs.Numbers.Tab.{tab-last}
+use Rattle.theory.specs.Numbers.Tab.{tab-more}
 use Rattle.theory.specs.Texts.Lines.{spaced-more}
 use Rattle.bytes.specs.Written.{Written, Stored}
 use Rattle.bytes.proofs.Steps.{join, kept}
@@ -109,11 +109,9 @@ none-put before at room h f =
 pub more-put : {b₀ b₁ b₂ : List ℕ} {at next end room : ℕ} (n : ℕ) (f : ℕ → List ℕ) → Put b₀ at (textOf (tabFrom 0 n f)) (n * room) b₁ next
     → Put b₁ next (f n ++ bytesOf "\n") room b₂ end → Put b₀ at (textOf (tabFrom 0 (n + 1) f)) ((n + 1) * room) b₂ end
 more-put {b₀} {b₂ = b₂} {at = at} {end = end} {room = room} n f a b =
-    let last : tabFrom 0 (n + 1) f ≡ tabFrom 0 n f ++ (f n ∷ []) =
-    ap (λ (k : ℕ). tabFrom 0 k f) (add-one n) ∙ tab-last 0 n f ∙ ap (λ (j : ℕ). tabFrom 0 n f ++ (f j ∷ [])) (zero-add n) in
     let grown : n * room + room ≡ (n + 1) * room = sym (add-mul n 1 room ∙ ap (λ z. n * room + z) (one-mul room)) in
     record {
-      written = subst (λ (t : List ℕ). Written b₀ at t b₂ end) (sym (ap textOf last ∙ text-more (tabFrom 0 n f) (f n))) (join (a .written) (b .written));
+      written = subst (λ (t : List ℕ). Written b₀ at t b₂ end) (sym (ap textOf (tab-more n f) ∙ text-more (tabFrom 0 n f) (f n))) (join (a .written) (b .written));
       near = omega (arith, a .near, b .near, grown);
     }
 

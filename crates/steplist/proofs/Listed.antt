@@ -2,13 +2,12 @@
 use mathlib.Core.Path.{_≡_, refl, sym, ap, _∙_}
 use Prim.Native.Nat.{ℕ, zero, suc, _+_, _≤_, _<_}
 use native.Mathlib.Numerals.{add-one}
-use native.Mathlib.Nat.{zero-add}
 use native.Mathlib.Omega.{arith}
 use mathlib.Core.List.{List, [], _∷_, _++_, map, map-append}
 use lib.ListN.{length, getD, set, drop, length-append, length-drop}
 use lib.Seq.{drop-cons, set-at, append-snoc}
 use Rattle.meaning.specs.Number.{tabFrom, filled}
-use Rattle.theory.specs.Numbers.Tab.{tab-length, tab-last}
+use Rattle.theory.specs.Numbers.Tab.{tab-length, tab-more}
 
 module _ {ℓ} {A : Type ℓ} where
   module _ (f : ℕ → A) (l : List A) where
@@ -24,10 +23,8 @@ module _ {ℓ} {A : Type ℓ} where
     pub listed-next : (k : ℕ) → k < length l → filled (tabFrom 0 (k + 1) f) l ≡ set (filled (tabFrom 0 k f) l) k (f k)
     listed-next k h =
         let old : length (tabFrom 0 k f) ≡ k = tab-length 0 k f in
-        let end : tabFrom 0 (k + 1) f ≡ tabFrom 0 k f ++ (f k ∷ []) =
-        ap (λ (j : ℕ). tabFrom 0 j f) (add-one k) ∙ tab-last 0 k f ∙ ap (λ (j : ℕ). tabFrom 0 k f ++ (f j ∷ [])) (zero-add k) in
         let past : length (tabFrom 0 (k + 1) f) ≡ suc k = tab-length 0 (k + 1) f ∙ add-one k in
-        rw (past, end)
+        rw (past, tab-more k f)
         (append-snoc (tabFrom 0 k f) (f k) (drop (suc k) l)
         ∙ sym (set-at (tabFrom 0 k f) (getD l k (f k)) (drop (suc k) l) (f k) k old)
         ∙ ap (λ (z : List A). set (tabFrom 0 k f ++ z) k (f k)) (sym (drop-cons l k (f k) h) ∙ ap (λ (j : ℕ). drop j l) (sym old)))

@@ -1,11 +1,14 @@
 -- Laws of the bits of a number, and of one that is made from others.
 use Prim.Native.Nat.{ℕ, zero, suc, _+_, _*_, _/_, _%_, _^_, _≤_, _<_, min, max}
 use mathlib.Core.Path.{_≡_, refl, sym, _∙_}
+use mathlib.Core.Bool.{false}
 use mathlib.Core.Logic.{_⊎_, inl, inr, _↔_, ⊎-elim}
 use native.Mathlib.Omega.{arith}
 use native.Mathlib.Nat.{pow-succ', pow-le-pow-right, div-one, div-div-eq-div-mul, div-eq-of-lt, zero-div, mod-lt, mod-eq-of-lt, one-mul}
 use lib.Bits.{bitAnd, bitOr, bitXor, differ, and-shr, or-shr, xor-shr, and-step, or-step, xor-step}
 use lib.Pow.{pow-lt}
+use lib.Dec.{eqb}
+use borrow.Author.Tests.{eqb-false}
 use Rattle.meaning.specs.Number.{bit}
 use Rattle.meaning.specs.Chain.{mostStates}
 use Rattle.theory.specs.Numbers.Sum.{same, below}
@@ -125,3 +128,23 @@ set-apart s t d = apart-in (s + t) s t (omega arith) (omega arith) d
         (suc (w .0), λ q. w .1 (sym (bit-suc s (w .0)) ∙ q ∙ bit-suc t (w .0))))
         (λ (n : s % 2 ≡ t % 2 → ⊥). (0, λ q. n (sym (bit-zero s) ∙ q ∙ bit-zero t)))
         (same (s % 2) (t % 2))
+
+-- A set with one state more.
+pub in-joined : (set j t : ℕ) → (bit (bitOr set (2 ^ j)) t ≡ 1) ↔ ((bit set t ≡ 1) ⊎ (t ≡ j))
+in-joined set j t = (
+  λ b.
+      ⊎-elim
+      (λ (o : bit set t ≡ 1). inl o)
+      (λ (o : bit (2 ^ j) t ≡ 1). inr (in-one j t .0 o))
+      (in-either set (2 ^ j) t .0 b),
+  λ w.
+      in-either set (2 ^ j) t .1
+      (⊎-elim (λ (o : bit set t ≡ 1). inl o) (λ (o : t ≡ j). inr (in-one j t .1 o)) w),
+)
+
+-- The empty set, and a state that is not in a set.
+pub nothing-in : (i : ℕ) → bit 0 i ≡ 1 → ⊥
+nothing-in i b = omega (arith, rw (zero-div (2 ^ i)) at b)
+
+pub zero-bit : (set i : ℕ) → eqb (bit set i) 1 ≡ false → 0 ≡ bit set i
+zero-bit set i e = let d = eqb-false (bit set i) 1 e in omega (arith, d)

@@ -1,10 +1,10 @@
 -- Decisions that compute, and the least place below a bound at which something holds.
 use Prim.Native.Nat.{ℕ, zero, suc, _+_, _≤_, _<_}
-use mathlib.Core.Path.{_≡_}
-use mathlib.Core.Logic.{_⊎_, inl, inr, ⊎-elim, Dec·and}
+use mathlib.Core.Path.{_≡_, subst}
+use mathlib.Core.Logic.{_⊎_, _↔_, inl, inr, ⊎-elim, Dec·and}
 use native.Mathlib.Decide.{decLt}
 use native.Mathlib.Omega.{arith}
-use Rattle.theory.specs.Numbers.Sum.{last-or-below}
+use Rattle.theory.specs.Numbers.Sum.{below, last-or-below}
 
 unfoldable pub turned : {A B : Type 0} → (A → B) → (B → A) → Dec A → Dec B
 turned f g (yes a) = yes (f a)
@@ -56,3 +56,21 @@ found (nowhere h) = no (λ w. h (w .0) (w .1))
 unfoldable pub anywhere : (P : ℕ → Type 0) (n : ℕ) → ((i : ℕ) → Dec (P i)) → Dec ((i : ℕ) × ((i < n) × P i))
 unfolding ranged found
 anywhere P n decide = found (ranged P n decide)
+
+-- P holds at one of the places below e.
+abbrev pub Before : (ℕ → Type 0) → ℕ → Type 0
+Before P e = (d : ℕ) × ((d < e) × P d)
+
+pub longer : (P : ℕ → Type 0) (e : ℕ) → Before P (e + 1) ↔ (Before P e ⊎ P e)
+longer P e = (
+  λ w.
+      ⊎-elim
+      (λ (l : w .0 < e). inl (w .0, (l, w .1 .1)))
+      (λ (l : e ≤ w .0). let z : w .0 ≡ e = omega (arith, w .1 .0) in inr (subst P z (w .1 .1)))
+      (below (w .0) e),
+  λ w.
+      ⊎-elim
+      (λ (d : Before P e). (d .0, (omega (arith, d .1 .0), d .1 .1)))
+      (λ (h : P e). (e, (omega arith, h)))
+      w,
+)

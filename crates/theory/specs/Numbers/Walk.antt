@@ -6,7 +6,7 @@ use Prim.Native.Nat.{ℕ, _+_, _≤_, _<_, zero-le}
 use native.Mathlib.Nat.{eq-or-lt-of-le}
 use native.Mathlib.Decide.{decLt}
 use native.Mathlib.Omega.{arith}
-use lib.ListN.{length, getD, set, length-set, replicate, List·getD-eq-default}
+use lib.ListN.{length, getD, set, length-set, replicate, length-replicate, List·getD-eq-default}
 use lib.Seq.{getD-set-same, getD-set-other}
 use Rattle.meaning.specs.Number.{tabFrom}
 use Rattle.theory.specs.Numbers.Tab.{tab-of, getD-zeros}
@@ -41,6 +41,14 @@ module _ {f : ℕ → ℕ} {l : List ℕ} where
 
     pub walk-all : length l ≤ k → row ≡ tabFrom 0 (length l) f
     walk-all h = tab-of 0 (length l) f row (w .len) (λ j b. w .new j (omega arith))
+
+-- In a list of m zeros.
+module _ {f : ℕ → ℕ} (m : ℕ) {k : ℕ} {row : List ℕ} (w : Walked f (replicate m 0) k row) where
+  pub walk-size : length row ≡ m
+  walk-size = w .len ∙ length-replicate {A = ℕ} m 0
+
+  pub walk-on : {v : ℕ} → k < m → v ≡ f k → Walked f (replicate m 0) (k + 1) (set row k v)
+  walk-on h e = walk-more w (omega (arith, length-replicate {A = ℕ} m 0)) e
 
 -- A copy of r in a list of zeros.
 pub walk-copy : (m : ℕ) (r : List ℕ) {k : ℕ} {p : List ℕ} → Walked (λ j. getD r j 0) (replicate m 0) k p → length r ≤ k → (j : ℕ) → getD p j 0 ≡ getD r j 0

@@ -28,17 +28,17 @@ use Rattle.theory.specs.Outcomes.Band.{products-few, places-all}
 use Rattle.theory.specs.Outcomes.TurnsCounted.{turns-few}
 use Rattle.theory.specs.Outcomes.Choice.{chosen-turns, choice-order}
 
--- The limit of an exact run, for m live states other than the start.
+-- The limit of an exact run, for m live states other than the start, once its order is known to be one.
+prepared-limit : (c : Chain) (k : Sets) (o : List ℕ) → Prepared c k o → (m b : ℕ) → Count (Removable c) (c .states) m → ShortEdges c k o b
+    → productsAlong c k o ≤ m * (b + 1) * (b + 3)
+prepared-limit c k o ready m b number short =
+    omega (arith, products-few c k o ready b short, ap (λ z. (b + 1) * (b + 3) * z) (places-all c k o ready number))
+
 pub line-limit : (x : Entry) (l : Lent) → WellFormed x l → x .order ≡ true → x .short ≡ false → (k : Sets) → Right (l .chain) k → (m b : ℕ)
     → Count (Removable (l .chain)) (l .chain .states) m → ShortEdges (l .chain) k (l .order) b
     → productsAlong (l .chain) k (l .order) ≤ m * (b + 1) * (b + 3)
 line-limit x l formed lent whole k right m b number short =
-    let ready = formed-prepared x l formed lent whole k right in
-    omega (
-      arith,
-      products-few (l .chain) k (l .order) ready b short,
-      ap (λ z. (b + 1) * (b + 3) * z) (places-all (l .chain) k (l .order) ready number),
-    )
+    omega (arith, prepared-limit (l .chain) k (l .order) (formed-prepared x l formed lent whole k right) m b number short)
 
 -- The same in the words of the step list: where the companion answers, the sum over the records that it wrote.
 pub steps-limit : (l : Lent) {before after : List StepRecord} {a : Answer} {count : ℕ} {w : List ℕ} → a .number ≡ 0
@@ -78,8 +78,7 @@ module _ (c : Chain) (k : Sets) (o : List ℕ) {turns : ℕ} (x : Chosen c k o t
         let e : turns + (c .states - turns) ≡ c .states = omega (arith, few) in
         omega (
           arith,
-          products-few c k o chosen-prepared b short,
-          ap (λ z. (b + 1) * (b + 3) * z) (places-all c k o chosen-prepared number),
+          prepared-limit c k o chosen-prepared m b number short,
           ap (sumTo f) e,
           sum-join f turns (c .states - turns),
           sum-ext f (λ p. productAt c k o p (getD o p 0)) turns (λ p h. rw (x .turns p h .left .going)),

@@ -1,7 +1,6 @@
 -- The lines of a chain in their turns: what has come when a line's turn comes, and which line then comes next.
 use Prim.Native.Nat.{ℕ, zero, suc, _+_, _-_, _≤_, _<_}
 use native.Mathlib.Omega.{arith}
-use native.Mathlib.Numerals.{add-one}
 use mathlib.Core.Path.{_≡_, sym, ap, _∙_}
 use mathlib.Core.List.{List, [], _∷_, _++_, append-assoc, head-eq-of-cons-eq, tail-eq-of-cons-eq}
 use lib.ListN.{length, getD, length-append, List·getD-append}
@@ -12,7 +11,7 @@ use Rattle.meaning.specs.Refusal.{Lent}
 use Rattle.meaning.specs.Text.{bytesOf}
 use Rattle.meaning.specs.Report.{namedText}
 use Rattle.meaning.specs.ChainText.{orderLine, stateLineOf, edgeLineOf, chainLines}
-use Rattle.theory.specs.Numbers.Tab.{tab-at, tab-length, tab-last, tab-ext}
+use Rattle.theory.specs.Numbers.Tab.{tab-at, tab-length, tab-more, tab-ext}
 use Rattle.theory.specs.Texts.Lines.{named-last}
 use Rattle.theory.specs.Texts.ChainOne.{back-one}
 
@@ -29,12 +28,8 @@ tab-parts k (suc a) b f =
     rw z (ap (λ (s : List _). f k ∷ s) (tab-parts (suc k) a b f ∙ ap (λ s. tabFrom (suc k) a f ++ tabFrom s b f) w))
 
 -- A table with one entry more.
-tab-more {ℓ} : {A : Type ℓ} (i : ℕ) (f g : ℕ → A) → ((j : ℕ) → j < i → f j ≡ g j) → tabFrom 0 (i + 1) f ≡ tabFrom 0 i g ++ (f i ∷ [])
-tab-more i f g h =
-    ap (λ z. tabFrom 0 z f) (add-one i)
-    ∙ tab-last 0 i f
-    ∙ ap (λ z. tabFrom 0 i f ++ (f z ∷ [])) (omega arith)
-    ∙ ap (λ z. z ++ (f i ∷ [])) (tab-ext i f g h)
+tab-grown {ℓ} : {A : Type ℓ} (i : ℕ) (f g : ℕ → A) → ((j : ℕ) → j < i → f j ≡ g j) → tabFrom 0 (i + 1) f ≡ tabFrom 0 i g ++ (f i ∷ [])
+tab-grown i f g h = tab-more i f ∙ ap (λ z. z ++ (f i ∷ [])) (tab-ext i f g h)
 
 -- The first lines, and what has come before the line of state i, and of edge e.
 abbrev pub statesLine : Lent → List ℕ
@@ -143,7 +138,7 @@ module _ (l m : Lent) (line : List ℕ) (rest : Lines) where
 module _ (l m : Lent) where
   pub more-states : (i : ℕ) → statesLine m ≡ statesLine l → edgesLine m ≡ edgesLine l → startLine m ≡ startLine l
       → ((j : ℕ) → j < i → stateLineOf m j ≡ stateLineOf l j) → toState m (i + 1) ≡ toState l i ++ (stateLineOf m i ∷ [])
-  more-states i a b c f = let t = tab-more i (stateLineOf m) (stateLineOf l) f in λ x. a x ∷ b x ∷ c x ∷ t x
+  more-states i a b c f = let t = tab-grown i (stateLineOf m) (stateLineOf l) f in λ x. a x ∷ b x ∷ c x ∷ t x
 
   pub more-order : (i : ℕ) → i ≡ m .chain .states → statesLine m ≡ statesLine l → edgesLine m ≡ edgesLine l → startLine m ≡ startLine l
       → ((j : ℕ) → j < i → stateLineOf m j ≡ stateLineOf l j) → toEdge m 0 ≡ toState l i ++ (orderLine (m .order) ∷ [])
@@ -159,7 +154,7 @@ module _ (l m : Lent) where
       let n = l .chain .states in
       let s = ap (namedText (bytesOf "states ")) a in
       let t = ap (λ z. tabFrom 0 z (stateLineOf m)) a ∙ tab-ext n (stateLineOf m) (stateLineOf l) f in
-      let u = tab-more e (edgeLineOf m) (edgeLineOf l) g in
+      let u = tab-grown e (edgeLineOf m) (edgeLineOf l) g in
       let all : toEdge m (e + 1) ≡ toState l n ++ (orderLine (l .order) ∷ (tabFrom 0 e (edgeLineOf l) ++ (edgeLineOf m e ∷ []))) =
       λ x. s x ∷ b x ∷ c x ∷ (t x ++ (orderLine (o x) ∷ u x)) in
       all ∙ sym (append-assoc (toState l n) (orderLine (l .order) ∷ tabFrom 0 e (edgeLineOf l)) (edgeLineOf m e ∷ []))

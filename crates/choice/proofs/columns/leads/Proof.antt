@@ -2,7 +2,7 @@ use mathlib.Core.Path.{sym, _∙_}
 use mathlib.Core.List.{[]}
 use native.Mathlib.Omega.{arith}
 use borrow.Author.Tests.{eq-eqb, ne-eqb, eqb-true}
-use Rattle.choice.proofs.Members.{zero-bit}
+use Rattle.theory.specs.Numbers.Bits.{zero-bit}
 use borrow.Author.Needs.{needs}
 use Rattle.choice.proofs.columns.leads.Statement.{statement}
 use Rattle.choice.proofs.columns.leads.Tie as tie
