@@ -1,15 +1,6 @@
 // Reads a chain file on standard input and writes the file of the same chain with the chosen order; a refusal's line goes to standard error.
 use chainwriter::Writing;
 use input::Reading;
-use report::Printed;
-
-// The line of a refusal.
-fn complain(number: u32, place: usize) {
-    let mut line = [0u8; report::ANSWER_ROOM];
-    if let Printed::Length(n) = report::answer(number, place, 0, 0, &mut line) {
-        output::tell(&line[..n]);
-    }
-}
 
 fn main() {
     if input::words() != 0 {
@@ -29,6 +20,6 @@ fn main() {
         Writing::Length(n) => {
             output::print(&buffer[..n], b"reorder: standard output");
         }
-        Writing::Refused { number, place } => complain(number, place),
+        Writing::Refused { number, place } => output::complain(number, place),
     }
 }

@@ -2,8 +2,8 @@ use mathlib.Core.Path.{sym}
 use borrow.Author.Needs.{needs}
 use lib.Seq.{length-take-le}
 use Rattle.report.proofs.Unique.{within}
-use Rattle.makechain.proofs.complain.Statement.{statement}
-use Rattle.makechain.proofs.complain.Tie as tie
+use Rattle.output.proofs.complain.Statement.{statement}
+use Rattle.output.proofs.complain.Tie as tie
 
 array-share-prefix-line : tie.Need-array-share-prefix-line
 array-share-prefix-line c = let r = c .before .before .before .before .answer in within (r .result) (r .ensures) (c .before .n .given .1)
