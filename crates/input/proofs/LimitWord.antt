@@ -7,15 +7,15 @@ use native.Mathlib.Omega.{arith}
 use native.Mathlib.Nat.{eq-or-lt-of-le}
 use lib.ListN.{length, getD}
 use Rattle.meaning.specs.Text.{bytesOf, readOn, IsDigit}
-use Rattle.meaning.specs.Limit.{Limit, limit, noLimit, IsLimit, longestWord, DigitsIn, Stands, Spelled, afterPoint, spelledLimit, Says, LimitWord, nothing}
+use Rattle.meaning.specs.Limit.{Limit, limit, noLimit, IsLimit, longestWord, DigitsIn, Stands, Marked, Spelled, afterPoint, spelledLimit, Says, LimitWord, nothing}
 use Rattle.meaning.specs.Limit as meant
 use Rattle.theory.specs.Numbers.Sum.{below}
 use Rattle.theory.specs.Outcomes.Determined.{meet}
-use Rattle.theory.specs.Limits.Word.{limit-word-one}
+use Rattle.theory.specs.Limits.Word.{end-letter, past-mark, past-point, limit-word-one}
 use Rattle.limit.specs.Told.{told}
 use Rattle.limit.specs.declared.Limit as code
 use Rattle.input.specs.Digit.{Digit, stands, none}
-use Rattle.input.specs.Run.{Runs, past, Capped, is, beyond, ReadRun, Middle, Marked, TensOf}
+use Rattle.input.specs.Run.{Runs, past, Capped, is, beyond, ReadRun, Middle, TensOf}
 use Rattle.input.specs.declared.limit_word.Run.{Run}
 
 -- A number stands for itself, is never above the cap, and keeps with one digit more to what it stands for.
@@ -155,22 +155,7 @@ tens-said {word} {mark} {r} some few letter minus d l =
     (letter, (minus, (record { some = some; inside = omega arith; each = λ i h k. d .runs .each i h (omega arith) }, few)))
     (subst (λ (k : ℕ). Capped (r .number) (readOn word (mark + 2) 0 (k - (mark + 2)))) e (d .value 0 (capped-self 0 (omega arith))))
 
--- Where a word's spelling ends its digits, no digit stands.
-letter-at : (word : List ℕ) (mark : ℕ) → (length word ≡ mark) ⊎ Marked word mark → mark < length word → getD word mark 0 ≡ 101
-letter-at word mark (inl e) l = omega arith
-letter-at word mark (inr h) l = h .0
-
-past-mark : {word : List ℕ} {point mark : ℕ} → Spelled word point mark → mark < length word → IsDigit (getD word mark 0) → ⊥
-past-mark {word} {point} {mark} s l d = omega (arith, letter-at word mark (s .ending) l, d .1)
-
-past-point : {word : List ℕ} {point mark : ℕ} → Spelled word point mark → point < length word → IsDigit (getD word point 0) → ⊥
-past-point {word} {point} {mark} s l d =
-    ⊎-elim
-    (λ (e : mark ≡ point). past-mark s (omega arith) (rw e d))
-    (λ h. let t : getD word point 0 ≡ 46 = h .0 in omega (arith, d .0))
-    (s .middle)
-
--- So a run ends where the spelling's digits end.
+-- A run ends where the spelling's digits end: no digit stands there.
 run-ends : {word : List ℕ} {begin end e : ℕ} → Runs word begin end → DigitsIn word begin e → (e < length word → IsDigit (getD word e 0) → ⊥) → end ≡ e
 run-ends {word} {begin} {end} {e} r d stop =
     meet end e
@@ -208,7 +193,7 @@ module _ {word : List ℕ} {whole all : Run} (w : ReadRun word 0 0 whole) (betwe
       go (Middle.none n e) (inr h) = absurd (n (h .0))
       go (Middle.more p l r) (inl h) =
           let dot : getD word (whole .end) 0 ≡ 46 = p in
-          let letter : getD word (whole .end) 0 ≡ 101 = rw (← h) (letter-at word mark (s .ending) (omega arith)) in
+          let letter : getD word (whole .end) 0 ≡ 101 = rw (← h) (end-letter word mark (s .ending) (omega arith)) in
           absurd (omega arith)
       go (Middle.more p l r) (inr h) = run-ends (r .runs) (h .1) (past-mark s)
 

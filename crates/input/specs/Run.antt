@@ -4,7 +4,7 @@ use mathlib.Core.Path.{_≡_}
 use mathlib.Core.List.{List}
 use lib.ListN.{length, getD}
 use Rattle.meaning.specs.Text.{bytesOf, readOn, IsDigit}
-use Rattle.meaning.specs.Limit.{mostSaid, DigitsIn, Stands}
+use Rattle.meaning.specs.Limit.{mostSaid, Stands, Marked}
 use Rattle.input.specs.declared.limit_word.Run.{Run}
 
 -- The bytes from one place on and before another are digits, and the next one is none.
@@ -31,11 +31,6 @@ pub record ReadRun (word : List ℕ) (begin x : ℕ) (r : Run) : Type 0 where
 pub data Middle (word : List ℕ) (whole r : Run) : Type 0 where
   none : (Stands word (whole .end) (bytesOf ".") → ⊥) → r ≡ whole → Middle word whole r
   more : Stands word (whole .end) (bytesOf ".") → whole .end < length word → ReadRun word (whole .end + 1) (whole .number) r → Middle word whole r
-
--- `e-` stands at the mark, and the rest are one to three digits.
-abbrev pub Marked : List ℕ → ℕ → Type 0
-Marked word mark =
-    Stands word mark (bytesOf "e") × (Stands word (mark + 1) (bytesOf "-") × (DigitsIn word (mark + 2) (length word) × (length word ≤ mark + 5)))
 
 -- What the word says from the mark on.
 pub data TensOf (word : List ℕ) (mark tens : ℕ) : Type 0 where

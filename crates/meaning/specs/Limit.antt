@@ -52,13 +52,17 @@ pub record DigitsIn (word : List ℕ) (begin end : ℕ) : Type 0 where
 abbrev pub Stands : List ℕ → ℕ → List ℕ → Type 0
 Stands word place text = getD word place 0 ≡ getD text 0 0
 
--- Digits before the place `point`; perhaps a point there, and digits before the place `mark`; perhaps `e-` there, and one to three digits.
+-- From the place `mark` on stand `e-` and one to three digits.
+abbrev pub Marked : List ℕ → ℕ → Type 0
+Marked word mark =
+    Stands word mark (bytesOf "e") × (Stands word (mark + 1) (bytesOf "-") × (DigitsIn word (mark + 2) (length word) × (length word ≤ mark + 5)))
+
+-- Digits before the place `point`; perhaps a point there, and digits before the place `mark`; perhaps `e-` there, and digits to the end.
 pub record Spelled (word : List ℕ) (point mark : ℕ) : Type 0 where
   pub short : length word ≤ longestWord
   pub whole : DigitsIn word 0 point
   pub middle : (mark ≡ point) ⊎ (Stands word point (bytesOf ".") × DigitsIn word (point + 1) mark)
-  pub ending : (length word ≡ mark)
-      ⊎ (Stands word mark (bytesOf "e") × (Stands word (mark + 1) (bytesOf "-") × (DigitsIn word (mark + 2) (length word) × (length word ≤ mark + 5))))
+  pub ending : (length word ≡ mark) ⊎ Marked word mark
 
 -- How many digits stand after the point.
 abbrev pub afterPoint : ℕ → ℕ → ℕ

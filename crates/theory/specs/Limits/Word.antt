@@ -1,42 +1,34 @@
 -- A word says at most one limit.
-use Prim.Native.Nat.{ℕ, _+_, _≤_, _<_}
+use Prim.Native.Nat.{ℕ, _+_, _<_}
 use mathlib.Core.Path.{_≡_, sym, ap₂, _∙_}
 use mathlib.Core.Logic.{_⊎_, inl, inr, ⊎-elim}
 use mathlib.Core.List.{List}
 use native.Mathlib.Omega.{arith}
 use lib.ListN.{length, getD}
 use Rattle.meaning.specs.Text.{bytesOf, IsDigit}
-use Rattle.meaning.specs.Limit.{Limit, DigitsIn, Stands, Spelled, spelledLimit, Says, LimitWord, said, nothing}
+use Rattle.meaning.specs.Limit.{Limit, DigitsIn, Stands, Marked, Spelled, spelledLimit, Says, LimitWord, said, nothing}
 use Rattle.theory.specs.Outcomes.Determined.{meet}
 
--- What stands at the end of a word: nothing from the mark on, or `e-` and digits.
-abbrev End : List ℕ → ℕ → Type 0
-End word mark =
-    (length word ≡ mark)
-    ⊎ (Stands word mark (bytesOf "e") × (Stands word (mark + 1) (bytesOf "-") × (DigitsIn word (mark + 2) (length word) × (length word ≤ mark + 5))))
-
 -- Where it is not the end of the word, an `e` stands at the mark.
-end-letter : (word : List ℕ) (mark : ℕ) → End word mark → mark < length word → getD word mark 0 ≡ 101
+pub end-letter : (word : List ℕ) (mark : ℕ) → (length word ≡ mark) ⊎ Marked word mark → mark < length word → getD word mark 0 ≡ 101
 end-letter word mark (inl e) l = omega arith
 end-letter word mark (inr h) l = h .0
 
 module _ {word : List ℕ} where
-  -- No digit stands where the digits before the point end,
-  past-point : {point mark : ℕ} → Spelled word point mark → IsDigit (getD word point 0) → point < length word → ⊥
-  past-point {point} {mark} s d l =
+  -- No digit stands where those after the point end,
+  pub past-mark : {point mark : ℕ} → Spelled word point mark → mark < length word → IsDigit (getD word mark 0) → ⊥
+  past-mark {point} {mark} s l d = omega (arith, end-letter word mark (s .ending) l, d .1)
+
+  -- and none where those before it end.
+  pub past-point : {point mark : ℕ} → Spelled word point mark → point < length word → IsDigit (getD word point 0) → ⊥
+  past-point {point} {mark} s l d =
       ⊎-elim
-      (λ (e : mark ≡ point).
-      let t : getD word point 0 ≡ 101 = rw (sym e) (end-letter word mark (s .ending) (omega arith)) in
-      omega (arith, d .1))
+      (λ (e : mark ≡ point). past-mark s (omega arith) (rw e d))
       (λ h. let t : getD word point 0 ≡ 46 = h .0 in omega (arith, d .0))
       (s .middle)
 
-  -- and none where those after it end.
-  past-mark : {point mark : ℕ} → Spelled word point mark → IsDigit (getD word mark 0) → mark < length word → ⊥
-  past-mark {point} {mark} s d l = omega (arith, end-letter word mark (s .ending) l, d .1)
-
   no-later : {point mark point′ mark′ : ℕ} → Spelled word point mark → Spelled word point′ mark′ → point < point′ → ⊥
-  no-later {point} s s′ l = past-point s (s′ .whole .each point (omega arith) l) (omega (arith, s′ .whole .inside))
+  no-later {point} s s′ l = past-point s (omega (arith, s′ .whole .inside)) (s′ .whole .each point (omega arith) l)
 
   mark-later : {point mark mark′ : ℕ} → Spelled word point mark → Spelled word point mark′ → mark < mark′ → ⊥
   mark-later {point} {mark} {mark′} s s′ l = ⊎-elim (λ (e : mark′ ≡ point). before e (s .middle)) (λ h. behind (h .0) (h .1) (s .middle)) (s′ .middle)
@@ -52,7 +44,7 @@ module _ {word : List ℕ} where
           let dot : getD word point 0 ≡ 46 = t in
           let letter : getD word point 0 ≡ 101 = rw (sym e) (end-letter word mark (s .ending) (omega (arith, d .some, d .inside))) in
           omega arith
-      behind t d (inr h) = past-mark s (d .each mark (omega (arith, h .1 .some)) l) (omega (arith, d .inside))
+      behind t d (inr h) = past-mark s (omega (arith, d .inside)) (d .each mark (omega (arith, h .1 .some)) l)
 
   -- So the two places are one.
   pub spelled-one : {point mark point′ mark′ : ℕ} → Spelled word point mark → Spelled word point′ mark′ → (point ≡ point′) × (mark ≡ mark′)
