@@ -14,23 +14,24 @@ use Rattle.meaning.specs.Block.{Input, byte, numberAt, recordSize, headStates, 
 use Rattle.meaning.specs.File.{Tables, Short, denominatorsIn, ordersIn}
 use Rattle.theory.specs.Numbers.Sum.{same, below, sum-ext}
 use Rattle.theory.specs.Numbers.Tab.{tab-at, tab-past, tab-length, tab-ext}
-use Rattle.theory.specs.Numbers.Filled.{Filled}
+use Rattle.theory.specs.Numbers.Walk.{Walked}
 use Rattle.chain.specs.Edge.{placed}
 use Rattle.chainfile.specs.Input.{input}
 use Rattle.chainfile.specs.Tells.{Within, ShortIn, Narrow, edgeFrom}
 use Rattle.bytes.proofs.Cut.{cut, cut-from}
 
 -- An edge more, in a table with room for it.
-module _ (edges : ℕ → List ℕ) (e : ℕ) {before table : List ℕ} (w : Filled (edgeNumber edges) before (edgeSize * e) table) where
-  pub more-edge : edgeSize * (e + 1) ≤ length before → Filled (edgeNumber edges) before (edgeSize * (e + 1)) (placed table e (edges e))
+module _ (edges : ℕ → List ℕ) (e : ℕ) {before table : List ℕ} (w : Walked (edgeNumber edges) before (edgeSize * e) table) where
+  pub more-edge : edgeSize * (e + 1) ≤ length before → Walked (edgeNumber edges) before (edgeSize * (e + 1)) (placed table e (edges e))
   unfolding placed
   more-edge h =
-      rw (lt-ltb e (edgeCount table) (omega (arith, w .size)))
+      rw (lt-ltb e (edgeCount table) (omega (arith, w .len)))
       (record {
-        size = tab-length 0 (length table) _ ∙ w .size;
+        soFar = h;
+        len = tab-length 0 (length table) _ ∙ w .len;
         new =
             λ j b.
-            tab-at (length table) _ 0 j (omega (arith, w .size))
+            tab-at (length table) _ 0 j (omega (arith, w .len))
             ∙ ⊎-elim
             (λ (q : j / edgeSize ≡ e). rw (eq-eqb (j / edgeSize) e q, q))
             (λ (d : j / edgeSize ≡ e → ⊥). rw (ne-eqb (j / edgeSize) e d) (w .new j (omega arith)))
@@ -39,7 +40,7 @@ module _ (edges : ℕ → List ℕ) (e : ℕ) {before table : List ℕ} (w : Fil
             ⊎-elim
             (λ (l : j < length table).
             tab-at (length table) _ 0 j l ∙ rw (ne-eqb (j / edgeSize) e (omega arith)) (w .old j (omega arith)))
-            (λ (l : length table ≤ j). tab-past 0 (length table) _ 0 j l ∙ sym (List·getD-eq-default before 0 (omega (arith, w .size))))
+            (λ (l : length table ≤ j). tab-past 0 (length table) _ 0 j l ∙ sym (List·getD-eq-default before 0 (omega (arith, w .len))))
             (below j (length table));
       })
 

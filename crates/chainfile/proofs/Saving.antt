@@ -20,7 +20,7 @@ use Rattle.theory.specs.Files.Opened.{kept-all}
 use Rattle.chain.specs.Edge.{placed}
 use Rattle.chainfile.specs.Input.{input}
 use Rattle.chainfile.specs.Tells.{LostBy, Verdicts, EdgeSet}
-use Rattle.theory.specs.Numbers.Filled.{Filled, none, all}
+use Rattle.theory.specs.Numbers.Walk.{Walked, walk-none, walk-filled}
 use Rattle.chainfile.proofs.Filling.{more-edge}
 
 -- The verdicts on the blocks before b.
@@ -84,7 +84,7 @@ edges-of l n e =
 pub record KeptTo (f : Input) (v : ℕ → ℕ) (before : List ℕ) (e k : ℕ) (table : List ℕ) : Type 0 where
   pub upto : e ≤ headEdges f
   pub is : k ≡ keptBefore f v e
-  pub set : Filled (edgeNumber (edgeOf (keptEdges f v (headEdges f)))) before (edgeSize * k) table
+  pub set : Walked (edgeNumber (edgeOf (keptEdges f v (headEdges f)))) before (edgeSize * k) table
 
 module _ (f : Input) (lost before : List ℕ) where
   abbrev v : ℕ → ℕ
@@ -111,7 +111,7 @@ module _ (f : Input) (lost before : List ℕ) where
 
   pub none-kept : KeptTo f v before 0 0 before
   unfolding sumTo
-  none-kept = record { upto = omega arith; is = refl; set = none }
+  none-kept = record { upto = omega arith; is = refl; set = walk-none }
 
   -- So many edges are kept of the first e + 1.
   kept-more : (e : ℕ) → edgeKept f v e ≡ true → keptBefore f v (e + 1) ≡ keptBefore f v e + 1
@@ -137,7 +137,7 @@ module _ (f : Input) (lost before : List ℕ) where
           is = goes ∙ ap (λ z. z + 1) (w .is) ∙ sym (kept-more e q);
           set =
               rw goes
-              (subst (Filled (edgeNumber (edgeOf left)) before (edgeSize * (k + 1))) place
+              (subst (Walked (edgeNumber (edgeOf left)) before (edgeSize * (k + 1))) place
               (more-edge (edgeOf left) k (w .set) (omega (arith, w .is, picked-small (edgeKept f v) e))));
         }
 
@@ -146,7 +146,7 @@ module _ (f : Input) (lost before : List ℕ) where
     all-kept {e} {k} {table} w end =
         let count : k ≡ keptBefore f v (headEdges f) = w .is ∙ ap (keptBefore f v) end in
         let small = picked-small (edgeKept f v) (headEdges f) in (
-          all (w .set) (edgeSize * keptBefore f v (headEdges f)) (omega arith) (omega arith)
+          walk-filled (w .set) (edgeSize * keptBefore f v (headEdges f)) (omega arith)
               ∙ ap (λ z. filled z before) (sym (edges-of left (keptBefore f v (headEdges f)) left-edges)),
           count,
         )

@@ -12,7 +12,7 @@ use Rattle.theory.specs.Numbers.Sum.{sum-ext, sum-add, sum-zero, sum-next}
 use Rattle.theory.specs.Numbers.Tab.{getD-zeros}
 use Rattle.fletcher.specs.Columns.{rows, columns, Low, RowAdded}
 use Rattle.fletcher.proofs.Summed.{Summed, none as none-summed, run, all as all-summed}
-use Rattle.theory.specs.Numbers.Filled.{Filled, none as none-filled, more as more-filled}
+use Rattle.theory.specs.Numbers.Walk.{Walked, walk-none, walk-more}
 
 -- Of the first c columns: the sum of their numbers, each at most so large.
 pub record Totalled (f : ℕ → ℕ) (most c sum : ℕ) : Type 0 where
@@ -35,12 +35,12 @@ module _ {f : ℕ → ℕ} {most : ℕ} where
 -- The first c columns have one row more, the others wait for it.
 pub record Adding (row plain₀ sums₀ : List ℕ) (c : ℕ) (plain sums : List ℕ) : Type 0 where
   pub upto : c ≤ columns
-  pub plainly : Filled (λ j. getD plain₀ j 0 + getD row j 0) plain₀ c plain
-  pub summed : Filled (λ j. getD sums₀ j 0 + (getD plain₀ j 0 + getD row j 0)) sums₀ c sums
+  pub plainly : Walked (λ j. getD plain₀ j 0 + getD row j 0) plain₀ c plain
+  pub summed : Walked (λ j. getD sums₀ j 0 + (getD plain₀ j 0 + getD row j 0)) sums₀ c sums
 
 module _ {row plain₀ sums₀ : List ℕ} where
   pub none-added : Adding row plain₀ sums₀ 0 plain₀ sums₀
-  none-added = record { upto = omega arith; plainly = none-filled; summed = none-filled }
+  none-added = record { upto = omega arith; plainly = walk-none; summed = walk-none }
 
   module _ {c : ℕ} {plain sums : List ℕ} (g : Adding row plain₀ sums₀ c plain sums) where
     -- The next column still has what it had.
@@ -56,14 +56,14 @@ module _ {row plain₀ sums₀ : List ℕ} where
         let old = g .plainly .old c (le-refl c) in
         record {
           upto = omega arith;
-          plainly = more-filled (g .plainly) c (c + 1) refl refl (omega (arith, p .size)) (omega arith);
-          summed = more-filled (g .summed) c (c + 1) refl refl (omega (arith, s .size)) (omega (arith, g .summed .old c (le-refl c)));
+          plainly = walk-more (g .plainly) (omega (arith, p .size)) (omega arith);
+          summed = walk-more (g .summed) (omega (arith, s .size)) (omega (arith, g .summed .old c (le-refl c)));
         }
 
     pub all-added : columns ≤ c → {most most′ : ℕ} → Low most plain₀ → Low most′ sums₀ → RowAdded row plain₀ sums₀ plain sums
     all-added h p s =
         record {
-          sizes = (g .plainly .size ∙ p .size, g .summed .size ∙ s .size);
+          sizes = (g .plainly .len ∙ p .size, g .summed .len ∙ s .size);
           plainly = λ j l. g .plainly .new j (omega arith);
           summed = λ j l. omega (arith, g .summed .new j (omega arith), g .plainly .new j (omega arith));
         }

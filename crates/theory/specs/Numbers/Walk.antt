@@ -1,15 +1,16 @@
 -- A loop over a list from the front that puts f j in the place of entry j.
-use mathlib.Core.Path.{_≡_, refl, sym, _∙_}
+use mathlib.Core.Path.{_≡_, refl, sym, ap, _∙_}
 use mathlib.Core.List.{List}
 use mathlib.Core.Logic.{⊎-elim, dite}
-use Prim.Native.Nat.{ℕ, _+_, _≤_, _<_, zero-le}
+use Prim.Native.Nat.{ℕ, _+_, _-_, _≤_, _<_, zero-le}
 use native.Mathlib.Nat.{eq-or-lt-of-le}
 use native.Mathlib.Decide.{decLt}
 use native.Mathlib.Omega.{arith}
-use lib.ListN.{length, getD, set, length-set, replicate, length-replicate, List·getD-eq-default}
-use lib.Seq.{getD-set-same, getD-set-other}
-use Rattle.meaning.specs.Number.{tabFrom}
-use Rattle.theory.specs.Numbers.Tab.{tab-of, getD-zeros}
+use lib.ListN.{length, getD, set, drop, length-set, length-append, length-drop, replicate, length-replicate, List·getD-append, List·getD-eq-default}
+use lib.Seq.{ext-getD, getD-set-same, getD-set-other, getD-append-add, getD-drop}
+use Rattle.meaning.specs.Number.{tabFrom, filled}
+use Rattle.theory.specs.Numbers.Sum.{below}
+use Rattle.theory.specs.Numbers.Tab.{tab-at, tab-length, tab-of, getD-zeros}
 
 -- After k turns over l: the numbers below k are new, the others as they were.
 pub record Walked (f : ℕ → ℕ) (l : List ℕ) (k : ℕ) (row : List ℕ) : Type 0 where
@@ -17,6 +18,17 @@ pub record Walked (f : ℕ → ℕ) (l : List ℕ) (k : ℕ) (row : List ℕ) : 
   pub len : length row ≡ length l
   pub new : (j : ℕ) → j < k → getD row j 0 ≡ f j
   pub old : (j : ℕ) → k ≤ j → getD row j 0 ≡ getD l j 0
+
+-- Where an entry of the list at the front of a table lies, and where one of the table's own.
+filled-front : (l t : List ℕ) (j : ℕ) → j < length l → getD (filled l t) j 0 ≡ getD l j 0
+filled-front l t j h = List·getD-append l (drop (length l) t) 0 j h
+
+filled-past : (l t : List ℕ) (j : ℕ) → length l ≤ j → getD (filled l t) j 0 ≡ getD t j 0
+filled-past l t j h =
+    let e : length l + (j - length l) ≡ j = omega arith in
+    ap (λ z. getD (filled l t) z 0) (sym e) ∙ getD-append-add l (drop (length l) t) (j - length l) 0
+    ∙ getD-drop (length l) t (j - length l) 0
+    ∙ ap (λ z. getD t z 0) e
 
 module _ {f : ℕ → ℕ} {l : List ℕ} where
   pub walk-none : Walked f l 0 l
@@ -41,6 +53,18 @@ module _ {f : ℕ → ℕ} {l : List ℕ} where
 
     pub walk-all : length l ≤ k → row ≡ tabFrom 0 (length l) f
     walk-all h = tab-of 0 (length l) f row (w .len) (λ j b. w .new j (omega arith))
+
+    pub walk-filled : (n : ℕ) → k ≡ n → row ≡ filled (tabFrom 0 n f) l
+    walk-filled n e =
+        let t = tabFrom 0 n f in
+        let m : length t ≡ n = tab-length 0 n f in
+        ext-getD 0 row (filled t l)
+        (w .len ∙ sym (length-append t (drop (length t) l) ∙ rw (length-drop (length t) l, m) (omega (arith, w .soFar))))
+        (λ j b.
+        ⊎-elim
+        (λ (q : j < n). w .new j (omega arith) ∙ sym (filled-front t l j (omega arith) ∙ tab-at n f 0 j q))
+        (λ (q : n ≤ j). w .old j (omega arith) ∙ sym (filled-past t l j (omega arith)))
+        (below j n))
 
 -- In a list of m zeros.
 module _ {f : ℕ → ℕ} (m : ℕ) {k : ℕ} {row : List ℕ} (w : Walked f (replicate m 0) k row) where

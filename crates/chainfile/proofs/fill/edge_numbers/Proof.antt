@@ -39,7 +39,7 @@ loop-again c =
     more-kept f (a .lost .now) (a .table .now) (s .pre .1) (at .loop .inv) inside (c .before .before .keep .ensures)
 
 same-length : tie.Need-same-length Inv-loop μ-loop
-same-length c = c .before .loop .inv .set .size
+same-length c = c .before .loop .inv .set .len
 
 returns : tie.Need-returns Inv-loop μ-loop
 returns c =

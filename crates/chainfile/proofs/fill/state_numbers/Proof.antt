@@ -1,21 +1,21 @@
 use Prim.Native.Nat.{_+_, _-_, _≤_, min}
-use mathlib.Core.Path.{_≡_, refl, _∙_, ap₂}
+use mathlib.Core.Path.{_≡_, _∙_, ap₂}
 use native.Mathlib.Omega.{arith}
 use borrow.Author.Needs.{needs}
 use Rattle.meaning.specs.Block.{numberAt, stateAt}
 use Rattle.chainfile.specs.Input.{input}
-use Rattle.theory.specs.Numbers.Filled.{Filled, none, more, all}
+use Rattle.theory.specs.Numbers.Walk.{Walked, walk-none, walk-more, walk-filled}
 use Rattle.chainfile.proofs.fill.state_numbers.Statement.{statement}
 use Rattle.chainfile.proofs.fill.state_numbers.Tie as tie
 
 abbrev Inv-loop : tie.InvT-loop
-Inv-loop kept offset width table₀ count i₀ table i = (i ≤ count) × Filled (λ k. numberAt (input kept 0) (stateAt k + offset) width) table₀ i table
+Inv-loop kept offset width table₀ count i₀ table i = (i ≤ count) × Walked (λ k. numberAt (input kept 0) (stateAt k + offset) width) table₀ i table
 
 abbrev μ-loop : tie.MeasureT-loop
 μ-loop kept offset width table₀ count i₀ table i = count - i
 
 loop-holds : tie.Need-loop-holds Inv-loop μ-loop
-loop-holds c = (search needs, none)
+loop-holds c = (search needs, walk-none)
 
 record-at-requires : tie.Need-record-at-requires Inv-loop μ-loop
 record-at-requires c κs = omega arith
@@ -32,15 +32,15 @@ loop-again c =
     let a = at .before .before .before .before .args in
     let few : min (a .width) 4 ≡ a .width = omega (arith, at .before .before .before .before .pre) in (
       search needs,
-      more (at .loop .inv .1) _ _ refl refl (omega arith)
+      walk-more (at .loop .inv .1) (omega arith)
           (c .number .ensures .0 ∙ ap₂ (λ z w. numberAt (input (a .kept .now) 0) (z + a .offset) w) (c .before .record-at .ensures .0) few),
     )
 
 same-length : tie.Need-same-length Inv-loop μ-loop
-same-length c = c .before .loop .inv .1 .size
+same-length c = c .before .loop .inv .1 .len
 
 returns : tie.Need-returns Inv-loop μ-loop
-returns c = let at = c .before in all (at .loop .inv .1) _ (omega (arith, at .before .states .ensures .0)) (search needs)
+returns c = let at = c .before in walk-filled (at .loop .inv .1) _ (omega (arith, at .before .states .ensures .0))
 
 pub state-numbers-spec : {M : Type 1} → statement M
 state-numbers-spec =
