@@ -1,4 +1,4 @@
-/* How much stack each call takes: it is made in a thread whose stack was painted, once for a chain of two states and once for one of 64 whose file is
+/* How much stack each call takes: it is made in a thread whose stack was painted, once for a chain of three states and once for one of 64 whose file is
  * long, and the paint that is gone is counted. Fails where a call is refused that should answer, or takes more than a thread of 256 KiB can give. */
 #define _POSIX_C_SOURCE 200809L
 #include <egorstream.h>

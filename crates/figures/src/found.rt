@@ -112,7 +112,7 @@ fn found(
 }
 
 // The same of an opened file.
-pub fn asked(opened: Opening, table: &[u64], question: Question) -> Figures
+pub(crate) fn asked(opened: Opening, table: &[u64], question: Question) -> Figures
     ensures { λ r. ⌜ ((f : Input) → Opened f opened (now (table .entry)) → FiguresOutcome f question r) ⌝ }
 {
     match opened {

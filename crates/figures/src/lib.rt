@@ -20,7 +20,6 @@ pub use answer::Answer;
 pub use answer::Counts;
 pub use answer::Figures;
 pub use answer::Limits;
-pub use found::asked;
 pub use question::Question;
 
 // What is asked of the chain file of which `kept` holds the first bytes and `more` counts the others. A short file gets a small table.
@@ -29,10 +28,10 @@ pub fn ask(kept: &[u8], more: u64, question: Question) -> Figures
 {
     if opening::long(kept, more) {
         let mut table = [0u64; opening::LARGEST];
-        return asked(opening::of(kept, more, &mut table), &table, question);
+        return found::asked(opening::of(kept, more, &mut table), &table, question);
     }
     let mut table = [0u64; opening::SMALL];
-    asked(opening::of(kept, more, &mut table), &table, question)
+    found::asked(opening::of(kept, more, &mut table), &table, question)
 }
 
 // Its chance and its step list by value, for a caller who has room for so many records.

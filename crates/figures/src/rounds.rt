@@ -5,7 +5,7 @@ ghost use Rattle.figures.specs.Within.{FileWithins};
 use equations::Parts;
 use opening::Opening;
 
-// The steps are looked at before the file is.
+// Of what is wrong with the steps and with the file, the steps are told.
 pub(crate) fn within(opened: Opening, table: &[u64], steps: u64) -> Parts
     ensures { λ r. ⌜ ((f : Input) → Opened f opened (now (table .entry)) → FileWithins f steps r) ⌝ }
 {

@@ -2,11 +2,9 @@
 ghost use mathlib.Core.Path.{_≡_};
 ghost use Prim.Native.Nat.{_≤_};
 ghost use Rattle.meaning.specs.Chain.{M};
-ghost use Rattle.meaning.specs.Block.{Input};
 ghost use Rattle.meaning.specs.Limit.{IsLimit};
 ghost use Rattle.meaning.specs.FileLimit.{FileLimit, nearVerdict, verdictBy};
 ghost use Rattle.chainfile.specs.Input.{input};
-ghost use Rattle.opening.specs.Book.{Opened};
 ghost use Rattle.near.specs.Answer.{toldBetween};
 ghost use Rattle.figures.specs.Told.{toldAnswer};
 ghost use Rattle.limit.specs.Told.{told};
@@ -17,7 +15,6 @@ use limit::Limit;
 use near::answer::Between;
 use near::answer::Nearly;
 use nearfile::From;
-use opening::Opening;
 
 // Open: which of the two cannot be said.
 pub enum Verdict {
@@ -61,13 +58,13 @@ fn decided(m: Limit, exact: Answer, chance: Between) -> Verdict
     Verdict::Broken
 }
 
-fn asked(opened: Opening, table: &[u64], m: Limit) -> Limited
-    requires { ⌜ IsLimit (told m) × ((f : Input) × Opened f opened (now table)) ⌝ }
-    ensures { λ r. ⌜ ((f : Input) → Opened f opened (now (table .entry)) → FileLimit f (told m) (toldLimited r)) ⌝ }
+fn asked(kept: &[u8], more: u64, m: Limit) -> Limited
+    requires { ⌜ IsLimit (told m) ⌝ }
+    ensures { λ r. ⌜ FileLimit (input (now (kept .entry)) more) (told m) (toldLimited r) ⌝ }
 {
-    match nearfile::near_of(opened, table, From::Start) {
+    match nearfile::near(kept, more, From::Start) {
         Nearly::Found(found) => {
-            let answers = figures::asked(opened, table, Question::Chance);
+            let answers = figures::ask(kept, more, Question::Chance);
             let exact = answers.chance;
             let chance = found.chance;
             Limited::Judged {
@@ -84,12 +81,7 @@ pub fn judge(kept: &[u8], more: u64, m: Limit) -> Limited
     ensures { λ r. ⌜ FileLimit (input (now (kept .entry)) more) (told m) (toldLimited r) ⌝ }
 {
     if limit::sound(m) {
-        if opening::long(kept, more) {
-            let mut table = [0u64; opening::LARGEST];
-            return asked(opening::of(kept, more, &mut table), &table, m);
-        }
-        let mut table = [0u64; opening::SMALL];
-        return asked(opening::of(kept, more, &mut table), &table, m);
+        return asked(kept, more, m);
     }
     Limited::Refused {
         number: 35,

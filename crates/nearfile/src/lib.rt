@@ -27,7 +27,7 @@ fn start(from: From, own: usize) -> usize
 }
 
 // The near chances of an opened file.
-pub fn near_of(opened: Opening, table: &[u64], from: From) -> Nearly
+fn near_of(opened: Opening, table: &[u64], from: From) -> Nearly
     ensures { λ r.
         ⌜ ((f : Input) → Opened f opened (now (table .entry)) → FileNear f (fromOf from) (toldNear r) (toldMiss r) × Proper r) ⌝ }
 {

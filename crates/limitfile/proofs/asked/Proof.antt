@@ -5,21 +5,19 @@ use Rattle.limitfile.proofs.asked.Tie as tie
 
 decided-requires : tie.Need-decided-requires
 decided-requires c κs =
-    let p = c .before .before .before .before .before .before .before .before .pre in
-    (p .0, exact-few (c .before .before .asked .ensures _ (p .1 .1)))
+    (c .before .before .before .before .before .before .before .before .pre, exact-few (c .before .before .ask .ensures))
 
 returns : tie.Need-returns
-returns c f o =
+returns c =
     let at-ask = c .before .before .before in
     let at-found = at-ask .before .before in
     let at-near = at-found .before .before in
-    limit-judged (at-near .before .before .pre .0) (at-near .near-of .result) (at-near .near-of .ensures f o) (at-found .found .given .1)
-    (at-ask .asked .ensures f o) (c .decided .ensures)
+    limit-judged (at-near .before .before .pre) (at-near .near .result) (at-near .near .ensures) (at-found .found .given .1) (at-ask .ask .ensures) (c .decided .ensures)
 
 returns-2 : tie.Need-returns-2
-returns-2 c f o =
+returns-2 c =
     let at-near = c .before .before .before in
-    limit-refused (at-near .before .before .pre .0) (at-near .near-of .result) (at-near .near-of .ensures f o) (c .before .number .given .1)
+    limit-refused (at-near .before .before .pre) (at-near .near .result) (at-near .near .ensures) (c .before .number .given .1)
 
 pub asked-spec : {M : Type 1} → statement M
 asked-spec =
