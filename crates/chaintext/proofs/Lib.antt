@@ -7,6 +7,7 @@ pub mod States
 pub mod Orders
 pub mod Goals
 pub mod Turning
+pub mod Cells
 pub mod Adding
 pub mod Splitting
 pub mod Finishing

@@ -9,41 +9,14 @@ use lib.ListN.{length, getD}
 use Rattle.meaning.specs.Text.{bytesOf, readOn, IsDigit}
 use Rattle.meaning.specs.Limit.{Limit, limit, noLimit, IsLimit, longestWord, DigitsIn, Stands, Marked, Spelled, afterPoint, spelledLimit, Says, LimitWord, nothing}
 use Rattle.meaning.specs.Limit as meant
-use Rattle.theory.specs.Numbers.Sum.{below}
 use Rattle.theory.specs.Outcomes.Determined.{meet}
 use Rattle.theory.specs.Limits.Word.{end-letter, past-mark, past-point, limit-word-one}
 use Rattle.limit.specs.Told.{told}
 use Rattle.limit.specs.declared.Limit as code
 use Rattle.input.specs.Digit.{Digit, stands, none}
-use Rattle.input.specs.Run.{Runs, past, Capped, is, beyond, ReadRun, Middle, TensOf}
+use Rattle.input.specs.Run.{Runs, past, Capped, is, ReadRun, Middle, TensOf}
 use Rattle.input.specs.declared.limit_word.Run.{Run}
-
--- A number stands for itself, is never above the cap, and keeps with one digit more to what it stands for.
-pub capped-self : (x : ℕ) → x ≤ past → Capped x x
-capped-self x h = ⊎-elim (λ (l : x < past). is l refl) (λ (l : past ≤ x). beyond l (omega arith)) (below x past)
-
-pub capped-few : {x z : ℕ} → Capped x z → x ≤ past
-capped-few (is h e) = omega arith
-capped-few (beyond h e) = omega arith
-
-pub pushed-past : {x z : ℕ} (d : ℕ) → past < x * 10 + d → Capped x z → Capped past (z * 10 + d)
-pushed-past d l (is h e) = beyond (omega arith) refl
-pushed-past d l (beyond h e) = beyond (omega arith) refl
-
-pub pushed-on : {x z : ℕ} (d : ℕ) → x * 10 + d ≤ past → Capped x z → Capped (x * 10 + d) (z * 10 + d)
-pushed-on {x} {z} d l (is h e) =
-    let q : x * 10 + d ≡ z * 10 + d = omega arith in
-    ⊎-elim (λ (k : z * 10 + d < past). is k q) (λ (k : past ≤ z * 10 + d). beyond k (omega arith)) (below (z * 10 + d) past)
-pushed-on d l (beyond h e) = absurd (omega arith)
-
--- The exact number, where it is small on either side.
-pub capped-small : {x z : ℕ} → Capped x z → x < past → x ≡ z
-capped-small (is h e) l = e
-capped-small (beyond h e) l = absurd (omega arith)
-
-pub capped-known : {x z : ℕ} → Capped x z → z < past → x ≡ z
-capped-known (is h e) l = e
-capped-known (beyond h e) l = absurd (omega arith)
+use Rattle.input.proofs.Capped.{capped-self, capped-few, capped-small, capped-known}
 
 -- The run from a place on is read up to another.
 pub record RunTo (word : List ℕ) (begin x end number : ℕ) : Type 0 where

@@ -1,5 +1,5 @@
 use borrow.Author.Needs.{needs}
-use Rattle.input.proofs.LimitWord.{pushed-past, pushed-on}
+use Rattle.input.proofs.Capped.{pushed-past, pushed-on}
 use Rattle.input.proofs.limit_word.pushed.Statement.{statement}
 use Rattle.input.proofs.limit_word.pushed.Tie as tie
 

@@ -1,6 +1,7 @@
 use Prim.Native.Nat.{_-_}
 use lib.ListN.{length}
 use borrow.Author.Needs.{needs}
+use Rattle.input.proofs.Capped.{}
 use Rattle.input.proofs.LimitWord.{RunTo, run-none, run-few, run-all, run-stop, run-small, run-more}
 use Rattle.input.proofs.limit_word.read_run.Statement.{statement}
 use Rattle.input.proofs.limit_word.read_run.Tie as tie
