@@ -9,7 +9,7 @@ use Rattle.meaning.specs.Chain.{most_states, most_edges}
 use Rattle.meaning.specs.Block.{Input, number_at, count_at, records_at, check_at, record_size, first_version, version_in, head_states, head_edges, head_zeros}
 use Rattle.meaning.specs.File.{NonZero, HeadFault, FlagFault, ReservedFault, ContentFault, kind_of, count_of}
 use Rattle.meaning.specs.Number.{decides}
-use Rattle.bytes.specs.Input.{input}
+use Rattle.octets.specs.Input.{input}
 use Rattle.blocks.proofs.Law.{carry}
 
 -- Of the head's faults none but a reserved byte is left.

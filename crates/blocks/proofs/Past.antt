@@ -10,7 +10,7 @@ use Rattle.meaning.specs.File.{BlockRefused}
 use Rattle.theory.specs.Numbers.Little.{past}
 use Rattle.theory.specs.Files.Agree.{sum_of}
 use Rattle.theory.specs.Files.Sums.{first_like, second_like}
-use Rattle.bytes.specs.Input.{input}
+use Rattle.octets.specs.Input.{input}
 
 -- Zeros add nothing to sums that begin at 0.
 first_zeros : (n : ℕ) → first_sum 255 0 (λ _. 0) n ≡ 0

@@ -3,11 +3,11 @@ ghost use Rattle.std.specs.Prelude.{◌≡◌, ℕ, ◌*◌, ◌-◌, ◌≤◌,
 ghost use Rattle.meaning.specs.Block.{block_at, records_at, full_block, first_version, version_in};
 ghost use Rattle.meaning.specs.File.{CheckFault, BlockNumberFault, VersionFault, KindFault, ReservedFault, ContentFault, kind_of, count_of};
 ghost use Rattle.meaning.specs.Number.{decides};
-ghost use Rattle.bytes.specs.Input.{input};
+ghost use Rattle.octets.specs.Input.{input};
 ghost use Rattle.blocks.specs.Tested.{tested};
 
 use crate::{head, records};
-use bytes::layout;
+use octets::layout;
 
 // What a test of a block finds.
 #[derive(Drop)]
@@ -22,11 +22,11 @@ fn check_wrong(kept: &[u8], b: usize) -> bool
     ensures { decides (CheckFault (input kept.now 0) b) result }
 {
     let at = layout::BLOCK * b;
-    let sums = fletcher::check(kept, b, bytes::byte(kept, at + layout::VERSION));
-    if bytes::byte(kept, at + layout::CHECKED) != sums.first {
+    let sums = fletcher::check(kept, b, octets::byte(kept, at + layout::VERSION));
+    if octets::byte(kept, at + layout::CHECKED) != sums.first {
         return true;
     }
-    if bytes::byte(kept, at + layout::CHECKED + 1) != sums.second {
+    if octets::byte(kept, at + layout::CHECKED + 1) != sums.second {
         return true;
     }
     false
@@ -38,7 +38,7 @@ fn block_number_wrong(kept: &[u8], b: usize) -> bool
     ensures { decides (BlockNumberFault (input kept.now 0) b) result }
 {
     let place = b as u64;
-    if bytes::number(kept, layout::BLOCK * b + layout::BLOCK_NUMBER, layout::PAIR) != place {
+    if octets::number(kept, layout::BLOCK * b + layout::BLOCK_NUMBER, layout::PAIR) != place {
         return true;
     }
     false
@@ -63,8 +63,8 @@ fn version_wrong(kept: &[u8], b: usize) -> bool
     ensures { decides (VersionFault (input kept.now 0) b) result }
 {
     let at = layout::BLOCK * b + layout::VERSION;
-    let version = bytes::byte(kept, at);
-    if version != bytes::byte(kept, layout::VERSION) {
+    let version = octets::byte(kept, at);
+    if version != octets::byte(kept, layout::VERSION) {
         return true;
     }
     match version {
@@ -79,7 +79,7 @@ fn kind_wrong(kept: &[u8], b: usize) -> bool
     ensures { decides (KindFault (input kept.now 0) b) result }
 {
     let at = layout::BLOCK * b;
-    if bytes::byte(kept, at + layout::KIND) != kind(kept, b) {
+    if octets::byte(kept, at + layout::KIND) != kind(kept, b) {
         return true;
     }
     version_wrong(kept, b)
@@ -118,7 +118,7 @@ fn edges_wrong(kept: &[u8], b: usize, count: usize) -> bool
         decides ((version_in f b ≡ first_version) × ReservedFault f (records_at b) count) result }
 {
     let at = layout::BLOCK * b;
-    if bytes::byte(kept, at + layout::VERSION) != layout::FIRST {
+    if octets::byte(kept, at + layout::VERSION) != layout::FIRST {
         return false;
     }
     records::reserved_wrong(kept, at + layout::RECORDS, count)
@@ -132,10 +132,10 @@ fn content_wrong(kept: &[u8], b: usize) -> bool
     let at = layout::BLOCK * b;
     let begin = at + layout::RECORDS;
     let count = count(kept, b);
-    if bytes::number(kept, at + layout::COUNT, layout::PAIR) != count as u64 {
+    if octets::number(kept, at + layout::COUNT, layout::PAIR) != count as u64 {
         return true;
     }
-    if bytes::written(kept, begin + layout::RECORD * count, at + layout::CHECKED) {
+    if octets::written(kept, begin + layout::RECORD * count, at + layout::CHECKED) {
         return true;
     }
     let kind = kind(kept, b);

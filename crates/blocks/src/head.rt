@@ -1,26 +1,26 @@
 // What the head's record says, and how many blocks it demands.
 ghost use Rattle.std.specs.Prelude.{◌≡◌, ◌<◌};
 ghost use Rattle.meaning.specs.Block.{head_states, head_start, head_edges, blocks_of, state_blocks, demanded};
-ghost use Rattle.bytes.specs.Input.{input};
+ghost use Rattle.octets.specs.Input.{input};
 
-use bytes::layout;
+use octets::layout;
 
 pub fn states(kept: &[u8]) -> usize
     ensures { (result ≡ head_states (input kept.now 0)) × (result < 256) }
 {
-    bytes::byte(kept, layout::RECORDS + layout::HEAD_STATES) as usize
+    octets::byte(kept, layout::RECORDS + layout::HEAD_STATES) as usize
 }
 
 pub fn start(kept: &[u8]) -> usize
     ensures { result ≡ head_start (input kept.now 0) }
 {
-    bytes::byte(kept, layout::RECORDS + layout::HEAD_START) as usize
+    octets::byte(kept, layout::RECORDS + layout::HEAD_START) as usize
 }
 
 pub fn edges(kept: &[u8]) -> usize
     ensures { (result ≡ head_edges (input kept.now 0)) × (result < 65536) }
 {
-    bytes::number(kept, layout::RECORDS + layout::HEAD_EDGES, layout::PAIR) as usize
+    octets::number(kept, layout::RECORDS + layout::HEAD_EDGES, layout::PAIR) as usize
 }
 
 // Every block but the last of its kind is full.

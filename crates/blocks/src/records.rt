@@ -3,11 +3,11 @@ ghost use Rattle.std.specs.Prelude.{◌+◌, ◌*◌, ◌≤◌, length};
 ghost use Rattle.meaning.specs.Block.{block_size, record_size};
 ghost use Rattle.meaning.specs.File.{HeadFault, FlagFault, ReservedFault};
 ghost use Rattle.meaning.specs.Number.{decides};
-ghost use Rattle.bytes.specs.Input.{input};
+ghost use Rattle.octets.specs.Input.{input};
 
 use crate::head;
-use bytes::layout;
 use chain::Chain;
+use octets::layout;
 
 // The head's n or edges are out of bounds, or a reserved byte is not 0.
 pub(crate) fn head_wrong(kept: &[u8]) -> bool
@@ -27,7 +27,7 @@ pub(crate) fn head_wrong(kept: &[u8]) -> bool
     if Chain::EDGES < edges {
         return true;
     }
-    bytes::written(
+    octets::written(
         kept,
         layout::RECORDS + layout::HEAD_REST,
         layout::RECORDS + layout::RECORD,
@@ -41,7 +41,7 @@ pub(crate) fn flag_wrong(kept: &[u8], at: usize, count: usize) -> bool
 {
     let mut i = 0;
     while i < count {
-        if 1 < bytes::byte(kept, at + layout::RECORD * i + layout::FLAG) {
+        if 1 < octets::byte(kept, at + layout::RECORD * i + layout::FLAG) {
             return true;
         }
         i += 1;
@@ -57,7 +57,7 @@ pub(crate) fn reserved_wrong(kept: &[u8], at: usize, count: usize) -> bool
     let mut i = 0;
     while i < count {
         let begin = at + layout::RECORD * i;
-        if bytes::written(kept, begin + layout::EDGE_REWARD, begin + layout::WEIGHT) {
+        if octets::written(kept, begin + layout::EDGE_REWARD, begin + layout::WEIGHT) {
             return true;
         }
         i += 1;

@@ -18,7 +18,7 @@ use Rattle.theory.specs.Numbers.Walk.{Walked}
 use Rattle.chain.specs.Edge.{placed}
 use Rattle.chainfile.specs.Input.{input}
 use Rattle.chainfile.specs.Tells.{Within, ShortIn, Narrow, edge_from}
-use Rattle.bytes.proofs.Cut.{cut, cut_from}
+use Rattle.octets.proofs.Cut.{cut, cut_from}
 
 -- An edge more, in a table with room for it.
 module _ (edges : ℕ → List ℕ) (e : ℕ) {before table : List ℕ} (w : Walked (edge_number edges) before (edge_size * e) table) where

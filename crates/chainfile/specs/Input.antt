@@ -2,7 +2,7 @@
 use Rattle.std.specs.Prelude.{ℕ}
 use Rattle.meaning.specs.Block.{block_at}
 use Rattle.meaning.specs.File.{most_blocks}
-pub use Rattle.bytes.specs.Input.{input}
+pub use Rattle.octets.specs.Input.{input}
 
 -- Where the most blocks of a file end.
 abbrev pub end : ℕ

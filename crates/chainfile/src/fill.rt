@@ -10,8 +10,8 @@ ghost use Rattle.chainfile.specs.Input.{input, end};
 ghost use Rattle.chainfile.specs.Tells.{Within, ShortFor, Narrow, edge_from, EdgeSet, tables};
 
 use blocks::head;
-use bytes::layout;
 use chain::{Chain, edge, table};
+use octets::layout;
 
 // 2: a table is shorter than a chain of so many states and so many edges needs.
 pub(crate) fn short_for(
@@ -72,7 +72,7 @@ fn state_numbers(kept: &[u8], offset: usize, width: usize, table: &mut [u64])
     let count = head::states(kept);
     let mut i = 0;
     while i < count {
-        table[i] = bytes::number(kept, record_at(1, i) + offset, width);
+        table[i] = octets::number(kept, record_at(1, i) + offset, width);
         i += 1;
     }
 }
@@ -86,7 +86,7 @@ pub(crate) fn goals(kept: &[u8]) -> u64
     let mut goals = 0;
     let mut i = 0;
     while i < count {
-        goals += bytes::byte(kept, record_at(1, i) + layout::FLAG) << i;
+        goals += octets::byte(kept, record_at(1, i) + layout::FLAG) << i;
         i += 1;
     }
     goals
@@ -96,10 +96,10 @@ pub(crate) fn goals(kept: &[u8]) -> u64
 fn put_record(bytes: &[u8], table: &mut [u64], k: usize)
     ensures { table.new ≡ placed table.old k (edge_from (input bytes.now 0) 0) }
 {
-    let from = bytes::byte(bytes, layout::FROM);
-    let to = bytes::byte(bytes, layout::TO);
-    let weight = bytes::number(bytes, layout::WEIGHT, layout::QUAD);
-    let reward = bytes::number(bytes, layout::EDGE_REWARD, layout::PAIR);
+    let from = octets::byte(bytes, layout::FROM);
+    let to = octets::byte(bytes, layout::TO);
+    let weight = octets::number(bytes, layout::WEIGHT, layout::QUAD);
+    let reward = octets::number(bytes, layout::EDGE_REWARD, layout::PAIR);
     edge::put(table, k, from, to, weight, reward);
 }
 
@@ -114,7 +114,7 @@ fn edge_record(kept: &[u8], first: usize, e: usize, table: &mut [u64], k: usize)
         put_record(&kept[at..after], table, k);
         return;
     }
-    let low = bytes::end(kept, at);
+    let low = octets::end(kept, at);
     put_record(&kept[low..], table, k);
 }
 

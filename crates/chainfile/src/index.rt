@@ -6,8 +6,8 @@ ghost use Rattle.chainfile.specs.Input.{input};
 ghost use Rattle.chainfile.specs.Index.{Whole};
 
 use blocks::head;
-use bytes::layout;
 use chain::table;
+use octets::layout;
 
 // Edge e of the file counts as one where it is kept, and else as none.
 fn counted(kept: &[u8], lost: &[u64], e: usize) -> usize

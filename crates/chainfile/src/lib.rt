@@ -1,5 +1,7 @@
 // The readers of chain files: a file is refused with its number and place, or its chain and tables are handed over; the salvaging reader hands over
 // what is left of it. What is public beside them is for other crates.
+#![tactic(auto)]
+
 ghost use Rattle.std.specs.Prelude.{◌≡◌, ℕ};
 ghost use Rattle.meaning.specs.Block.{head_states, head_start};
 ghost use Rattle.meaning.specs.File.{Short, ReadOutcome, reading, goals_in};
@@ -8,9 +10,9 @@ ghost use Rattle.chainfile.specs.Input.{input};
 ghost use Rattle.chainfile.specs.Tells.{Within, OpenOutcome, LeftOver, told, told_left, tables};
 
 use blocks::head;
-use bytes::layout;
 use chain::Chain;
 use judge::Verdict;
+use octets::layout;
 
 mod fill;
 pub mod index;

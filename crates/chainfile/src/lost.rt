@@ -7,7 +7,7 @@ ghost use Rattle.chainfile.specs.Tells.{LostBy, Verdicts};
 
 use blocks::block::Block;
 use blocks::{block, head};
-use bytes::layout;
+use octets::layout;
 
 // The number by which the block is lost, 0 where it is kept.
 fn by(kept: &[u8], b: usize) -> u64

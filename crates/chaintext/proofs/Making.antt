@@ -21,7 +21,7 @@ use Rattle.meaning.specs.Translate.{most_text, TextLong, MakeOutcome}
 use Rattle.theory.specs.Numbers.Sum.{below}
 use Rattle.theory.specs.Numbers.Tab.{get_d_zeros}
 use Rattle.theory.specs.Texts.Made.{writes_made}
-use Rattle.bytes.specs.Input.{input}
+use Rattle.octets.specs.Input.{input}
 use Rattle.chaintext.specs.Turns.{tables, held_lent, Cells}
 use Rattle.chaintext.specs.Read.{Held-says, read_as, ReadAs}
 use Rattle.chaintext.specs.declared.turns.Held.{Held}

@@ -1,9 +1,11 @@
 // The text form of chain files, read: a chain file is made from a text.
+#![tactic(auto)]
+
 ghost use Rattle.std.specs.Prelude.{◌≤◌, length};
 ghost use Rattle.meaning.specs.Number.{decides};
 ghost use Rattle.meaning.specs.Reorder.{longest_file};
 ghost use Rattle.meaning.specs.Translate.{most_text, TextLong, MakeOutcome};
-ghost use Rattle.bytes.specs.Input.{input};
+ghost use Rattle.octets.specs.Input.{input};
 ghost use Rattle.chainwriter.specs.Tells.{told};
 
 use crate::read::Reading;
@@ -20,7 +22,7 @@ mod turns;
 pub const LONGEST: usize = 262144;
 
 // Room for any chain file.
-pub const FILE_ROOM: usize = bytes::layout::LONGEST;
+pub const FILE_ROOM: usize = octets::layout::LONGEST;
 
 // A text of which not all was kept is too long as well.
 fn too_long(text: &[u8], more: u64) -> bool

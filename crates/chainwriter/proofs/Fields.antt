@@ -12,7 +12,7 @@ use Rattle.meaning.specs.Refusal.{Lent}
 use Rattle.meaning.specs.Block.{Input, number_at, record_size, full_block, state_blocks}
 use Rattle.theory.specs.Numbers.Sum.{sum_ext}
 use Rattle.theory.specs.Numbers.Digits.{digits_low, digits_from}
-use Rattle.bytes.specs.Input.{input}
+use Rattle.octets.specs.Input.{input}
 use Rattle.chainwriter.specs.Packed.{head_record, state_record, edge_record, record_of, slot_of, begin_of}
 use Rattle.chainwriter.specs.Made.{Stands}
 

@@ -32,13 +32,13 @@ use Rattle.meaning.specs.File.{kind_of, count_of}
 use Rattle.theory.specs.Numbers.Sum.{same, last_or_below, sum_ext}
 use Rattle.theory.specs.Numbers.Tab.{tab_at}
 use Rattle.theory.specs.Files.Agree.{sum_of, sums_agree}
-use Rattle.bytes.specs.Input.{input}
-use Rattle.bytes.specs.Written.{Written, Stored, little_endian}
+use Rattle.octets.specs.Input.{input}
+use Rattle.octets.specs.Written.{Written, Stored, little_endian}
 use Rattle.chainwriter.specs.Packed.{slot_of, front_of, check_of, begin_of}
 use Rattle.chainwriter.specs.Made.{Outside, Stands, Fronted, Slots, Checked, Block, Made, Filed}
 use Rattle.fletcher.proofs.Summed.{sums_small}
-use Rattle.bytes.proofs.Steps.{front, kept}
-use Rattle.bytes.proofs.Storing.{size, stored}
+use Rattle.octets.proofs.Steps.{front, kept}
+use Rattle.octets.proofs.Storing.{size, stored}
 
 -- What a text that is written leaves, byte by byte.
 module _ {before text after : List ℕ} {place next : ℕ} (w : Written before place text after next) where

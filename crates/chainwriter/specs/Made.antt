@@ -4,7 +4,7 @@ use Rattle.meaning.specs.Refusal.{Lent}
 use Rattle.meaning.specs.Block.{byte, block_size, block_at, records_at, check_at, record_size, full_block, first_sum, second_sum}
 use Rattle.meaning.specs.File.{kind_of, count_of}
 use Rattle.theory.specs.Files.Agree.{sum_of}
-use Rattle.bytes.specs.Input.{input}
+use Rattle.octets.specs.Input.{input}
 use Rattle.chainwriter.specs.Packed.{slot_of, front_of, begin_of}
 
 -- All bytes before low and from high on are as they were.

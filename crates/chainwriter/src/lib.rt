@@ -1,4 +1,6 @@
 // The writer of chain files: it looks, and then writes.
+#![tactic(auto)]
+
 ghost use Rattle.std.specs.Prelude.{◌≡◌, List, ℕ, ◌+◌, ◌≤◌, length};
 ghost use Rattle.meaning.specs.Chain.{most_states, most_edges};
 ghost use Rattle.meaning.specs.Block.{blocks_of};
@@ -11,10 +13,10 @@ ghost use Rattle.meaning.specs.File.{most_blocks};
 ghost use Rattle.chainwriter.specs.Tells.{told};
 
 use blocks::head;
-use bytes::layout;
 use chain::{Chain, edge};
 use look::scan::Place;
 use look::{Finding, rewards, scan, shape};
+use octets::layout;
 
 mod make;
 mod pack;

@@ -3,14 +3,14 @@ ghost use Rattle.std.specs.Prelude.{[], ◌≡◌, ◌+◌, ◌*◌, ◌≤◌, 
 ghost use Rattle.meaning.specs.Block.{block_size, block_at, full_block};
 ghost use Rattle.meaning.specs.File.{kind_of, count_of, most_blocks};
 ghost use Rattle.chain.specs.Lent.{lent};
-ghost use Rattle.bytes.specs.Input.{input};
+ghost use Rattle.octets.specs.Input.{input};
 ghost use Rattle.chainwriter.specs.Packed.{Fitting, begin_of};
 ghost use Rattle.chainwriter.specs.Made.{Fronted, Slots, Checked, Made, Filed};
 
 use crate::pack;
 use blocks::{block, head};
-use bytes::{layout, put_number};
 use chain::Chain;
+use octets::{layout, put_number};
 
 // Which record of its kind is the first of block b.
 fn begin(kept: &[u8], b: usize) -> usize
@@ -83,7 +83,7 @@ fn check(buffer: &mut [u8], b: usize)
     ensures { Checked buffer.old b buffer.new }
 {
     let at = layout::BLOCK * b;
-    let sums = fletcher::check(buffer, b, bytes::byte(buffer, at + layout::VERSION));
+    let sums = fletcher::check(buffer, b, octets::byte(buffer, at + layout::VERSION));
     put_number(
         buffer,
         at + layout::CHECKED,

@@ -6,9 +6,9 @@ ghost use Rattle.chain.specs.Lent.{lent};
 ghost use Rattle.chainwriter.specs.Packed.{Fitting, head_record, state_record, edge_record, record_of, slot_of, front_of, check_of};
 ghost use Rattle.meaning.specs.File.{most_blocks};
 
-use bytes::layout;
 use chain::table::at;
 use chain::{Chain, edge, set};
+use octets::layout;
 
 // x where it lies from byte `offset` on.
 fn lifted(x: u64, offset: usize) -> u64

@@ -1,9 +1,11 @@
 // Reads a chain file on standard input and a table from the file `shares` in the working folder, and prints whether the table is the chance at
 // every state.
-use bytes::layout;
+#![tactic(auto)]
+
 use chain::Chain;
 use input::Reading;
 use lines::check;
+use octets::layout;
 use report::Printed;
 
 // The longest table and one byte more, so that a longer file shows.

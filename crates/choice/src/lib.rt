@@ -1,4 +1,6 @@
 // An order for a chain's elimination, chosen by the products of rows and columns: it needs no work table.
+#![tactic(auto)]
+
 ghost use Rattle.std.specs.Prelude.{List, [], ℕ};
 ghost use Rattle.chain.specs.Lent.{lent};
 ghost use Rattle.choice.specs.Told.{Chooses};

@@ -1,4 +1,6 @@
 // Fractions over a power of two, at most 1, as they are printed: six decimal digits, rounded down or up.
+#![tactic(auto)]
+
 ghost use Rattle.std.specs.Prelude.{◌≡◌, ◌-◌, ◌/◌, ◌^◌, ◌<◌, ◌≤◌};
 ghost use Rattle.meaning.specs.Near.{digits};
 ghost use Rattle.meaning.specs.NearText.{lower_figure, upper_figure, six_digits, raised, most_number, most_twos};

@@ -1,4 +1,6 @@
 // The dice chain of Knuth and Yao: prints the chance of each face.
+#![tactic(auto)]
+
 use chain::{Chain, edge};
 use engines::entry::chance;
 use report::{Printed, face};

@@ -1,4 +1,6 @@
 // The calls from C for plans of copies.
+#![tactic(auto)]
+
 ghost use Rattle.meaning.specs.Copies.{plan_of, CopiesOutcome};
 ghost use Rattle.copies.specs.Told.{told};
 ghost use Rattle.planning.specs.Told.{PlanNears};

@@ -6,9 +6,9 @@ use native.Mathlib.Omega.{arith}
 use lib.ListN.{length}
 use Rattle.meaning.specs.Number.{tab_from, filled}
 use Rattle.meaning.specs.Call.{answer_length, four_bytes, answer_bytes}
-use Rattle.bytes.specs.Written.{Stored}
-use Rattle.bytes.proofs.Steps.{kept, join, whole}
-use Rattle.bytes.proofs.Storing.{stored}
+use Rattle.octets.specs.Written.{Stored}
+use Rattle.octets.proofs.Steps.{kept, join, whole}
+use Rattle.octets.proofs.Storing.{stored}
 
 pub four_numbers : {l₀ l₁ l₂ l₃ l₄ : List ℕ} {i j k m : ℕ} (p q s t : ℕ) → answer_length ≤ length l₀ → Stored l₀ 0 (four_bytes p) l₁ i
     → Stored l₁ i (four_bytes q) l₂ j → Stored l₂ j (four_bytes s) l₃ k → Stored l₃ k (four_bytes t) l₄ m → l₄ ≡ filled (answer_bytes p q s t) l₀

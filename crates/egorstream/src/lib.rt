@@ -1,4 +1,6 @@
 // The calls from C.
+#![tactic(auto)]
+
 mod call;
 mod check;
 mod limits;

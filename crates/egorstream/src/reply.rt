@@ -3,7 +3,7 @@ ghost use Rattle.std.specs.Prelude.{◌≡◌, ◌≤◌, length};
 ghost use Rattle.meaning.specs.Number.{filled};
 ghost use Rattle.meaning.specs.Call.{answer_length, answer_bytes};
 
-use bytes::put_number;
+use octets::put_number;
 
 const WIDTH: usize = 4;
 

@@ -9,7 +9,7 @@ use chainwriter::Writing;
 pub const EDGE_SIZE: usize = chain::edge::SIZE;
 
 // How many bytes a block of a chain file has.
-pub const BLOCK_LENGTH: usize = bytes::layout::BLOCK;
+pub const BLOCK_LENGTH: usize = octets::layout::BLOCK;
 
 // A refusal's number and place, or 0 and how long the file is.
 #[repr(C)]

@@ -1,4 +1,6 @@
 // The elimination on the rows of a table of 64-bit numbers, by the name of an engine: exact, or with rows rounded where they do not fit.
+#![tactic(auto)]
+
 pub mod course;
 pub mod engine;
 pub mod entry;

@@ -1,5 +1,7 @@
 // The equations of a chain, taken as they stand: what its edges carry, the chance within so many steps, and whether a table is the chance at
 // every state.
+#![tactic(auto)]
+
 ghost use Rattle.std.specs.Prelude.{[]};
 ghost use Rattle.meaning.specs.Judge.{JudgeOutcome};
 ghost use Rattle.chain.specs.Lent.{lent};

@@ -1,5 +1,7 @@
 // Takes the words LOSS REBUILD FINISH LIMIT and prints the fewest copies with which the chance that none is left before the job is finished is
 // within the limit.
+#![tactic(auto)]
+
 use limit::Limit;
 use planning::{FEWEST_ROOM, Weights, fewest};
 use report::Printed;

@@ -1,4 +1,6 @@
 // The figures of the chain in a file, its step list, its chance within so many steps, and what is said of a table that is sent for it.
+#![tactic(auto)]
+
 ghost use Rattle.meaning.specs.Judge.{FileJudged};
 ghost use Rattle.chainfile.specs.Input.{input};
 ghost use Rattle.equations.specs.Judge.{told};

@@ -6,9 +6,9 @@ ghost use Rattle.meaning.specs.Judge.{numerators_of, FileJudged};
 ghost use Rattle.equations.specs.Judge.{told};
 ghost use Rattle.opening.specs.Book.{Holds, Opened};
 
-use bytes::{four_byte_number, layout};
 use chain::Chain;
 use equations::Verdict;
+use octets::{four_byte_number, layout};
 use opening::Opening;
 
 // The numerators of n states, at the front of a table.

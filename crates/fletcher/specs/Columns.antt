@@ -1,7 +1,7 @@
 -- Fletcher's sums of a block's bytes, and the columns that those of a whole block are summed by.
 use Rattle.std.specs.Prelude.{ℕ, ◌+◌, ◌≤◌, ◌<◌, ◌≡◌, List, length, get_or}
 use Rattle.meaning.specs.Block.{byte, first_sum, second_sum, checked_bytes}
-use Rattle.bytes.specs.Input.{input}
+use Rattle.octets.specs.Input.{input}
 
 -- Both sums of all bytes that are checked, where a byte that is not kept counts as 0.
 abbrev pub BothSums : ℕ → ℕ → List ℕ → ℕ → ℕ → Type 0

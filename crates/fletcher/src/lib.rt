@@ -1,11 +1,13 @@
 // Fletcher's two sums of a block.
+#![tactic(auto)]
+
 ghost use Rattle.std.specs.Prelude.{◌≡◌, ℕ, ◌+◌, ◌*◌, ◌≤◌, ◌<◌, length, get_or};
 ghost use Rattle.meaning.specs.Number.{sum_to};
 ghost use Rattle.meaning.specs.Block.{first_sum, second_sum, check_modulus, check_begin, checked_bytes, byte, block_byte};
-ghost use Rattle.bytes.specs.Input.{input};
+ghost use Rattle.octets.specs.Input.{input};
 ghost use Rattle.fletcher.specs.Columns.{columns, BothSums, Low, RowAdded};
 
-use bytes::layout;
+use octets::layout;
 
 // The checked bytes of a whole block as rows of columns, which the compiler sums several at once: with so few rows a column's sums fit 16 bits.
 const ROWS: usize = 5;
@@ -139,7 +141,7 @@ fn byte_by_byte(block: &[u8], modulus: u64, begin: u64) -> Sums
     let mut second = begin;
     let mut i = 0;
     while i < block.len() {
-        first += bytes::wide(block[i]);
+        first += octets::wide(block[i]);
         second += first;
         i += 1;
     }
@@ -172,6 +174,6 @@ pub fn check(kept: &[u8], b: usize, version: u64) -> Sums
 {
     let rule = rule_of(version);
     let at = block_start(kept, b);
-    let e = bytes::end(kept, at + layout::CHECKED);
+    let e = octets::end(kept, at + layout::CHECKED);
     both(&kept[at..e], rule.modulus, rule.begin)
 }

@@ -1,4 +1,6 @@
 // What programs are given: standard input and files, what is kept of them and what is only counted; and words.
+#![tactic(auto)]
+
 ghost use Rattle.std.specs.Prelude.{◌+◌, ◌^◌, ◌≤◌, ◌<◌, ◌≡◌, length};
 ghost use Rattle.input.specs.Kept.{fitting, pasted};
 ghost use Rattle.input.specs.Reads.{so_far, Steps, Reads};

@@ -1,13 +1,15 @@
 // Whether a whole file, or its front, is accepted: 20, the head block, the block total, and then each further block in turn.
+#![tactic(auto)]
+
 ghost use Rattle.std.specs.Prelude.{ℕ};
 ghost use Rattle.meaning.specs.File.{LengthFault, TotalFault};
 ghost use Rattle.meaning.specs.Number.{decides};
-ghost use Rattle.bytes.specs.Input.{input};
+ghost use Rattle.octets.specs.Input.{input};
 ghost use Rattle.judge.specs.Tells.{begun, further, judged, fronted};
 
 use blocks::block::Block;
 use blocks::{block, head};
-use bytes::layout;
+use octets::layout;
 
 // What a file is found to be: accepted, or refused with a number at a place.
 #[derive(Drop)]

@@ -1,4 +1,6 @@
 // A limit for a chance, so many digits over a power of ten, and what is at most a limit.
+#![tactic(auto)]
+
 ghost use Rattle.std.specs.Prelude.{◌≡◌, ◌*◌, ◌^◌, leb};
 ghost use Rattle.meaning.specs.Number.{decides};
 ghost use Rattle.meaning.specs.Limit.{IsLimit, keeps};

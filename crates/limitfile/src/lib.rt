@@ -1,4 +1,6 @@
 // Is the chance of the chain in a file within a limit.
+#![tactic(auto)]
+
 ghost use Rattle.std.specs.Prelude.{◌≡◌, ◌≤◌};
 ghost use Rattle.meaning.specs.Chain.{M};
 ghost use Rattle.meaning.specs.Limit.{IsLimit};

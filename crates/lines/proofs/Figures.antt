@@ -12,9 +12,9 @@ use Rattle.meaning.specs.Near.{Near}
 use Rattle.meaning.specs.NearText.{Figure, lower_figure, upper_figure, last_digits, figure_text, figures_text, near_text}
 use Rattle.theory.specs.Numbers.Sum.{below}
 use Rattle.theory.specs.Numbers.Decimal.{digits}
-use Rattle.bytes.specs.Written.{Written, Stored}
-use Rattle.bytes.proofs.Steps.{join, kept}
-use Rattle.bytes.proofs.Storing.{stored, stored_unique}
+use Rattle.octets.specs.Written.{Written, Stored}
+use Rattle.octets.proofs.Steps.{join, kept}
+use Rattle.octets.proofs.Storing.{stored, stored_unique}
 use Rattle.text.specs.Pieces.{Named}
 use Rattle.text.proofs.Naming.{named_written, named_past}
 use Rattle.lines.specs.Widths.{figure_width, figures_width, Fitted, FiguresLine, written, full}

@@ -11,7 +11,7 @@ use Rattle.meaning.specs.Report.{AnswerOutcome}
 use Rattle.meaning.specs.Limit.{Limit}
 use Rattle.meaning.specs.FileLimit.{kept, broken, undecided, refused, judged, verdict_text, limit_line, LimitReport, limit_room, FileLimit, LimitReportOutcome}
 use Rattle.meaning.specs.FileLimit as meant
-use Rattle.bytes.specs.Written.{Written}
+use Rattle.octets.specs.Written.{Written}
 use Rattle.near.specs.Answer.{told_between}
 use Rattle.near.specs.declared.answer.Between.{Between}
 use Rattle.limitfile.specs.Told.{told_verdict, told_limited}

@@ -13,9 +13,9 @@ use Rattle.meaning.specs.Number.{choose}
 use Rattle.meaning.specs.Report.{refused_text, AnswerOutcome}
 use Rattle.meaning.specs.Within.{all_parts, no_within, within, within_text, within_line, within_room, FileWithin, WithinReport, WithinReportOutcome}
 use Rattle.theory.specs.Rounds.Texts.{within_report_one}
-use Rattle.bytes.specs.Written.{Written, Stored}
-use Rattle.bytes.proofs.Steps.{join, kept}
-use Rattle.bytes.proofs.Storing.{stored}
+use Rattle.octets.specs.Written.{Written, Stored}
+use Rattle.octets.proofs.Steps.{join, kept}
+use Rattle.octets.proofs.Storing.{stored}
 use Rattle.equations.specs.Told.{told as parts-told, Proper}
 use Rattle.equations.specs.declared.Parts.{Parts}
 use Rattle.equations.specs.declared.Parts.TheVariants.{Held, Refused}

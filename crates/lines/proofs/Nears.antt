@@ -14,7 +14,7 @@ use Rattle.meaning.specs.Report.{refused_text, AnswerOutcome}
 use Rattle.meaning.specs.NearText.{near_text, near_room}
 use Rattle.meaning.specs.FileNear.{From, FileNear, NearReport, NearReportOutcome}
 use Rattle.theory.specs.Files.NearFile.{near_report_one}
-use Rattle.bytes.specs.Written.{Written}
+use Rattle.octets.specs.Written.{Written}
 use Rattle.near.specs.Answer.{told_between, told_near, told_miss, Proper}
 use Rattle.near.specs.declared.answer.Figures.{Figures}
 use Rattle.near.specs.declared.answer.Nearly.{Nearly}

@@ -9,9 +9,9 @@ use Rattle.meaning.specs.Text.{bytes_of, decimal, decimal_in}
 use Rattle.meaning.specs.Report.{line_text, answer_room, AnswerOutcome}
 use Rattle.meaning.specs.Judge.{Verdict as Said, right, wrong, refusal, FileJudged, verdict_line, JudgeReport, JudgeReportOutcome}
 use Rattle.theory.specs.Judging.Texts.{judged_one, file_judged_number}
-use Rattle.bytes.specs.Written.{Written, Stored}
-use Rattle.bytes.proofs.Steps.{join, kept}
-use Rattle.bytes.proofs.Storing.{stored}
+use Rattle.octets.specs.Written.{Written, Stored}
+use Rattle.octets.proofs.Steps.{join, kept}
+use Rattle.octets.proofs.Storing.{stored}
 use Rattle.equations.specs.Judge.{told as verdict-told}
 use Rattle.equations.specs.declared.verdict.Verdict.{Verdict}
 use Rattle.equations.specs.declared.verdict.Verdict.TheVariants.{Yes, No, Refused}

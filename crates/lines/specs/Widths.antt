@@ -1,7 +1,7 @@
 -- The widths of a figure and of a line of two, with numbers of 64 bits, and a text that takes no more than its width.
 use Rattle.std.specs.Prelude.{ℕ, ◌+◌, ◌≤◌, ◌<◌, ◌≡◌, List, length}
 use Rattle.meaning.specs.NearText.{Figure, figures_text}
-use Rattle.bytes.specs.Written.{Written}
+use Rattle.octets.specs.Written.{Written}
 
 -- The first number, a point with five digits, `e-` and the tens.
 abbrev pub figure_width : ℕ

@@ -1,4 +1,6 @@
 // The texts of a line or two that programs print of a chain file, at the front of a lent buffer.
+#![tactic(auto)]
+
 ghost use Rattle.std.specs.Prelude.{◌≤◌, length};
 ghost use Rattle.meaning.specs.Text.{bytes_of, decimal};
 ghost use Rattle.meaning.specs.Report.{line_text, answer_room};
@@ -8,7 +10,7 @@ ghost use Rattle.meaning.specs.FileNear.{NearReportOutcome};
 ghost use Rattle.meaning.specs.FileLimit.{LimitReportOutcome};
 ghost use Rattle.nearfile.specs.From.{from_of};
 ghost use Rattle.chainfile.specs.Input.{input};
-ghost use Rattle.bytes.specs.Written.{Written};
+ghost use Rattle.octets.specs.Written.{Written};
 ghost use Rattle.limit.specs.Told.{told as limitOf};
 ghost use Rattle.report.specs.Stands.{told};
 

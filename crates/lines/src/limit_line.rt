@@ -2,7 +2,7 @@
 ghost use Rattle.std.specs.Prelude.{◌≤◌, length};
 ghost use Rattle.meaning.specs.NearText.{near_line};
 ghost use Rattle.meaning.specs.FileLimit.{verdict_text, limit_room};
-ghost use Rattle.bytes.specs.Written.{Written};
+ghost use Rattle.octets.specs.Written.{Written};
 ghost use Rattle.near.specs.Answer.{told_between};
 ghost use Rattle.limitfile.specs.Told.{told_verdict};
 

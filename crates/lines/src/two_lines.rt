@@ -2,7 +2,7 @@
 ghost use Rattle.std.specs.Prelude.{◌++◌, ◌≤◌, length};
 ghost use Rattle.meaning.specs.Text.{bytes_of};
 ghost use Rattle.meaning.specs.NearText.{figures_text, near_text, near_room};
-ghost use Rattle.bytes.specs.Written.{Written};
+ghost use Rattle.octets.specs.Written.{Written};
 ghost use Rattle.decimals.specs.Told.{told};
 ghost use Rattle.near.specs.Answer.{told_between};
 

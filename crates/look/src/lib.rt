@@ -1,4 +1,6 @@
 // The numbers of refusal that need no work table: 1, 3 to 9, 10 and 11. The least that applies is given, at its least place.
+#![tactic(auto)]
+
 ghost use Rattle.std.specs.Prelude.{◌≡◌, []};
 ghost use Rattle.meaning.specs.Refusal.{bare_of, bare};
 ghost use Rattle.chain.specs.Lent.{lent};

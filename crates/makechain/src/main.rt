@@ -1,4 +1,6 @@
 // Reads a text on standard input and writes the chain file of the chain that it says; a refusal's line goes to standard error.
+#![tactic(auto)]
+
 use chainwriter::Writing;
 use input::Reading;
 

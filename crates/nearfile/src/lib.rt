@@ -1,4 +1,6 @@
 // Near chances of the chain in a file, from its own start or from another state.
+#![tactic(auto)]
+
 ghost use Rattle.std.specs.Prelude.{◌≡◌};
 ghost use Rattle.meaning.specs.Block.{Input};
 ghost use Rattle.meaning.specs.FileNear.{FileNear};

@@ -1,4 +1,6 @@
 // Reads a chain file on standard input and prints its report.
+#![tactic(auto)]
+
 use input::Reading;
 use report::{Printed, report};
 

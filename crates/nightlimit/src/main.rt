@@ -1,4 +1,6 @@
 // Takes the word LIMIT, reads a chain file on standard input, and prints whether its chance is within the limit.
+#![tactic(auto)]
+
 use input::Reading;
 use limit::Limit;
 use report::Printed;

@@ -1,4 +1,6 @@
 // Takes perhaps the word STATE, reads a chain file on standard input, and prints its near chances from that state, or from its own start.
+#![tactic(auto)]
+
 use chain::Chain;
 use input::Reading;
 use lines::near;

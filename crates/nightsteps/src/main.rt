@@ -1,4 +1,6 @@
 // Reads a chain file on standard input and prints its step list and its chance.
+#![tactic(auto)]
+
 use input::Reading;
 use report::{Printed, steps};
 

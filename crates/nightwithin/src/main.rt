@@ -1,4 +1,6 @@
 // Takes the word K, reads a chain file on standard input, and prints the chance of having reached a goal within K steps.
+#![tactic(auto)]
+
 use input::Reading;
 use lines::within;
 use report::Printed;

@@ -1,6 +1,6 @@
 // What is opened, and how the flat table is laid out.
-use bytes::layout;
 use chain::{Chain, edge};
+use octets::layout;
 
 // Where the order, the rewards and the edges begin: there is room for the numbers of 64 states before each.
 pub(crate) const ORDER: usize = Chain::STATES;

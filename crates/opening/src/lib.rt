@@ -1,13 +1,15 @@
 // A chain file is opened in one way: into one flat table, the denominators, the order and the rewards first and the edges after them.
+#![tactic(auto)]
+
 ghost use Rattle.meaning.specs.Number.{decides};
 ghost use Rattle.chainfile.specs.Input.{input};
 ghost use Rattle.opening.specs.Sizes.{Long};
 ghost use Rattle.opening.specs.Opened.{OpeningOutcome};
 
 use crate::book::EDGES;
-use bytes::layout;
 use chain::Chain;
 use chainfile::Reading;
+use octets::layout;
 
 mod book;
 mod parts;

@@ -1,4 +1,6 @@
 // What programs write: what was asked for on standard output, words for people on standard error.
+#![tactic(auto)]
+
 use libc::{STDERR_FILENO, STDOUT_FILENO};
 use report::Printed;
 

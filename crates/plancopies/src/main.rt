@@ -1,4 +1,6 @@
 // Takes the words COPIES LOSS REBUILD FINISH and prints the chance that no copy is left before the job is finished.
+#![tactic(auto)]
+
 use copies::{Plan, chance};
 use report::{Printed, answer};
 

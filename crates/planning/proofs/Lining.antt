@@ -11,8 +11,8 @@ use Rattle.meaning.specs.NearText.{figure, lower_figure, upper_figure, figure_te
 use Rattle.meaning.specs.Copies.{Plan, Sensible}
 use Rattle.meaning.specs.PlanTable.{copies_line}
 use Rattle.theory.specs.Plans.Formed.{in_range_lem}
-use Rattle.bytes.specs.Written.{Written}
-use Rattle.bytes.proofs.Steps.{kept, join}
+use Rattle.octets.specs.Written.{Written}
+use Rattle.octets.proofs.Steps.{kept, join}
 use Rattle.text.specs.Pieces.{Named}
 use Rattle.text.proofs.Naming.{named_written, named_past}
 use Rattle.lines.proofs.Figures.{figures_written}

@@ -21,9 +21,9 @@ use Rattle.theory.specs.Numbers.Sum.{last_or_below}
 use Rattle.theory.specs.Outcomes.NearOne.{near_determined, near_outcome}
 use Rattle.theory.specs.Plans.Filed.{copies_filed}
 use Rattle.theory.specs.Plans.Judged.{plan_verdict, plan_verdict_one, verdicts_exist}
-use Rattle.bytes.specs.Written.{Written, Stored}
-use Rattle.bytes.proofs.Steps.{kept as kept_length, join}
-use Rattle.bytes.proofs.Storing.{stored}
+use Rattle.octets.specs.Written.{Written, Stored}
+use Rattle.octets.proofs.Steps.{kept as kept_length, join}
+use Rattle.octets.proofs.Storing.{stored}
 use Rattle.text.specs.Pieces.{Named}
 use Rattle.text.proofs.Naming.{named_written, named_past}
 use Rattle.report.specs.Stands.{Stands}

@@ -9,8 +9,8 @@ use Rattle.meaning.specs.Text.{bytes_of}
 use Rattle.meaning.specs.Copies.{most_copies, Sensible, copies_lent}
 use Rattle.meaning.specs.PlanTable.{Weights, with_copies, Chances, copies_line, table_text, copies_room, table_room, PlanTable}
 use Rattle.theory.specs.Outcomes.NearOne.{near_outcome}
-use Rattle.bytes.specs.Written.{Written}
-use Rattle.bytes.proofs.Steps.{kept, join}
+use Rattle.octets.specs.Written.{Written}
+use Rattle.octets.proofs.Steps.{kept, join}
 use Rattle.report.specs.Stands.{Stands}
 use Rattle.report.proofs.ChainLines.{stands}
 use Rattle.lines.specs.Widths.{Fitted}

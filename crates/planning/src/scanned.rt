@@ -5,7 +5,7 @@ ghost use Rattle.meaning.specs.Copies.{Sensible};
 ghost use Rattle.meaning.specs.Limit.{IsLimit};
 ghost use Rattle.meaning.specs.PlanTable.{with_copies, copies_room};
 ghost use Rattle.meaning.specs.Fewest.{fewest_room, FewestReport, FewestOutcome};
-ghost use Rattle.bytes.specs.Written.{Written};
+ghost use Rattle.octets.specs.Written.{Written};
 ghost use Rattle.report.specs.Stands.{Stands, told};
 ghost use Rattle.lines.specs.Widths.{Fitted};
 ghost use Rattle.limit.specs.Told.{told as toldLimit};

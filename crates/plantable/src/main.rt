@@ -1,4 +1,6 @@
 // Takes the words LOSS REBUILD FINISH and prints, for each number of copies, the chance that none is left before the job is finished.
+#![tactic(auto)]
+
 use planning::{TABLE_ROOM, Weights, table};
 use report::Printed;
 

@@ -1,4 +1,6 @@
 // Reads a chain file on standard input and writes the file of the same chain with the chosen order; a refusal's line goes to standard error.
+#![tactic(auto)]
+
 use chainwriter::Writing;
 use input::Reading;
 

@@ -1,4 +1,6 @@
 // A chain file with the chosen order in place of its own: the file of the same chain, by the writer.
+#![tactic(auto)]
+
 ghost use Rattle.std.specs.Prelude.{◌≤◌, length};
 ghost use Rattle.meaning.specs.Block.{Input};
 ghost use Rattle.meaning.specs.Write.{Bytes};

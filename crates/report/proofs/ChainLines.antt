@@ -19,8 +19,8 @@ use Rattle.theory.specs.Numbers.Tab.{tab_length}
 use Rattle.theory.specs.Outcomes.Formed.{few_states, few_edges}
 use Rattle.theory.specs.Outcomes.DemandTwo.{stopped_twelve}
 use Rattle.theory.specs.Outcomes.Bare.{bare_formed}
-use Rattle.bytes.specs.Written.{Room, Written}
-use Rattle.bytes.proofs.Steps.{whole}
+use Rattle.octets.specs.Written.{Room, Written}
+use Rattle.octets.proofs.Steps.{whole}
 use Rattle.figures.specs.Told.{told_answer, told_limits}
 use Rattle.figures.specs.Found.{ReportAsked, FiguresOutcome, refused, accepted}
 use Rattle.figures.specs.declared.answer.Figures.{Figures}

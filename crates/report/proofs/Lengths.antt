@@ -13,7 +13,7 @@ use Rattle.meaning.specs.Report.{fraction_text, refused_text, answer_text, lines
 use Rattle.theory.specs.Numbers.Decimal.{digits}
 use Rattle.theory.specs.Outcomes.Small.{Small, BothSmall}
 use Rattle.theory.specs.Files.Lengths.{Brief, refused_short, refusal_line, fraction_short, bounds_short}
-use Rattle.bytes.specs.Written.{Room}
+use Rattle.octets.specs.Written.{Room}
 
 either : (b : Bool) (x y : List ℕ) (n : ℕ) → length x ≤ n → length y ≤ n → length (choose b x y) ≤ n
 either true x y n h k = h

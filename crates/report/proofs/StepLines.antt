@@ -10,8 +10,8 @@ use Rattle.meaning.specs.Steps.{StepRecord}
 use Rattle.meaning.specs.Report.{record_text, records_text}
 use Rattle.theory.specs.Numbers.Decimal.{digits}
 use Rattle.theory.specs.Numbers.Tab.{tab_more}
-use Rattle.bytes.specs.Written.{Written}
-use Rattle.bytes.proofs.Steps.{join}
+use Rattle.octets.specs.Written.{Written}
+use Rattle.octets.proofs.Steps.{join}
 use Rattle.text.specs.Puts.{Puts}
 use Rattle.engines.specs.Trace.{count_in, record_in, records_in}
 use Rattle.report.specs.Lines.{record_room}

@@ -1,4 +1,6 @@
 // The report of a chain file, its step list as a text, the line of a face of the dice, and the line of an answer alone.
+#![tactic(auto)]
+
 ghost use Rattle.std.specs.Prelude.{◌≤◌, length};
 ghost use Rattle.meaning.specs.Report.{report_room, Report, ReportOutcome, steps_room, StepsReport, StepsReportOutcome, FaceOutcome, AnswerOutcome};
 ghost use Rattle.engines.specs.Answer.{told_chance};

@@ -2,7 +2,7 @@
 ghost use Rattle.std.specs.Prelude.{◌*◌, ◌≤◌, length};
 ghost use Rattle.meaning.specs.Chain.{most_states};
 ghost use Rattle.meaning.specs.Report.{record_text, records_text};
-ghost use Rattle.bytes.specs.Written.{Written};
+ghost use Rattle.octets.specs.Written.{Written};
 ghost use Rattle.text.specs.Puts.{Puts};
 ghost use Rattle.engines.specs.Trace.{count_in, records_in};
 ghost use Rattle.report.specs.Lines.{record_room};

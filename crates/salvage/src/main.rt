@@ -1,4 +1,6 @@
 // Reads a chain file on standard input and prints what is left of it.
+#![tactic(auto)]
+
 use input::Reading;
 use report::Printed;
 use salvaging::salvage;

@@ -10,7 +10,7 @@ use Rattle.meaning.specs.Number.{join_to}
 use Rattle.meaning.specs.Outcome.{Bounds}
 use Rattle.meaning.specs.Text.{bytes_of}
 use Rattle.meaning.specs.Salvage.{pair_text, salvage_room}
-use Rattle.bytes.specs.Written.{Room}
+use Rattle.octets.specs.Written.{Room}
 use Rattle.text.specs.Puts.{Puts}
 use Rattle.text.proofs.Putting.{and}
 use Rattle.salvaging.specs.Lines.{bounds_line, number_text, numbers_text, left_text, Fits}

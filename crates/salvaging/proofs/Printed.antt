@@ -13,7 +13,7 @@ use Rattle.meaning.specs.Salvage.{Lost, left_in, verdict, Salvaged, SalvagedOutc
 use Rattle.chain.specs.declared.Chain.{Chain}
 use Rattle.chain.specs.declared.fraction.Fraction.{Fraction}
 use Rattle.chainfile.specs.Input.{input}
-use Rattle.bytes.specs.Written.{Written}
+use Rattle.octets.specs.Written.{Written}
 use Rattle.look.specs.Sums.{Lacks}
 use Rattle.look.proofs.Refuse.{refused_some}
 use Rattle.engines.specs.Answer.{told_bounds}

@@ -1,4 +1,6 @@
 // What the salvage program prints of a chain file, at the front of a lent buffer: the bounds of what is left of it, and what is lost.
+#![tactic(auto)]
+
 ghost use Rattle.std.specs.Prelude.{◌≡◌, [], ℕ, ◌≤◌, length};
 ghost use Rattle.meaning.specs.Number.{decides};
 ghost use Rattle.meaning.specs.Left.{LeftOutcome};

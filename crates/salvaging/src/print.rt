@@ -3,13 +3,13 @@ ghost use Rattle.std.specs.Prelude.{◌++◌, ◌≤◌, length};
 ghost use Rattle.meaning.specs.Outcome.{between};
 ghost use Rattle.meaning.specs.Text.{bytes_of, decimal};
 ghost use Rattle.meaning.specs.Salvage.{salvage_room};
-ghost use Rattle.bytes.specs.Written.{Written};
+ghost use Rattle.octets.specs.Written.{Written};
 ghost use Rattle.text.specs.Puts.{Puts};
 ghost use Rattle.salvaging.specs.Lines.{bounds_line, number_text, numbers_text, left_text, Fits};
 
-use bytes::layout;
 use chain::Chain;
 use chain::fraction::Fraction;
+use octets::layout;
 use report::BOUNDS_LINE;
 use text::{number, put};
 

@@ -1,4 +1,6 @@
 // Reads a chain file on standard input and prints it as a text.
+#![tactic(auto)]
+
 use input::Reading;
 use report::Printed;
 

@@ -14,9 +14,9 @@ use Rattle.meaning.specs.Report.{named_text}
 use Rattle.meaning.specs.ChainText.{state_line, edge_line, spaced, order_line, text_of}
 use Rattle.theory.specs.Numbers.Tab.{tab_more}
 use Rattle.theory.specs.Texts.Lines.{spaced_more}
-use Rattle.bytes.specs.Written.{Written, Stored}
-use Rattle.bytes.proofs.Steps.{join, kept}
-use Rattle.bytes.proofs.Storing.{stored}
+use Rattle.octets.specs.Written.{Written, Stored}
+use Rattle.octets.proofs.Steps.{join, kept}
+use Rattle.octets.proofs.Storing.{stored}
 use Rattle.text.specs.Pieces.{Named}
 use Rattle.text.proofs.Naming.{named_written, named_past}
 use Rattle.showing.specs.Print.{Put}

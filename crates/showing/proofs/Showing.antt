@@ -18,7 +18,7 @@ use Rattle.theory.specs.Numbers.Tab.{tab_length}
 use Rattle.theory.specs.Files.FileOne.{file_numbers}
 use Rattle.chain.specs.Lent.{lent}
 use Rattle.chain.specs.declared.Chain.{Chain}
-use Rattle.bytes.specs.Written.{Written}
+use Rattle.octets.specs.Written.{Written}
 use Rattle.opening.specs.Book.{Holds}
 use Rattle.report.specs.Stands.{answer_of, told}
 use Rattle.report.specs.declared.Printed.{Printed}

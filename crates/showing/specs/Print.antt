@@ -3,7 +3,7 @@ use Rattle.std.specs.Prelude.{ℕ, ◌+◌, ◌≤◌, List, eqb, get_or}
 use Rattle.meaning.specs.Number.{bit, tab_from}
 use Rattle.meaning.specs.Chain.{from, to, weight, edge_reward}
 use Rattle.meaning.specs.ChainText.{state_line, edge_line}
-use Rattle.bytes.specs.Written.{Written}
+use Rattle.octets.specs.Written.{Written}
 
 -- A text is written from the place on, and is at most so long.
 pub record Put (before : List ℕ) (place : ℕ) (text : List ℕ) (room : ℕ) (after : List ℕ) (next : ℕ) : Type 0 where

@@ -1,4 +1,6 @@
 // The text form of chain files, written: a chain file is shown as a text.
+#![tactic(auto)]
+
 ghost use Rattle.std.specs.Prelude.{◌≤◌, length};
 ghost use Rattle.meaning.specs.Block.{Input};
 ghost use Rattle.meaning.specs.Translate.{shown_room, ShowOutcome, TextedOutcome};

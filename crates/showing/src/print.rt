@@ -7,7 +7,7 @@ ghost use Rattle.meaning.specs.Chain.{edge_count};
 ghost use Rattle.meaning.specs.ChainText.{state_line, spaced, order_line, edge_line, text_of, chain_text};
 ghost use Rattle.meaning.specs.Translate.{shown_room};
 ghost use Rattle.chain.specs.Lent.{lent};
-ghost use Rattle.bytes.specs.Written.{Written};
+ghost use Rattle.octets.specs.Written.{Written};
 ghost use Rattle.showing.specs.Print.{Put, state_lines, edge_lines};
 
 use chain::{Chain, edge, set, table};

@@ -1,5 +1,7 @@
 // Which states of a chain have a path to an end, which are live, and how many. The ends are the goals and, where rows may fall short, the states
 // whose rows do.
+#![tactic(auto)]
+
 ghost use Rattle.std.specs.Prelude.{false, []};
 ghost use Rattle.meaning.specs.Survey.{SurveyOutcome};
 ghost use Rattle.chain.specs.Lent.{lent};

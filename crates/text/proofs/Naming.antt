@@ -7,8 +7,8 @@ use lib.ListN.{length, length-append}
 use Rattle.meaning.specs.Text.{decimal, most_digits}
 use Rattle.meaning.specs.Report.{named_text}
 use Rattle.theory.specs.Numbers.Decimal.{digits}
-use Rattle.bytes.specs.Written.{Written, Stored}
-use Rattle.bytes.proofs.Storing.{stored_unique}
+use Rattle.octets.specs.Written.{Written, Stored}
+use Rattle.octets.proofs.Storing.{stored_unique}
 use Rattle.text.specs.Pieces.{Named, written, full}
 
 -- A number of 64 bits has at most 20 digits.

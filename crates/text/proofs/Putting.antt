@@ -3,9 +3,9 @@ use Prim.Native.Nat.{ℕ}
 use mathlib.Core.List.{List, ◌++◌}
 use native.Mathlib.Omega.{arith}
 use lib.ListN.{length-append}
-use Rattle.bytes.specs.Written.{Written, Stored}
-use Rattle.bytes.proofs.Steps.{join, kept}
-use Rattle.bytes.proofs.Storing.{stored}
+use Rattle.octets.specs.Written.{Written, Stored}
+use Rattle.octets.proofs.Steps.{join, kept}
+use Rattle.octets.proofs.Storing.{stored}
 use Rattle.text.specs.Puts.{Puts}
 
 pub one : {a t b : List ℕ} {p m : ℕ} → Stored a p t b m → Puts a p t b m

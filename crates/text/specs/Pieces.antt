@@ -2,7 +2,7 @@
 use Rattle.std.specs.Prelude.{ℕ, ◌+◌, ◌≤◌, ◌<◌, ◌≡◌, List, length}
 use Rattle.meaning.specs.Text.{most_digits}
 use Rattle.meaning.specs.Report.{named_text}
-use Rattle.bytes.specs.Written.{Written}
+use Rattle.octets.specs.Written.{Written}
 
 -- Both stand from the place on where there is room for the name and any number; else every byte is as it was, and the place too.
 pub data Named (before : List ℕ) (place : ℕ) (name : List ℕ) (x : ℕ) (after : List ℕ) (next : ℕ) : Type 0 where

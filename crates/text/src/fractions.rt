@@ -3,7 +3,7 @@ ghost use Rattle.std.specs.Prelude.{◌≡◌, ◌≤◌, length};
 ghost use Rattle.meaning.specs.Outcome.{between};
 ghost use Rattle.meaning.specs.Text.{bytes_of};
 ghost use Rattle.meaning.specs.Report.{fraction_text, bounds_text, line_text};
-ghost use Rattle.bytes.specs.Written.{Stored};
+ghost use Rattle.octets.specs.Written.{Stored};
 ghost use Rattle.text.specs.Puts.{Puts};
 
 use crate::{digits, number, put};

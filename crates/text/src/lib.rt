@@ -1,8 +1,10 @@
 // Pieces of texts: each is written into a lent buffer from a place on, and the place after it is answered. Where there is no room for it, the buffer
 // stays and so does the place.
+#![tactic(auto)]
+
 ghost use Rattle.std.specs.Prelude.{◌≡◌, ◌≤◌, length};
 ghost use Rattle.meaning.specs.Text.{decimal};
-ghost use Rattle.bytes.specs.Written.{Stored};
+ghost use Rattle.octets.specs.Written.{Stored};
 ghost use Rattle.text.specs.Pieces.{Named};
 
 mod fractions;

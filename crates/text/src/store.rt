@@ -1,7 +1,7 @@
 // Bytes and numbers, written into a lent buffer from a place on. Each step asks for the room of what it writes, and answers the place after it.
 ghost use Rattle.std.specs.Prelude.{[], ◌∷◌, ◌<◌};
 ghost use Rattle.meaning.specs.Text.{decimal};
-ghost use Rattle.bytes.specs.Written.{Room, Written};
+ghost use Rattle.octets.specs.Written.{Room, Written};
 
 pub(crate) fn copy(buffer: &mut [u8], at: usize, text: &[u8]) -> usize
     requires { Room buffer.old at text.now }

@@ -1,1 +1,2 @@
 // Theorems about the definitions of the crate meaning: no code.
+#![tactic(auto)]

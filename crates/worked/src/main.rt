@@ -1,6 +1,8 @@
 // A test, no product: what only lent tables can show, the numbers 1, 2 and 11 and the work table, is run through the entries;
 // and the reader that a caller lends tables to.
 // What it must write, the file stdout, was worked out from the scope and not copied from a run.
+#![tactic(auto)]
+
 ghost use Rattle.std.specs.Prelude.{◌≤◌};
 
 mod file;

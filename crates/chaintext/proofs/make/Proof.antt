@@ -2,7 +2,7 @@ use mathlib.Core.Path.{refl}
 use borrow.Author.Rules.{rules}
 use Rattle.meaning.specs.Block.{Input}
 use Rattle.meaning.specs.Translate.{TextLong, MakeOutcome}
-use Rattle.bytes.specs.Input.{input}
+use Rattle.octets.specs.Input.{input}
 use Rattle.chaintext.proofs.Making.{long, few, few_bytes, all_kept}
 use Rattle.chaintext.proofs.make.Statement.{statement}
 use Rattle.chaintext.proofs.make.Tie as tie

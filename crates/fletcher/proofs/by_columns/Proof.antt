@@ -5,7 +5,7 @@ use lib.ListN.{length, get_or}
 use borrow.Author.Rules.{rules}
 use Rattle.meaning.specs.Block.{checked_bytes}
 use Rattle.fletcher.specs.Columns.{rows, columns, BothSums}
-use Rattle.bytes.proofs.Cut.{cut_length, cut_at_lem}
+use Rattle.octets.proofs.Cut.{cut_length, cut_at_lem}
 use Rattle.fletcher.proofs.Columns.{Laid, none_laid, room, more_laid, all_laid}
 use Rattle.fletcher.proofs.by_columns.Statement.{statement}
 use Rattle.fletcher.proofs.by_columns.Tie as tie

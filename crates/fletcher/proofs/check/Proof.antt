@@ -4,8 +4,8 @@ use native.Mathlib.Omega.{arith}
 use borrow.Author.Rules.{rules}
 use Rattle.meaning.specs.Block.{byte, block_byte, first_sum, second_sum, checked_bytes}
 use Rattle.theory.specs.Files.Sums.{first_like, second_like}
-use Rattle.bytes.specs.Input.{input}
-use Rattle.bytes.proofs.Cut.{cut, cut_at_lem}
+use Rattle.octets.specs.Input.{input}
+use Rattle.octets.proofs.Cut.{cut, cut_at_lem}
 use Rattle.fletcher.proofs.check.Statement.{statement}
 use Rattle.fletcher.proofs.check.Tie as tie
 

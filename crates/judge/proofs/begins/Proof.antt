@@ -3,7 +3,7 @@ use Rattle.meaning.specs.Block.{Input}
 use Rattle.meaning.specs.File.{LengthFault, BlockRight}
 use Rattle.meaning.specs.Salvage.{FrontRefused}
 use Rattle.theory.specs.Numbers.Decide.{holds, fails}
-use Rattle.bytes.specs.Input.{input}
+use Rattle.octets.specs.Input.{input}
 use Rattle.blocks.proofs.Found.{found_wrong, found_right}
 use Rattle.judge.proofs.begins.Statement.{statement}
 use Rattle.judge.proofs.begins.Tie as tie

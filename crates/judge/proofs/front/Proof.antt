@@ -2,7 +2,7 @@ use Prim.Native.Nat.{◌+◌}
 use borrow.Author.Rules.{rules}
 use mathlib.Core.Path.{subst}
 use Rattle.meaning.specs.Block.{Input}
-use Rattle.bytes.specs.Input.{input}
+use Rattle.octets.specs.Input.{input}
 use Rattle.judge.specs.Tells.{Begun, begun, further}
 use Rattle.judge.proofs.Blocks.{found, front}
 use Rattle.judge.proofs.front.Statement.{statement}

@@ -4,7 +4,7 @@ use borrow.Author.Rules.{rules}
 use Rattle.theory.specs.Numbers.Sum.{last_or_below}
 use Rattle.blocks.proofs.Found.{found_wrong, found_right}
 use Rattle.meaning.specs.File.{BlockRight}
-use Rattle.bytes.specs.Input.{input}
+use Rattle.octets.specs.Input.{input}
 use Rattle.judge.proofs.further.Statement.{statement}
 use Rattle.judge.proofs.further.Tie as tie
 

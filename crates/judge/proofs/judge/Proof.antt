@@ -2,7 +2,7 @@ use borrow.Author.Rules.{rules}
 use mathlib.Core.Path.{subst}
 use Rattle.meaning.specs.Block.{Input}
 use Rattle.theory.specs.Files.Opened.{front_file}
-use Rattle.bytes.specs.Input.{input}
+use Rattle.octets.specs.Input.{input}
 use Rattle.judge.specs.Tells.{Begun, begun, further}
 use Rattle.judge.proofs.Blocks.{found, judge}
 use Rattle.judge.proofs.judge.Statement.{statement}

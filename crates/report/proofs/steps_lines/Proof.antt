@@ -8,7 +8,7 @@ use Rattle.meaning.specs.Outcome.{Answer}
 use Rattle.meaning.specs.FileSteps.{FileSteps}
 use Rattle.theory.specs.Numbers.Decide.{holds, fails}
 use Rattle.chainfile.specs.Input.{input}
-use Rattle.bytes.proofs.Steps.{join, kept}
+use Rattle.octets.proofs.Steps.{join, kept}
 use Rattle.engines.specs.Trace.{count_in, records_in}
 use Rattle.figures.specs.Told.{told_answer}
 use Rattle.report.proofs.Lengths.{refused_wide, answer_wide}

@@ -2,7 +2,7 @@ use mathlib.Core.Path.{refl}
 use native.Mathlib.Omega.{arith}
 use lib.ListN.{length-append}
 use borrow.Author.Rules.{rules}
-use Rattle.bytes.proofs.Steps.{join}
+use Rattle.octets.proofs.Steps.{join}
 use Rattle.text.specs.Pieces.{written, full}
 use Rattle.text.proofs.Naming.{named_room}
 use Rattle.text.proofs.named.Statement.{statement}

@@ -1,7 +1,8 @@
 -- Whether a state has a path to an end, is reached from the start, or is live, is decided, by taking in the edges one by one.
 use Rattle.std.specs.Prelude.{ℕ, zero, suc, ◌<◌, ◌≡◌, refl, ◌↔◌, ◌⊎◌, Bool, true, false, List}
 use Rattle.std.proofs.Common.{sym, subst, inl, inr, ⊎_elim, arith}
-use Rattle.std.proofs.Math.Logic.{⊎_map, Dec·and, Dec·not}
+use Rattle.std.proofs.Math.Logic.{⊎_map}
+use Rattle.std.proofs.Math.Logic.Dec
 use Rattle.std.proofs.Math.Decide.{ℕ_discrete, map_dec}
 use Rattle.meaning.specs.Chain.{Chain, edge_count, from, to, Goal, PathTo, ToGoal, FromStart, LiveTo, Live}
 use Rattle.theory.specs.Numbers.Sum.{last_or_below}
@@ -58,7 +59,7 @@ module _ (f t : ℕ → ℕ) (Used : ℕ → Type 0) (dec_used : (e : ℕ) → D
       empty (along e h u q r) = absurd (omega arith)
   reach P dec (suc k) i =
       go (reach P dec k i)
-      (Dec·and (dec_used k) (Dec·and (reach P dec k (t k)) (reach (λ j. j ≡ f k) (λ j. ℕ_discrete j (f k)) k i)))
+      (Dec.and (dec_used k) (Dec.and (reach P dec k (t k)) (reach (λ j. j ≡ f k) (λ j. ℕ_discrete j (f k)) k i)))
     where
       go : Dec (Reach f t Used P k i) → Dec (By f t Used P k i) → Dec (Reach f t Used P (suc k) i)
       go (yes a) d = yes (more f t Used P k a)
@@ -107,7 +108,7 @@ module _ (c : Chain) where
   pub dec_from_start : (i : ℕ) → Dec (FromStart c i)
   dec_from_start i =
       map_dec from_back back
-      (reach (to c.edges) (from c.edges) Unwon (λ e. Dec·not (dec_goal c (from c.edges e))) (λ j. j ≡ c.start)
+      (reach (to c.edges) (from c.edges) Unwon (λ e. Dec.not (dec_goal c (from c.edges e))) (λ j. j ≡ c.start)
       (λ j. ℕ_discrete j c.start)
       (edge_count c.edges)
       i)
@@ -115,7 +116,7 @@ module _ (c : Chain) where
   pub dec_live_to : (End : ℕ → Type 0) → ((i : ℕ) → Dec (End i)) → (i : ℕ) → Dec (LiveTo c End i)
   dec_live_to End dec i =
       map_dec (λ p. record { unwon = p.0; reached = p.1.0; leads = p.1.1 }) (λ l. (l.unwon, (l.reached, l.leads)))
-      (Dec·and (Dec·not (dec_goal c i)) (Dec·and (dec_from_start i) (dec_path_to c.edges End dec i)))
+      (Dec.and (Dec.not (dec_goal c i)) (Dec.and (dec_from_start i) (dec_path_to c.edges End dec i)))
 
   pub dec_live : (i : ℕ) → Dec (Live c i)
   dec_live = dec_live_to (Goal c) (dec_goal c)

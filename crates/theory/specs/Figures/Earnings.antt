@@ -1,7 +1,7 @@
 -- Where no state without a path to a goal is reached, every state that is reached has an expected reward, and one only.
 use Rattle.std.specs.Prelude.{ℕ, ◌*◌, ◌<◌, ◌≡◌}
 use Rattle.std.proofs.Common.{sym, ◌∙◌, arith}
-use Rattle.std.proofs.Math.Logic.{Dec·not-not}
+use Rattle.std.proofs.Math.Logic.Dec
 use Rattle.meaning.specs.Number.{only}
 use Rattle.meaning.specs.Chain.{Chain, edge_count, from, to, Goal, FromStart, Live}
 use Rattle.meaning.specs.Figure.{Missed, Earns}
@@ -24,7 +24,7 @@ module _ (c : Chain) where
 module _ (c : Chain) (sure : Missed c → ⊥) (pay : ℕ → ℕ) where
   live : (i : ℕ) → FromStart c i → (Goal c i → ⊥) → Live c i
   live i f n =
-      record { unwon = n; reached = f; leads = (Dec·not-not (dec_to_goal c i)).0 (λ m. sure (i, f, m)) }
+      record { unwon = n; reached = f; leads = (Dec.not-not (dec_to_goal c i)).0 (λ m. sure (i, f, m)) }
 
   -- Of the states that are reached only the live ones earn.
   kept_reached : {d : ℕ} {y : ℕ → ℕ} → Earns c pay d y → (i : ℕ) → FromStart c i → kept c y i ≡ y i

@@ -1,6 +1,6 @@
 -- Every chain has a chance at each of its states, and one only.
 use Rattle.std.specs.Prelude.{ℕ, ◌*◌, ◌<◌, ◌≡◌}
-use Rattle.std.proofs.Math.Logic.{Dec·and, Dec·not}
+use Rattle.std.proofs.Math.Logic.Dec
 use Rattle.std.proofs.Common.{arith}
 use Rattle.meaning.specs.Number.{bit}
 use Rattle.meaning.specs.Chain.{Chain, Goal, PathTo, ToGoal}
@@ -15,7 +15,7 @@ module _ (c : Chain) where
   Flows i = (Goal c i → ⊥) × ToGoal c i
 
   dec_flows : (i : ℕ) → Dec (Flows i)
-  dec_flows i = Dec·and (Dec·not (dec_goal c i)) (dec_to_goal c i)
+  dec_flows i = Dec.and (Dec.not (dec_goal c i)) (dec_to_goal c i)
 
   no_goal : (i : ℕ) → (Goal c i → ⊥) → bit c.goals i ≡ 0
   no_goal i n = omega arith

@@ -2,7 +2,7 @@
 -- the a i j plus the weight out i that leaves the system. Where every state leads out, it has one solution, up to the denominator.
 use Rattle.std.specs.Prelude.{ℕ, zero, suc, ◌+◌, ◌*◌, ◌<◌, ◌≡◌, refl, eqb}
 use Rattle.std.proofs.Common.{◌∙◌, eq-eqb, ne_eqb}
-use Rattle.std.proofs.Math.Path.{ap}
+use Rattle.std.proofs.Math.Path.{sym, ap, subst}
 use native.Mathlib.Omega.{arith}
 use Rattle.std.proofs.Math.Nat.{mul-pos, eq_of_mul-eq-mul_left}
 use Rattle.meaning.specs.Number.{sum_to, choose}
@@ -116,7 +116,13 @@ module _ (s : System) (n d : ℕ) (x : ℕ → ℕ) where
         holds = λ i h.
             rw (extended_sum i, extended_last)
             (last_or_below h
-            (λ (e : i ≡ n). rw (e, extended_last) (omega arith))
+            (λ (e : i ≡ n).
+            subst
+            (λ k.
+            total s (suc n) k * extended k
+            ≡ total s n n * sum_to (λ j. s.a k j * x j) n + s.a k n * (sum_to (λ j. s.a n j * x j) n + s.g n * d)
+            + s.g k * (d * total s n n))
+            (sym e) (rw extended_last (omega arith)))
             (λ (b : i < n).
             rw (extended_below i b)
             (omega (

@@ -2,7 +2,7 @@
 use Rattle.std.specs.Prelude.{ℕ, ◌+◌, ◌*◌, ◌≤◌, ◌<◌, ◌≡◌, ◌⊎◌, Bool, ltb}
 use Rattle.std.proofs.Math.Path.{refl}
 use Rattle.std.proofs.Common.{sym, ◌∙◌, inl, inr, arith}
-use Rattle.std.proofs.Math.Logic.{Dec·and, Dec·not}
+use Rattle.std.proofs.Math.Logic.Dec
 use Rattle.std.proofs.Math.Bool.{true, false}
 use Rattle.std.proofs.Math.Decide.{ℕ_discrete, dec_le, dec_lt}
 use borrow.Author.Tests.{lt-ltb, le-ltb}
@@ -33,13 +33,13 @@ module _ (f : Input) where
   nonzero : (low high : ℕ) → Dec (NonZero f low high)
   nonzero low high =
       turned (λ w. (w.0, (w.1.1.0, (w.1.0, w.1.1.1)))) (λ w. (w.0, (w.1.1.0, (w.1.0, w.1.1.1))))
-      (anywhere (λ j. (low ≤ j) × (byte f j ≡ 0 → ⊥)) high (λ j. Dec·and (dec_le low j) (Dec·not (ℕ_discrete (byte f j) 0))))
+      (anywhere (λ j. (low ≤ j) × (byte f j ≡ 0 → ⊥)) high (λ j. Dec.and (dec_le low j) (Dec.not (ℕ_discrete (byte f j) 0))))
 
   kinds : (b : ℕ) → Dec (KindFault f b)
   kinds b =
-      either (Dec·not (ℕ_discrete (byte f (kind_at b)) (kind_of f b)))
-      (either (Dec·and (Dec·not (ℕ_discrete (version_in f b) first_version)) (Dec·not (ℕ_discrete (version_in f b) second_version)))
-      (Dec·not (ℕ_discrete (version_in f b) (version_in f 0))))
+      either (Dec.not (ℕ_discrete (byte f (kind_at b)) (kind_of f b)))
+      (either (Dec.and (Dec.not (ℕ_discrete (version_in f b) first_version)) (Dec.not (ℕ_discrete (version_in f b) second_version)))
+      (Dec.not (ℕ_discrete (version_in f b) (version_in f 0))))
 
   heads : Dec (HeadFault f)
   heads =
@@ -73,14 +73,14 @@ module _ (f : Input) where
   contents : (b : ℕ) → Dec (ContentFault f b)
   contents b =
       turned (contents_in b) (contents_out b)
-      (either (Dec·not (ℕ_discrete (number_at f (count_at b) 2) (count_of f b)))
+      (either (Dec.not (ℕ_discrete (number_at f (count_at b) 2) (count_of f b)))
       (either (nonzero (records_at b + record_size * count_of f b) (check_at b))
-      (either (Dec·and (ℕ_discrete (kind_of f b) 1) heads)
+      (either (Dec.and (ℕ_discrete (kind_of f b) 1) heads)
       (either
-      (Dec·and (ℕ_discrete (kind_of f b) 2)
+      (Dec.and (ℕ_discrete (kind_of f b) 2)
       (anywhere _ (count_of f b) (λ r. dec_lt 1 (byte f (records_at b + record_size * r + flag_byte)))))
-      (Dec·and (ℕ_discrete (kind_of f b) 3)
-      (Dec·and (ℕ_discrete (version_in f b) first_version)
+      (Dec.and (ℕ_discrete (kind_of f b) 3)
+      (Dec.and (ℕ_discrete (version_in f b) first_version)
       (anywhere _ (count_of f b)
       (λ r. nonzero (records_at b + record_size * r + edge_reward_byte) (records_at b + record_size * r + weight_byte)))))))))
 

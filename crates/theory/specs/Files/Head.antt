@@ -1,7 +1,7 @@
 -- What the head block of a file shows: 20 to 23 are found by computing.
 use Rattle.std.specs.Prelude.{ℕ, ◌+◌, ◌%◌, ◌≤◌, ◌≡◌, length, take}
 use Rattle.std.proofs.Common.{ap, ◌∙◌, arith, length-take-le, get_or-take}
-use Rattle.std.proofs.Math.Logic.{Dec·not, Dec·and}
+use Rattle.std.proofs.Math.Logic.Dec
 use Rattle.std.proofs.Math.Option.{Option, some, none}
 use Rattle.std.proofs.Math.Decide.{ℕ_discrete, dec_le}
 use Rattle.meaning.specs.Block.{
@@ -41,8 +41,8 @@ use Rattle.theory.specs.Numbers.Search.{turned, either}
 use Rattle.theory.specs.Files.Fletcher.{fletcher, fletcher_is}
 
 unfoldable pub lengthy : (f : Input) → Dec (LengthFault f)
-unfolding either ℕ_discrete Dec·not
-lengthy f = either (ℕ_discrete (input_length f) 0) (Dec·not (ℕ_discrete (input_length f % block_size) 0))
+unfolding either ℕ_discrete Dec.not
+lengthy f = either (ℕ_discrete (input_length f) 0) (Dec.not (ℕ_discrete (input_length f % block_size) 0))
 
 -- The sums of the head, where all the bytes they are over are kept.
 abbrev pub sums : Input → ℕ × ℕ
@@ -60,24 +60,24 @@ sums_are f h =
     (λ j l. get_or-take checked_bytes f.kept j 0 (omega arith) ∙ ap (byte f) (omega arith)))
 
 unfoldable pub checked : (f : Input) → checked_bytes ≤ length f.kept → Dec (CheckFault f 0)
-unfolding either ℕ_discrete Dec·not turned fletcher
+unfolding either ℕ_discrete Dec.not turned fletcher
 checked f h =
     turned (λ z. rw (sums_are f h) at z) (λ z. rw (sums_are f h) z)
-    (either (Dec·not (ℕ_discrete (byte f (check_at 0)) (sums f).0)) (Dec·not (ℕ_discrete (byte f (check_at 0 + 1)) (sums f).1)))
+    (either (Dec.not (ℕ_discrete (byte f (check_at 0)) (sums f).0)) (Dec.not (ℕ_discrete (byte f (check_at 0 + 1)) (sums f).1)))
 
 unfoldable pub numbered : (f : Input) → Dec (BlockNumberFault f 0)
-unfolding ℕ_discrete Dec·not
-numbered f = Dec·not (ℕ_discrete (number_at f (block_number_at 0) 2) 0)
+unfolding ℕ_discrete Dec.not
+numbered f = Dec.not (ℕ_discrete (number_at f (block_number_at 0) 2) 0)
 
 unfoldable pub versioned : (f : Input) → Dec (VersionFault f 0)
-unfolding either ℕ_discrete Dec·not Dec·and
+unfolding either ℕ_discrete Dec.not Dec.and
 versioned f =
-    either (Dec·and (Dec·not (ℕ_discrete (version_in f 0) first_version)) (Dec·not (ℕ_discrete (version_in f 0) second_version)))
-    (Dec·not (ℕ_discrete (version_in f 0) (version_in f 0)))
+    either (Dec.and (Dec.not (ℕ_discrete (version_in f 0) first_version)) (Dec.not (ℕ_discrete (version_in f 0) second_version)))
+    (Dec.not (ℕ_discrete (version_in f 0) (version_in f 0)))
 
 unfoldable pub kinds : (f : Input) → Dec (KindFault f 0)
-unfolding either ℕ_discrete Dec·not versioned
-kinds f = either (Dec·not (ℕ_discrete (byte f (kind_at 0)) (kind_of f 0))) (versioned f)
+unfolding either ℕ_discrete Dec.not versioned
+kinds f = either (Dec.not (ℕ_discrete (byte f (kind_at 0)) (kind_of f 0))) (versioned f)
 
 -- The first of 20 to 23 that the head is refused by, if it is.
 unfoldable pub headed : (f : Input) → Option ((number : ℕ) × FileRefused f number 0)

@@ -1,7 +1,7 @@
 -- A block that is right, said positively: what each of its bytes is.
 use Rattle.std.specs.Prelude.{ℕ, ◌+◌, ◌*◌, ◌/◌, ◌%◌, ◌≤◌, ◌<◌, ◌≡◌, refl, ◌⊎◌}
 use Rattle.std.proofs.Common.{⊎_elim, inl, inr, arith}
-use Rattle.std.proofs.Math.Logic.{Dec·not}
+use Rattle.std.proofs.Math.Logic.Dec
 use Rattle.std.proofs.Math.Decide.{ℕ_discrete}
 use Rattle.meaning.specs.Chain.{most_states, most_edges}
 use Rattle.meaning.specs.Block.{
@@ -69,10 +69,10 @@ nonzero f z w = w.1.1.1 (z w.0 w.1.0 w.1.1.0)
 
 -- Whether the check and the block number are wrong is decided.
 pub checked : (f : Input) (b : ℕ) → Dec (CheckFault f b)
-checked f b = either (Dec·not (ℕ_discrete _ _)) (Dec·not (ℕ_discrete _ _))
+checked f b = either (Dec.not (ℕ_discrete _ _)) (Dec.not (ℕ_discrete _ _))
 
 pub numbered : (f : Input) (b : ℕ) → Dec (BlockNumberFault f b)
-numbered f b = Dec·not (ℕ_discrete _ _)
+numbered f b = Dec.not (ℕ_discrete _ _)
 
 -- What each test of a block asks for.
 pub record Laid (f : Input) (b : ℕ) : Type 0 where

@@ -1,7 +1,7 @@
 -- For every input the program has a text to print.
 use Rattle.std.specs.Prelude.{ℕ, zero, suc, ◌+◌, ◌-◌, ◌≤◌, ◌<◌, ◌≡◌, refl, List}
 use Rattle.std.proofs.Common.{subst, inl, inr, ⊎_elim, arith}
-use Rattle.std.proofs.Math.Logic.{Dec·not}
+use Rattle.std.proofs.Math.Logic.Dec
 use Rattle.std.proofs.Math.Decide.{ℕ_discrete}
 use Rattle.meaning.specs.Chain.{edge_count}
 use Rattle.meaning.specs.Refusal.{Lent, Applies, Refused}
@@ -65,7 +65,7 @@ module _ (f : Input) (v : ℕ → ℕ) where
   lost_decided : Opened f v → Dec (Lost v)
   lost_decided opened =
       turned (λ w. (w.0, w.1.1)) (λ w. (w.0, ((lost_inside opened w.0 w.1).1, w.1)))
-      (anywhere (λ b. v b ≡ 0 → ⊥) (demanded f) (λ b. Dec·not (ℕ_discrete (v b) 0)))
+      (anywhere (λ b. v b ≡ 0 → ⊥) (demanded f) (λ b. Dec.not (ℕ_discrete (v b) 0)))
 
   opened_salvaged : Opened f v → (t : List ℕ) × Salvaged f t
   opened_salvaged opened =

@@ -1,7 +1,7 @@
 -- A table over d is the chance at every state exactly where no state is broken; and exactly where it agrees with every assignment at every state.
 use Rattle.std.specs.Prelude.{ℕ, ◌*◌, ◌<◌, ◌≡◌}
 use Rattle.std.proofs.Common.{ap, arith}
-use Rattle.std.proofs.Math.Logic.{Dec·not}
+use Rattle.std.proofs.Math.Logic.Dec
 use Rattle.std.proofs.Math.Decide.{ℕ_discrete}
 use Rattle.std.proofs.Math.Nat.{eq_of_mul-eq-mul_left}
 use Rattle.meaning.specs.Chain.{Chain, denominator, to, along, Goal, ToGoal, PathTo}
@@ -34,11 +34,11 @@ module _ {c : Chain} {d : ℕ} {x : ℕ → ℕ} where
   pub dec_broken : (i : ℕ) → Dec (Broken c d x i)
   dec_broken i =
       elim (dec_goal c i) [
-        | yes g ↦ turned (goal_value g) (broken_goal g) (Dec·not (ℕ_discrete (x i) d))
+        | yes g ↦ turned (goal_value g) (broken_goal g) (Dec.not (ℕ_discrete (x i) d))
         | no g ↦
             elim (dec_to_goal c i) [
-              | yes p ↦ turned (equation g p) (broken_equation g p) (Dec·not (ℕ_discrete (denominator c i * x i) (along c i x)))
-              | no p ↦ turned (zero_value p) (broken_zero p) (Dec·not (ℕ_discrete (x i) 0))
+              | yes p ↦ turned (equation g p) (broken_equation g p) (Dec.not (ℕ_discrete (denominator c i * x i) (along c i x)))
+              | no p ↦ turned (zero_value p) (broken_zero p) (Dec.not (ℕ_discrete (x i) 0))
             ]
       ]
 

@@ -1,7 +1,7 @@
 -- Decisions that compute, and the least place below a bound at which something holds.
 use Rattle.std.specs.Prelude.{ℕ, zero, suc, ◌+◌, ◌≤◌, ◌<◌, ◌≡◌, ◌⊎◌, ◌↔◌}
 use Rattle.std.proofs.Common.{subst, inl, inr, ⊎_elim, arith}
-use Rattle.std.proofs.Math.Logic.{Dec·and}
+use Rattle.std.proofs.Math.Logic.Dec
 use Rattle.std.proofs.Math.Decide.{dec_lt}
 use Rattle.theory.specs.Numbers.Sum.{below, last_or_below}
 
@@ -44,8 +44,8 @@ module _ (F : ℕ → Type 0) (n : ℕ) (decide : (i : ℕ) → Dec (F i)) (insi
 
 -- Something of each place below n.
 unfoldable pub ranged : (P : ℕ → Type 0) (n : ℕ) → ((i : ℕ) → Dec (P i)) → LeastPlace (λ i. (i < n) × P i)
-unfolding search_least Dec·and dec_lt
-ranged P n decide = search_least (λ i. (i < n) × P i) n (λ i. Dec·and (dec_lt i n) (decide i)) (λ i f. f.0)
+unfolding search_least Dec.and dec_lt
+ranged P n decide = search_least (λ i. (i < n) × P i) n (λ i. Dec.and (dec_lt i n) (decide i)) (λ i f. f.0)
 
 -- Whether a place was found.
 unfoldable pub found : {F : ℕ → Type 0} → LeastPlace F → Dec ((p : ℕ) × F p)

@@ -1,6 +1,6 @@
 -- What the right sets of a chain decide: how the start stands, and whether the expected reward is infinite.
 use Rattle.std.specs.Prelude.{ℕ, ◌<◌, ◌≡◌}
-use Rattle.std.proofs.Math.Logic.{Dec·and, Dec·not}
+use Rattle.std.proofs.Math.Logic.Dec
 use Rattle.std.proofs.Math.Decide.{ℕ_discrete}
 use Rattle.meaning.specs.Number.{bit}
 use Rattle.meaning.specs.Chain.{Chain, edge_count, from, to, Goal, ToGoal, FromStart, begin, step, Live}
@@ -51,12 +51,12 @@ module _ (c : Chain) (k : Sets) (right : Right c k) where
       ]
 
   unfoldable pub missing : Dec (Missed c)
-  unfolding leading anywhere Dec·and Dec·not ℕ_discrete
+  unfolding leading anywhere Dec.and Dec.not ℕ_discrete
   missing =
       elim (leading c.start) [
         | no p ↦ yes (c.start, begin, p)
         | yes p ↦ elim (anywhere Misses (edge_count c.edges) (λ e.
-            Dec·and (ℕ_discrete (bit k.live (from c.edges e)) 1) (Dec·not (leading (to c.edges e))))) [
+            Dec.and (ℕ_discrete (bit k.live (from c.edges e)) 1) (Dec.not (leading (to c.edges e))))) [
               | yes w ↦ yes (misses_missed w)
               | no w ↦ no (λ m. m.2 (reached_leads p (λ e l n. w (e, (l, n))) m.1))
             ]

@@ -1,7 +1,7 @@
 -- The elimination stops at a position, or it runs through: number 12 is decided.
 use Prim.Native.Nat.{ℕ, zero, suc, ◌+◌, ◌<◌}
 use Rattle.std.specs.Prelude.{◌≡◌, refl, Bool, true, false}
-use Rattle.std.proofs.Math.Logic.{Dec·and}
+use Rattle.std.proofs.Math.Logic.Dec
 use native.Mathlib.Omega.{arith}
 use Rattle.std.proofs.Math.Decide.{dec_lt}
 use Rattle.meaning.specs.Chain.{most_states, M}
@@ -26,11 +26,11 @@ pub data Halted (pay : ℕ → ℕ) (b : Bool) (l : Lent) (k : Sets) : Type 0 wh
 
 module _ (pay : ℕ → ℕ) (b : Bool) (l : Lent) (k : Sets) where
   unfoldable pub unfit : (p : ℕ) → Dec (NoFit pay b l k p)
-  unfolding Dec·and alike anywhere either dec_lt
+  unfolding Dec.and alike anywhere either dec_lt
   unfit p =
       let n = l.chain.states in
       let t = table_at pay b l k p in
-      Dec·and (alike b exact)
+      Dec.and (alike b exact)
       (anywhere _ n (λ i. either (dec_lt M (total n (row t i))) (dec_lt M (reward n (row t i)))))
 
   pub passed_none : (NoFit pay b l k 0 → ⊥) → Passed pay b l k 0

@@ -1,7 +1,7 @@
 -- Every number of refusal 1 to 11 is decided: an input is refused by one of them, or is well formed.
 use Rattle.std.specs.Prelude.{ℕ, zero, suc, ◌+◌, ◌-◌, ◌/◌, ◌%◌, ◌^◌, ◌≤◌, ◌<◌, ◌≡◌, refl, ◌⊎◌, Bool, true, false, List, [], ◌∷◌, length, get_or}
 use Rattle.std.proofs.Common.{subst, inl, inr, arith}
-use Rattle.std.proofs.Math.Logic.{Dec·and, Dec·not}
+use Rattle.std.proofs.Math.Logic.Dec
 use Rattle.std.proofs.Math.Decide.{ℕ_discrete, dec_le, dec_lt}
 use Rattle.meaning.specs.Number.{only}
 use Rattle.meaning.specs.Chain.{most_states, most_edges, M, most_reward, edge_size, edge_count, from, to, weight, edge_reward, row_sum}
@@ -68,25 +68,25 @@ module _ (x : Entry) (states denominators edges order rewards : ℕ) where
   shapes_out (rewards_length h) = inr (inr (inr (inr (inr (inr (inr h))))))
 
   unfoldable pub misshaped : Dec (Misshaped x states denominators edges order rewards)
-  unfolding turned either ℕ_discrete dec_lt Dec·not
+  unfolding turned either ℕ_discrete dec_lt Dec.not
   misshaped =
       turned shapes_in shapes_out
       (either (ℕ_discrete states 0)
       (either (dec_lt most_states states)
-      (either (Dec·not (ℕ_discrete denominators states))
-      (either (Dec·not (ℕ_discrete (edges % edge_size) 0))
+      (either (Dec.not (ℕ_discrete denominators states))
+      (either (Dec.not (ℕ_discrete (edges % edge_size) 0))
       (either (dec_lt most_edges (edges / edge_size))
       (either (dec_lt (edges / edge_size) x.fewest)
-      (either (Dec·not (ℕ_discrete order (only x.order states)))
-      (Dec·not (ℕ_discrete rewards (only x.rewards states))))))))))
+      (either (Dec.not (ℕ_discrete order (only x.order states)))
+      (Dec.not (ℕ_discrete rewards (only x.rewards states))))))))))
 
 unfoldable pub out_of_range : (w : ℕ) → Dec (OutOfRange w)
 unfolding either ℕ_discrete dec_lt
 out_of_range w = either (ℕ_discrete w 0) (dec_lt M w)
 
 unfoldable pub sames : (edges : List ℕ) (d e : ℕ) → Dec (Same edges d e)
-unfolding Dec·and ℕ_discrete
-sames edges d e = Dec·and (ℕ_discrete (from edges d) (from edges e)) (ℕ_discrete (to edges d) (to edges e))
+unfolding Dec.and ℕ_discrete
+sames edges d e = Dec.and (ℕ_discrete (from edges d) (from edges e)) (ℕ_discrete (to edges d) (to edges e))
 
 -- The places of 11: those of the states, and those of the edges from 64 on.
 module _ (n : ℕ) (rewards edges : List ℕ) where
@@ -110,14 +110,14 @@ module _ (n : ℕ) (rewards edges : List ℕ) where
   overpaid_inside _ (of_edge e h) = omega (arith, h.0)
 
   unfoldable pub overpaid : LeastPlace (RewardFault n rewards edges)
-  unfolding search_least turned either Dec·and dec_lt dec_le
+  unfolding search_least turned either Dec.and dec_lt dec_le
   overpaid =
       search_least (RewardFault n rewards edges) (n + most_states + edge_count edges)
       (λ p.
       turned (overpaid_in p) (overpaid_out p)
-      (either (Dec·and (dec_lt p n) (dec_lt most_reward (get_or rewards p 0)))
-      (Dec·and (dec_le most_states p)
-      (Dec·and (dec_lt (p - most_states) (edge_count edges)) (dec_lt most_reward (edge_reward edges (p - most_states)))))))
+      (either (Dec.and (dec_lt p n) (dec_lt most_reward (get_or rewards p 0)))
+      (Dec.and (dec_le most_states p)
+      (Dec.and (dec_lt (p - most_states) (edge_count edges)) (dec_lt most_reward (edge_reward edges (p - most_states)))))))
       overpaid_inside
 
 -- A fault of the whole, and one of a table that the entry may not be lent.
@@ -136,8 +136,8 @@ pub data Each : List (ℕ → Type 0) → Type 1 where
 
 -- 9, where rows may fall short or not.
 unfoldable pub unequal : (short : Bool) (n : ℕ) (denominators edges : List ℕ) → LeastPlace (SumFault short n denominators edges)
-unfolding ranged Dec·not ℕ_discrete dec_lt
-unequal false n denominators edges = ranged _ n (λ i. Dec·not (ℕ_discrete (row_sum edges i) (get_or denominators i 0)))
+unfolding ranged Dec.not ℕ_discrete dec_lt
+unequal false n denominators edges = ranged _ n (λ i. Dec.not (ℕ_discrete (row_sum edges i) (get_or denominators i 0)))
 unequal true n denominators edges = ranged _ n (λ i. dec_lt (get_or denominators i 0) (row_sum edges i))
 
 unfoldable pub sought : (x : Entry) (l : Lent) → Each (faults x l)

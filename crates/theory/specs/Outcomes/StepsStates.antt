@@ -2,7 +2,7 @@
 -- the start is not live.
 use Rattle.std.specs.Prelude.{ℕ, ◌<◌, ◌≡◌, refl, ◌↔◌, Bool, true, false, length, get_or, take, drop, eqb}
 use Rattle.std.proofs.Common.{ap, ap₂, ◌∙◌, arith, take_all, ne_eqb, eqb-true}
-use Rattle.std.proofs.Math.Logic.{Dec·and, Dec·not}
+use Rattle.std.proofs.Math.Logic.Dec
 use mathlib.Core.List.{List, [], map, filter}
 use Rattle.std.proofs.Math.Decide.{ℕ_discrete}
 use Rattle.std.proofs.Math.Seq.{take-append_seam}
@@ -32,7 +32,7 @@ abbrev pub Removable : Chain → ℕ → Type 0
 Removable c s = RemovableTo c (Goal c) s
 
 pub removable : (c : Chain) (s : ℕ) → Dec (Removable c s)
-removable c s = Dec·and (dec_live c s) (Dec·not (ℕ_discrete s c.start))
+removable c s = Dec.and (dec_live c s) (Dec.not (ℕ_discrete s c.start))
 
 module _ (c : Chain) {End : ℕ → Type 0} (k : Sets) (right : RightTo c End k) where
   pub goes_law : (s : ℕ) → (goes c.start k.live s ≡ true) ↔ RemovableTo c End s

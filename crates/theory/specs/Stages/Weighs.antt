@@ -1,7 +1,7 @@
 -- Where the rows of the exact engine have a weight: the first rows, and the rows after the removal of a state.
 use Rattle.std.specs.Prelude.{ℕ, ◌+◌, ◌*◌, ◌-◌, ◌≤◌, ◌<◌, ◌≡◌, refl, ◌⊎◌, ◌↔◌, Bool, true, false, eqb, length}
 use Rattle.std.proofs.Common.{sym, ap, subst, ◌∙◌, inl, inr, ⊎_elim, arith, mul-pos}
-use Rattle.std.proofs.Math.Logic.{Iff·trans}
+use Rattle.std.proofs.Math.Logic.Iff
 use mathlib.Core.List.{List, []}
 use borrow.Author.Tests.{eq-eqb, ne_eqb, eqb-true}
 use Rattle.meaning.specs.Number.{only, bit}
@@ -172,7 +172,7 @@ module _ (c : Chain) (k : Sets) (pay : ℕ → ℕ) where
     pub first_weighs : (i : ℕ) → i < n → (j : ℕ) → j < n + 2 → (0 < cell (row (first exact c k pay (λ _. 0)) i) j) ↔ Found i j
     first_weighs i h j b =
         firsts (λ r. (0 < cell r j) ↔ Found i j) i h
-        (λ l. Iff·trans (lowest_weighs (given c k pay 0 i) j) (given_weighs i l j b))
+        (λ l. Iff.trans (lowest_weighs (given c k pay 0 i) j) (given_weighs i l j b))
         (λ l. (λ z. absurd (omega (arith, z, no_weight n j)), λ w. absurd (l w.1.1.live)))
 
 -- After the removal of s the row of i has a weight in column j: neither of them is s, and the row had one there, or had one to s, whose row has

@@ -2,7 +2,7 @@ use mathlib.Core.Path.{◌≡◌}
 use mathlib.Core.Logic.{⊎_elim, inl, inr}
 use borrow.Author.Rules.{rules}
 use Rattle.meaning.specs.Block.{block_byte, first_sum, second_sum, version_in, check_modulus, check_begin, checked_bytes}
-use Rattle.bytes.specs.Input.{input}
+use Rattle.octets.specs.Input.{input}
 use Rattle.blocks.proofs.Law.{differs, agrees}
 use Rattle.blocks.proofs.block.check_wrong.Statement.{statement}
 use Rattle.blocks.proofs.block.check_wrong.Tie as tie

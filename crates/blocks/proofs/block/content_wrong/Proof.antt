@@ -5,7 +5,7 @@ use lib.ListN.{length}
 use borrow.Author.Rules.{rules}
 use Rattle.meaning.specs.Block.{block_size, records_at, record_size}
 use Rattle.theory.specs.Numbers.Decide.{holds, fails}
-use Rattle.bytes.specs.Input.{input}
+use Rattle.octets.specs.Input.{input}
 use Rattle.blocks.proofs.Law.{differs, agrees}
 use Rattle.theory.specs.Files.Turn.{third}
 use Rattle.blocks.proofs.Content.{Framed, count_content, rest_content, head_decides, flag_decides, reserved_decides}

@@ -3,7 +3,7 @@ use mathlib.Core.Path.{◌≡◌, sym, ◌∙◌, ap, ap₂}
 use native.Mathlib.Omega.{arith}
 use borrow.Author.Rules.{rules}
 use Rattle.meaning.specs.File.{count_of}
-use Rattle.bytes.specs.Input.{input}
+use Rattle.octets.specs.Input.{input}
 use Rattle.theory.specs.Files.Turn.{at_head, at_state, at_edge, share, count_most}
 use Rattle.meaning.specs.Block.{head_states, head_edges, state_blocks, full_block}
 use Rattle.blocks.proofs.block.count.Statement.{statement}

@@ -1,7 +1,7 @@
 use borrow.Author.Rules.{rules}
 use Rattle.meaning.specs.File.{CheckFault, BlockNumberFault, KindFault, ContentFault, BlockRefused}
 use Rattle.theory.specs.Numbers.Decide.{holds, fails}
-use Rattle.bytes.specs.Input.{input}
+use Rattle.octets.specs.Input.{input}
 use Rattle.theory.specs.Files.Right.{right}
 use Rattle.blocks.proofs.block.in_turn.Statement.{statement}
 use Rattle.blocks.proofs.block.in_turn.Tie as tie

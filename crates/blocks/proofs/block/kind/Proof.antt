@@ -1,7 +1,7 @@
 use mathlib.Core.Path.{sym}
 use native.Mathlib.Omega.{arith}
 use borrow.Author.Rules.{rules}
-use Rattle.bytes.specs.Input.{input}
+use Rattle.octets.specs.Input.{input}
 use Rattle.theory.specs.Files.Turn.{kind_head, kind_state, kind_edge}
 use Rattle.blocks.proofs.block.kind.Statement.{statement}
 use Rattle.blocks.proofs.block.kind.Tie as tie

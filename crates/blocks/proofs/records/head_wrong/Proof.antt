@@ -5,7 +5,7 @@ use borrow.Author.Rules.{rules}
 use Rattle.meaning.specs.File.{HeadFault}
 use Rattle.blocks.proofs.Content.{head_rest}
 use Rattle.blocks.proofs.Law.{carry}
-use Rattle.bytes.specs.Input.{input}
+use Rattle.octets.specs.Input.{input}
 use Rattle.blocks.proofs.records.head_wrong.Statement.{statement}
 use Rattle.blocks.proofs.records.head_wrong.Tie as tie
 

@@ -5,7 +5,7 @@ use Rattle.meaning.specs.Block.{record_size, edge_reward_byte, weight_byte}
 use Rattle.meaning.specs.File.{NonZero}
 use Rattle.theory.specs.Numbers.Decide.{holds, fails}
 use Rattle.chain.proofs.Passing.{NoneBelow, pass}
-use Rattle.bytes.specs.Input.{input}
+use Rattle.octets.specs.Input.{input}
 use Rattle.blocks.proofs.records.reserved_wrong.Statement.{statement}
 use Rattle.blocks.proofs.records.reserved_wrong.Tie as tie
 

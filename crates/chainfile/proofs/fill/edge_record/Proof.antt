@@ -8,7 +8,7 @@ use Rattle.meaning.specs.File.{edge_in}
 use Rattle.chain.specs.Edge.{placed}
 use Rattle.chainfile.specs.Input.{input}
 use Rattle.chainfile.specs.Tells.{edge_from}
-use Rattle.bytes.proofs.Cut.{cut}
+use Rattle.octets.proofs.Cut.{cut}
 use Rattle.chainfile.proofs.Filling.{cut_edge}
 use Rattle.chainfile.proofs.fill.edge_record.Statement.{statement}
 use Rattle.chainfile.proofs.fill.edge_record.Tie as tie

@@ -4,7 +4,7 @@ use native.Mathlib.Omega.{arith}
 use borrow.Author.Rules.{rules}
 use Rattle.meaning.specs.Block.{first_sum, second_sum}
 use Rattle.theory.specs.Files.Agree.{sum_of}
-use Rattle.bytes.specs.Input.{input}
+use Rattle.octets.specs.Input.{input}
 use Rattle.fletcher.proofs.Summed.{sums_small}
 use Rattle.chainwriter.proofs.Making.{stored_outside, stored_stands, checked}
 use Rattle.chainwriter.proofs.make.check.Statement.{statement}

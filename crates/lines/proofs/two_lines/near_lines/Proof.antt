@@ -1,5 +1,5 @@
 use borrow.Author.Rules.{rules}
-use Rattle.bytes.proofs.Steps.{join}
+use Rattle.octets.proofs.Steps.{join}
 use Rattle.lines.proofs.two_lines.near_lines.Statement.{statement}
 use Rattle.lines.proofs.two_lines.near_lines.Tie as tie
 

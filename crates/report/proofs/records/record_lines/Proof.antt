@@ -4,7 +4,7 @@ use mathlib.Core.List.{[]}
 use native.Mathlib.Omega.{arith}
 use lib.ListN.{length}
 use borrow.Author.Rules.{rules}
-use Rattle.bytes.proofs.Steps.{kept}
+use Rattle.octets.proofs.Steps.{kept}
 use Rattle.report.proofs.StepLines.{Lined, none, more, all}
 use Rattle.report.proofs.records.record_lines.Statement.{statement}
 use Rattle.report.proofs.records.record_lines.Tie as tie

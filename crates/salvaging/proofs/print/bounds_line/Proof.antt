@@ -4,7 +4,7 @@ use lib.ListN.{length, length-append}
 use borrow.Author.Rules.{rules}
 use Rattle.meaning.specs.Report.{fraction_text}
 use Rattle.theory.specs.Numbers.Decimal.{digits}
-use Rattle.bytes.proofs.Storing.{stored}
+use Rattle.octets.proofs.Storing.{stored}
 use Rattle.salvaging.proofs.print.bounds_line.Statement.{statement}
 use Rattle.salvaging.proofs.print.bounds_line.Tie as tie
 

@@ -4,7 +4,7 @@ use native.Mathlib.Omega.{arith}
 use lib.ListN.{length, take}
 use borrow.Author.Rules.{rules}
 use Rattle.meaning.specs.ChainText.{spaced}
-use Rattle.bytes.proofs.Steps.{kept}
+use Rattle.octets.proofs.Steps.{kept}
 use Rattle.showing.specs.Print.{Put}
 use Rattle.showing.proofs.Printing.{numbers_none, numbers_next, numbers_all}
 use Rattle.showing.proofs.print.order_numbers.Statement.{statement}

@@ -4,7 +4,7 @@ use native.Mathlib.Omega.{arith}
 use lib.ListN.{length}
 use borrow.Author.Rules.{rules}
 use Rattle.meaning.specs.ChainText.{text_of}
-use Rattle.bytes.proofs.Steps.{kept}
+use Rattle.octets.proofs.Steps.{kept}
 use Rattle.showing.specs.Print.{Put, state_lines}
 use Rattle.showing.proofs.Printing.{none_put, more_put, as_state, all_put}
 use Rattle.showing.proofs.print.state_lines.Statement.{statement}

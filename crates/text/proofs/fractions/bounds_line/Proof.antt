@@ -6,7 +6,7 @@ use borrow.Author.Rules.{rules}
 use Rattle.meaning.specs.Outcome.{between}
 use Rattle.meaning.specs.Text.{bytes_of}
 use Rattle.meaning.specs.Report.{bounds_text, line_text}
-use Rattle.bytes.specs.Written.{written, full}
+use Rattle.octets.specs.Written.{written, full}
 use Rattle.text.proofs.fractions.bounds_line.Statement.{statement}
 use Rattle.text.proofs.fractions.bounds_line.Tie as tie
 

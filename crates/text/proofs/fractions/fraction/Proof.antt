@@ -1,7 +1,7 @@
 use mathlib.Core.Path.{refl}
 use native.Mathlib.Omega.{arith}
 use borrow.Author.Rules.{rules}
-use Rattle.bytes.specs.Written.{written, full}
+use Rattle.octets.specs.Written.{written, full}
 use Rattle.text.proofs.fractions.fraction.Statement.{statement}
 use Rattle.text.proofs.fractions.fraction.Tie as tie
 

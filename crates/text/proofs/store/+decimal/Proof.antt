@@ -4,7 +4,7 @@ use native.Mathlib.Omega.{arith}
 use borrow.Author.Rules.{rules}
 use borrow.Fn.Kinds.{In}
 use borrow.Fn.PlainCycle.{Measures, is, falls, and}
-use Rattle.bytes.proofs.Steps.{join}
+use Rattle.octets.proofs.Steps.{join}
 use Rattle.theory.specs.Numbers.Decimal.{decimal_small, decimal_more, length_small, length_more}
 use Rattle.text.proofs.store.decimal.Reads as decimal
 use Rattle.text.proofs.store.decimal.Kinds as decimal-kinds

@@ -1,5 +1,5 @@
 use borrow.Author.Rules.{rules}
-use Rattle.bytes.proofs.Steps.{one}
+use Rattle.octets.proofs.Steps.{one}
 use Rattle.text.proofs.store.byte.Statement.{statement}
 use Rattle.text.proofs.store.byte.Tie as tie
 

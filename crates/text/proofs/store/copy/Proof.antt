@@ -1,7 +1,7 @@
 use Prim.Native.Nat.{◌-◌}
 use lib.ListN.{length}
 use borrow.Author.Rules.{rules}
-use Rattle.bytes.proofs.Steps.{Copied, none, more, all}
+use Rattle.octets.proofs.Steps.{Copied, none, more, all}
 use Rattle.text.proofs.store.copy.Statement.{statement}
 use Rattle.text.proofs.store.copy.Tie as tie
 

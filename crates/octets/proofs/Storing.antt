@@ -7,9 +7,9 @@ use native.Mathlib.Numerals.{add-one}
 use native.Mathlib.Omega.{arith}
 use lib.ListN.{length, set}
 use Rattle.theory.specs.Numbers.Tab.{tab_at, tab_length}
-use Rattle.bytes.specs.Written.{Room, Written, Stored, written, full, little_endian}
-use Rattle.bytes.proofs.Steps.{Copied}
-use Rattle.bytes.proofs.Steps as steps
+use Rattle.octets.specs.Written.{Room, Written, Stored, written, full, little_endian}
+use Rattle.octets.proofs.Steps.{Copied}
+use Rattle.octets.proofs.Steps as steps
 
 pub size : (width x : ℕ) → length (little_endian width x) ≡ width
 size width x = tab_length 0 width (λ i. x / 256 ^ i % 256)

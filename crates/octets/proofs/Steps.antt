@@ -7,7 +7,7 @@ use mathlib.Core.Path.{◌≡◌, refl, ap, ◌∙◌}
 use mathlib.Core.List.{List, [], ◌∷◌, ◌++◌, append_assoc}
 use lib.ListN.{length, take, drop, get_or, set, length-append, length-drop, length-set}
 use lib.Seq.{length-take-le, take-length, take_at, drop_at, drop-drop, set_split, append_snoc, paste, paste-zero, paste-suc}
-use Rattle.bytes.specs.Written.{Written}
+use Rattle.octets.specs.Written.{Written}
 
 -- After i bytes of the text are copied to the place.
 pub record Copied (before : List ℕ) (place : ℕ) (text : List ℕ) (i : ℕ) (after : List ℕ) : Type 0 where

@@ -1,9 +1,11 @@
 // Bytes and numbers of a file: where everything lies in one, how it is read there, and how numbers are stored. A byte that is not kept counts as 0.
+#![tactic(auto)]
+
 ghost use Rattle.std.specs.Prelude.{◌≡◌, ◌*◌, ◌^◌, ◌≤◌, ◌<◌, min, length, get_or};
 ghost use Rattle.meaning.specs.Block.{number_at, four_byte_number};
 ghost use Rattle.meaning.specs.File.{NonZero};
 ghost use Rattle.meaning.specs.Number.{decides, sum_to};
-ghost use Rattle.bytes.specs.Input.{input};
+ghost use Rattle.octets.specs.Input.{input};
 
 pub mod layout;
 mod store;

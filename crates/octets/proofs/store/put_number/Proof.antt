@@ -1,9 +1,9 @@
 use native.Mathlib.Omega.{arith}
 use borrow.Author.Rules.{rules}
-use Rattle.bytes.specs.Written.{Stored}
-use Rattle.bytes.proofs.Storing.{not_stored}
-use Rattle.bytes.proofs.store.put_number.Statement.{statement}
-use Rattle.bytes.proofs.store.put_number.Tie as tie
+use Rattle.octets.specs.Written.{Stored}
+use Rattle.octets.proofs.Storing.{not_stored}
+use Rattle.octets.proofs.store.put_number.Statement.{statement}
+use Rattle.octets.proofs.store.put_number.Tie as tie
 
 returns : tie.Need-returns
 returns c = let a = c.before.before.args in not_stored a.width a.x (omega arith)

@@ -1,8 +1,8 @@
 use native.Mathlib.Omega.{arith}
 use borrow.Author.Rules.{rules}
-use Rattle.bytes.proofs.Cut.{past, cut_decides}
-use Rattle.bytes.proofs.written.Statement.{statement}
-use Rattle.bytes.proofs.written.Tie as tie
+use Rattle.octets.proofs.Cut.{past, cut_decides}
+use Rattle.octets.proofs.written.Statement.{statement}
+use Rattle.octets.proofs.written.Tie as tie
 
 returns : tie.Need-returns
 returns c =

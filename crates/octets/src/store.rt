@@ -1,6 +1,6 @@
 // Numbers, stored in a lent buffer.
 ghost use Rattle.std.specs.Prelude.{◌+◌, ◌≤◌, length};
-ghost use Rattle.bytes.specs.Written.{Stored, Written, little_endian};
+ghost use Rattle.octets.specs.Written.{Stored, Written, little_endian};
 
 fn store(buffer: &mut [u8], at: usize, width: usize, x: u64) -> usize
     requires { at + width ≤ length buffer.old }

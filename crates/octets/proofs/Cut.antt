@@ -11,7 +11,7 @@ use lib.Seq.{get_or-take, get_or-drop, length-take-le}
 use Rattle.meaning.specs.File.{NonZero}
 use Rattle.meaning.specs.Number.{decides}
 use Rattle.theory.specs.Numbers.Sum.{same, below, last_or_below}
-use Rattle.bytes.specs.Input.{input}
+use Rattle.octets.specs.Input.{input}
 
 -- The union of two is 0 only where both are.
 or_nought : (x y : ℕ) → bit_or x y ≡ 0 → (x ≡ 0) × (y ≡ 0)

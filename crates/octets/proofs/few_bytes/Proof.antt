@@ -8,9 +8,9 @@ use borrow.Author.Rules.{rules}
 use Rattle.meaning.specs.Number.{sum_to}
 use Rattle.theory.specs.Numbers.Sum.{sum_ext}
 use Rattle.theory.specs.Numbers.Little.{past, power, stays}
-use Rattle.bytes.proofs.Cut.{cut, cut_length, cut_at_lem}
-use Rattle.bytes.proofs.few_bytes.Statement.{statement}
-use Rattle.bytes.proofs.few_bytes.Tie as tie
+use Rattle.octets.proofs.Cut.{cut, cut_length, cut_at_lem}
+use Rattle.octets.proofs.few_bytes.Statement.{statement}
+use Rattle.octets.proofs.few_bytes.Tie as tie
 
 module _ (kept : List ℕ) (at width : ℕ) {e : ℕ} (ends : e ≡ min (at + width) (length kept)) (h : at ≤ e) where
   abbrev digits : ℕ → ℕ

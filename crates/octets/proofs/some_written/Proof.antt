@@ -1,9 +1,9 @@
 use Prim.Native.Nat.{◌-◌}
 use lib.ListN.{length}
 use borrow.Author.Rules.{rules}
-use Rattle.bytes.proofs.Cut.{Looked, none, more, found, blank}
-use Rattle.bytes.proofs.some_written.Statement.{statement}
-use Rattle.bytes.proofs.some_written.Tie as tie
+use Rattle.octets.proofs.Cut.{Looked, none, more, found, blank}
+use Rattle.octets.proofs.some_written.Statement.{statement}
+use Rattle.octets.proofs.some_written.Tie as tie
 
 abbrev invariant-loop : tie.invariant-loop
 invariant-loop bytes all₀ i₀ all i = Looked bytes i all

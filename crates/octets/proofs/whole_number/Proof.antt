@@ -3,8 +3,8 @@ use native.Mathlib.Omega.{arith}
 use lib.ListN.{length, get_or}
 use borrow.Author.Rules.{rules}
 use Rattle.theory.specs.Numbers.Little.{Gathered, none, small, product, more, all}
-use Rattle.bytes.proofs.whole_number.Statement.{statement}
-use Rattle.bytes.proofs.whole_number.Tie as tie
+use Rattle.octets.proofs.whole_number.Statement.{statement}
+use Rattle.octets.proofs.whole_number.Tie as tie
 
 abbrev invariant-loop : tie.invariant-loop
 invariant-loop bytes number₀ unit₀ i₀ number unit i = Gathered (λ k. get_or bytes k 0) (length bytes) i number unit

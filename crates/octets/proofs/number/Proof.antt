@@ -4,9 +4,9 @@ use mathlib.Core.List.{List}
 use native.Mathlib.Omega.{arith}
 use borrow.Author.Rules.{rules}
 use Rattle.meaning.specs.Block.{number_at}
-use Rattle.bytes.specs.Input.{input}
-use Rattle.bytes.proofs.number.Statement.{statement}
-use Rattle.bytes.proofs.number.Tie as tie
+use Rattle.octets.specs.Input.{input}
+use Rattle.octets.proofs.number.Statement.{statement}
+use Rattle.octets.proofs.number.Tie as tie
 
 -- So many bytes are read.
 read : (kept : List ℕ) (at r : ℕ) {n few : ℕ} → n ≡ few → (r ≡ number_at (input kept 0) at n) × (r < 256 ^ n)

@@ -1,8 +1,8 @@
 use Prim.Native.Nat.{◌-◌}
 use borrow.Author.Rules.{rules}
-use Rattle.bytes.proofs.Storing.{Storing, none, more, all}
-use Rattle.bytes.proofs.store.store.Statement.{statement}
-use Rattle.bytes.proofs.store.store.Tie as tie
+use Rattle.octets.proofs.Storing.{Storing, none, more, all}
+use Rattle.octets.proofs.store.store.Statement.{statement}
+use Rattle.octets.proofs.store.store.Tie as tie
 
 abbrev invariant-loop : tie.invariant-loop
 invariant-loop buffer₀ at width x rest₀ i₀ buffer rest i = Storing buffer₀ at width x i buffer rest

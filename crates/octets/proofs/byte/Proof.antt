@@ -2,8 +2,8 @@ use mathlib.Core.Path.{sym}
 use native.Mathlib.Omega.{arith}
 use lib.ListN.{get_or-eq_default}
 use borrow.Author.Rules.{rules}
-use Rattle.bytes.proofs.byte.Statement.{statement}
-use Rattle.bytes.proofs.byte.Tie as tie
+use Rattle.octets.proofs.byte.Statement.{statement}
+use Rattle.octets.proofs.byte.Tie as tie
 
 returns-2 : tie.Need-returns-2
 returns-2 c = (sym (get_or-eq_default c.before.before.args.kept.now 0 c.if1.false), omega arith)
