@@ -10,7 +10,7 @@ use crate::{head, records};
 use octets::layout;
 
 // What a test of a block finds.
-#[derive(Drop)]
+#[derive(Clone, Copy)]
 pub enum Block {
     Right,
     Wrong(u32),

@@ -75,7 +75,7 @@ pub fn gcd(a: u64, b: u64) -> u64
     whole_gcd(b, r)
 }
 
-#[derive(Drop)]
+#[derive(Clone, Copy)]
 pub struct Fraction {
     pub numerator: u64,
     pub denominator: u64,

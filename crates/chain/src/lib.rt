@@ -10,7 +10,7 @@ pub mod set;
 pub mod table;
 
 // A chain but for its tables, which are lent: its states are numbered from 0, and bit i of the goals says whether state i is one.
-#[derive(Drop)]
+#[derive(Clone, Copy)]
 pub struct Chain {
     pub states: usize,
     pub start: usize,

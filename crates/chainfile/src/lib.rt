@@ -21,7 +21,7 @@ mod lost;
 // The bytes of the longest file.
 pub const LONGEST: usize = layout::LONGEST;
 
-#[derive(Drop)]
+#[derive(Clone, Copy)]
 pub enum Reading {
     Chain { chain: Chain, edges: usize },
     Refused { number: u32, place: usize },
@@ -29,7 +29,7 @@ pub enum Reading {
 
 // What the salvaging reader answers: with the chain the number of edges that are kept, and for each block the number by which it is lost, 0 where it is
 // kept.
-#[derive(Drop)]
+#[derive(Clone, Copy)]
 pub struct Left {
     pub reading: Reading,
     pub lost: [u64; layout::BLOCKS],

@@ -5,7 +5,7 @@ ghost use Rattle.chaintext.specs.Lines.{EdgeRead, CountRead, RestRead, StateRead
 use crate::pieces::{Found, MOST, Numeral, named, word};
 
 // The numbers of a line that is the line of an edge.
-#[derive(Drop)]
+#[derive(Clone, Copy)]
 pub(crate) enum EdgeLine {
     Edge {
         from: u64,
@@ -59,7 +59,7 @@ pub(crate) fn edge(line: &[u8]) -> EdgeLine
 }
 
 // The number of a line that has one after its name.
-#[derive(Drop)]
+#[derive(Clone, Copy)]
 pub(crate) enum CountLine {
     Value(u64),
     Nothing,
@@ -82,7 +82,7 @@ pub(crate) fn count(line: &[u8], name: &[u8], least: u64, limit: u64) -> CountLi
 }
 
 // What stands after a state's numbers: nothing, or ` goal`.
-#[derive(Drop)]
+#[derive(Clone, Copy)]
 pub(crate) enum Rest {
     Nothing,
     Goal,
@@ -108,7 +108,7 @@ fn rest_of(line: &[u8], at: usize) -> Rest
 }
 
 // The numbers of a line that is the line of a state.
-#[derive(Drop)]
+#[derive(Clone, Copy)]
 pub(crate) enum StateLine {
     State {
         denominator: u64,

@@ -6,7 +6,7 @@ ghost use Rattle.chaintext.specs.Pieces.{WordRead, NumberRead, ended};
 pub(crate) const MOST: u64 = 4294967295;
 
 // A word stands there, and the line goes on at the place after it; or the word does not stand there.
-#[derive(Drop)]
+#[derive(Clone, Copy)]
 pub(crate) enum Found {
     At(usize),
     Nothing,
@@ -30,7 +30,7 @@ pub(crate) fn word(line: &[u8], at: usize, word: &[u8]) -> Found
 }
 
 // A number stands there, up to a byte that is no digit or to the line's end; or none does that is at most the limit.
-#[derive(Drop)]
+#[derive(Clone, Copy)]
 pub(crate) enum Numeral {
     Value { value: u64, next: usize },
     Nothing,

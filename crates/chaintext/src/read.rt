@@ -8,7 +8,7 @@ use crate::turns::{Held, Taken, Turn};
 use crate::{split, turns};
 
 // What a text says, beside the tables; or the number of the line by which it is refused.
-#[derive(Drop)]
+#[derive(Clone, Copy)]
 pub(crate) enum Reading {
     Tables(Held),
     Refused(usize),

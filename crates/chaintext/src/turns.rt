@@ -8,7 +8,7 @@ use crate::lines::{CountLine, EdgeLine, StateLine};
 use chain::edge::put;
 
 // Whose turn it is: the state's, or after the last of them the order's; the edge's, or after the last of them no line's.
-#[derive(Drop)]
+#[derive(Clone, Copy)]
 pub(crate) enum Turn {
     States,
     Edges,
@@ -18,7 +18,7 @@ pub(crate) enum Turn {
 }
 
 // What is held beside the tables. The tables hold numbers in range where nothing was read yet, so that they are a chain's at any time.
-#[derive(Drop)]
+#[derive(Clone, Copy)]
 pub(crate) struct Held {
     pub states: usize,
     pub edges: usize,
@@ -26,7 +26,7 @@ pub(crate) struct Held {
     pub goals: u64,
 }
 
-#[derive(Drop)]
+#[derive(Clone, Copy)]
 pub(crate) enum Taken {
     Next { turn: Turn, held: Held },
     Wrong,

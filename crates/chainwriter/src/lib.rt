@@ -21,7 +21,7 @@ use octets::layout;
 mod make;
 mod pack;
 
-#[derive(Drop)]
+#[derive(Clone, Copy)]
 pub enum Writing {
     Length(usize),
     Refused { number: u32, place: usize },

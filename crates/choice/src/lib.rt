@@ -14,7 +14,7 @@ mod rest;
 mod turns;
 
 // What is answered: the sum of the products; told gives the numbers for each case.
-#[derive(Drop)]
+#[derive(Clone, Copy)]
 pub enum Choice {
     Sum(u64),
     Refused { number: u32, place: usize },

@@ -10,7 +10,7 @@ use crate::columns;
 use chain::set::holds;
 
 // A state and its product.
-#[derive(Drop)]
+#[derive(Clone, Copy)]
 pub(crate) struct Pick {
     pub(crate) state: usize,
     pub(crate) product: u64,
@@ -53,7 +53,7 @@ fn next(columns: &[u64], n: usize, left: u64) -> Pick
 }
 
 // How many turns there were, and the sum of their products.
-#[derive(Drop)]
+#[derive(Clone, Copy)]
 pub(crate) struct Tally {
     pub(crate) count: usize,
     pub(crate) sum: u64,

@@ -11,7 +11,7 @@ use egorstream::{ANSWER_LENGTH, MODE_EXACT, egorstream_chance};
 
 // A refusal's number and place, with 0 over 0; or 0, 0 and the chance.
 #[repr(C)]
-#[derive(Drop)]
+#[derive(Clone, Copy)]
 pub struct Planned {
     pub number: u32,
     pub place: u32,

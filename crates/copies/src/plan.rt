@@ -12,7 +12,7 @@ pub(crate) const WEIGHT: u64 = 1000000;
 pub(crate) const WEIGHTS: u32 = 3;
 
 // How many copies, and the weights of a loss, a rebuild and the finish.
-#[derive(Drop)]
+#[derive(Clone, Copy)]
 pub struct Plan {
     pub copies: u64,
     pub loss: u64,

@@ -9,7 +9,7 @@ ghost use Rattle.theory.specs.Numbers.Printed.{Far};
 ghost use Rattle.decimals.specs.Told.{told, Six};
 
 // The value is digits over 10 ^ tens: six digits, or 0 or 1 with no tens.
-#[derive(Drop)]
+#[derive(Clone, Copy)]
 pub struct Figure {
     pub digits: u32,
     pub tens: u32,

@@ -6,7 +6,7 @@ use equations::Verdict;
 
 // A refusal's number and place; or 0, 0, and 1 for yes; or 0, 0, 0 and the state.
 #[repr(C)]
-#[derive(Drop)]
+#[derive(Clone, Copy)]
 pub struct Checked {
     pub number: u32,
     pub place: u32,

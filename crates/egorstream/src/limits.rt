@@ -10,7 +10,7 @@ use limitfile::Verdict;
 
 // A refusal's number and place, and 0; or 0, 0 and the verdict: 1 kept, 2 broken, 3 open.
 #[repr(C)]
-#[derive(Drop)]
+#[derive(Clone, Copy)]
 pub struct Limited {
     pub number: u32,
     pub place: u32,

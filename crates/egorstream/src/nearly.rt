@@ -9,7 +9,7 @@ use nearfile::From;
 
 // Two numbers over one power of two, and each of them in six decimal digits: digits over 10 ^ tens, rounded down and up.
 #[repr(C)]
-#[derive(Drop)]
+#[derive(Clone, Copy)]
 pub struct Around {
     pub lower: u64,
     pub upper: u64,
@@ -22,7 +22,7 @@ pub struct Around {
 
 // A refusal's number and place, and noughts; or 0, 0 and the two chances.
 #[repr(C)]
-#[derive(Drop)]
+#[derive(Clone, Copy)]
 pub struct Nearness {
     pub number: u32,
     pub place: u32,

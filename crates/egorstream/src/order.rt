@@ -11,7 +11,7 @@ use opening::Opening;
 
 // A refusal's number and place, or 0 and the sum of the products.
 #[repr(C)]
-#[derive(Drop)]
+#[derive(Clone, Copy)]
 pub struct Ordered {
     pub number: u32,
     pub place: u32,

@@ -12,7 +12,7 @@ use steplist::list::fill;
 
 // A refusal's number and place, or 0 and the chance; and how many records were written.
 #[repr(C)]
-#[derive(Drop)]
+#[derive(Clone, Copy)]
 pub struct Stepped {
     pub number: u32,
     pub place: u32,

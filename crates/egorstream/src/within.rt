@@ -7,7 +7,7 @@ use equations::Parts;
 
 // A refusal's number and place, or 0 and the parts.
 #[repr(C)]
-#[derive(Drop)]
+#[derive(Clone, Copy)]
 pub struct Reached {
     pub number: u32,
     pub place: u32,

@@ -13,7 +13,7 @@ pub const BLOCK_LENGTH: usize = octets::layout::BLOCK;
 
 // A refusal's number and place, or 0 and how long the file is.
 #[repr(C)]
-#[derive(Drop)]
+#[derive(Clone, Copy)]
 pub struct Written {
     pub number: u32,
     pub place: u32,

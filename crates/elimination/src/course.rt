@@ -2,7 +2,7 @@
 use chain::Chain;
 
 // What the start's row holds at the end, with its D; or what stops it. An expected reward that is infinite is 1 over 0.
-#[derive(Drop)]
+#[derive(Clone, Copy)]
 pub enum Course {
     Ends {
         goal: u64,
@@ -17,7 +17,7 @@ pub enum Course {
 }
 
 // The same with the steps: how many records there are, then four numbers for each record (state, rows, columns, divisor), and 0 past the last.
-#[derive(Drop)]
+#[derive(Clone, Copy)]
 pub struct Noted {
     pub course: Course,
     pub numbers: [u64; Noted::NUMBERS],

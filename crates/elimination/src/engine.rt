@@ -6,7 +6,7 @@ use chain::Chain;
 use survey::Sets;
 
 // The chance, the expected reward, the bounds, and the bounds of what is left of a chain.
-#[derive(Drop)]
+#[derive(Clone, Copy)]
 pub enum Engine {
     Chance,
     Reward,
@@ -53,7 +53,7 @@ impl Engine {
 }
 
 // An elimination: its chain with its sets, and what its engine asks.
-#[derive(Drop)]
+#[derive(Clone, Copy)]
 pub(crate) struct Elimination {
     pub chain: Chain,
     pub sets: Sets,

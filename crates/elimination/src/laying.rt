@@ -10,7 +10,7 @@ use survey::Sets;
 use survey::looking::{Length, Looked, look};
 
 // The chain's sets where its rows are laid out; or the refusal, which leaves the work table.
-#[derive(Drop)]
+#[derive(Clone, Copy)]
 pub enum Laid {
     Rows(Sets),
     Refused { number: u32, place: usize },

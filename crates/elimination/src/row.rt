@@ -12,14 +12,14 @@ use chain::Chain;
 use chain::divisor::reduce;
 
 // What became of a new row: whether it fits, and the divisor that was taken out of it. Of a table of rows that all fit it is the largest of these.
-#[derive(Drop)]
+#[derive(Clone, Copy)]
 pub(crate) struct Settled {
     pub fits: bool,
     pub divisor: u64,
 }
 
 // What the weights of a row come to once they are divided: their sum, and how many are above 0.
-#[derive(Drop)]
+#[derive(Clone, Copy)]
 struct Lowered {
     sum: u64,
     some: u64,

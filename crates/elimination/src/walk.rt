@@ -14,7 +14,7 @@ use crate::log::remove_noted;
 use chain::set::holds;
 
 // How the walk ends: done; or at the position of a step after which a row does not fit.
-#[derive(Drop)]
+#[derive(Clone, Copy)]
 pub(crate) enum Walk {
     Done,
     NoFit(usize),

@@ -2,20 +2,20 @@
 use chain::fraction::Fraction;
 use elimination::course::Noted;
 
-#[derive(Drop)]
+#[derive(Clone, Copy)]
 pub enum Chance {
     Is(Fraction),
     Refused { number: u32, place: usize },
 }
 
-#[derive(Drop)]
+#[derive(Clone, Copy)]
 pub enum Reward {
     Is(Fraction),
     Infinite,
     Refused { number: u32, place: usize },
 }
 
-#[derive(Drop)]
+#[derive(Clone, Copy)]
 pub enum Bounds {
     Between { lower: Fraction, upper: Fraction },
     Refused { number: u32, place: usize },
@@ -23,7 +23,7 @@ pub enum Bounds {
 
 // What the exact engine did: its answer, and the step list by value: how many records there are, then four numbers for each record (state,
 // rows, columns, divisor), and 0 past the last.
-#[derive(Drop)]
+#[derive(Clone, Copy)]
 pub struct Trace {
     pub chance: Chance,
     pub numbers: [u64; Trace::NUMBERS],

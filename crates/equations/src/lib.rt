@@ -24,7 +24,7 @@ pub use verdict::Verdict;
 pub const STEPS: u64 = 1000;
 
 // What is answered within so many steps: how many of all parts the start holds; told gives document 01's numbers for each case.
-#[derive(Drop)]
+#[derive(Clone, Copy)]
 pub enum Parts {
     Held(u64),
     Refused { number: u32, place: usize },

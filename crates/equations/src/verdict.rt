@@ -1,5 +1,5 @@
 // What is said of a table: yes; no, with a state; or a refusal. told gives document 01's numbers for each case.
-#[derive(Drop)]
+#[derive(Clone, Copy)]
 pub enum Verdict {
     Yes,
     No(usize),

@@ -7,7 +7,7 @@ ghost use Rattle.figures.specs.Told.{told_limits, Tells, figures, no_counts, no_
 use chain::fraction::Fraction;
 use engines::answer::{Bounds, Chance, Reward};
 
-#[derive(Drop)]
+#[derive(Clone, Copy)]
 pub struct Counts {
     pub states: u64,
     pub edges: u64,
@@ -16,7 +16,7 @@ pub struct Counts {
 }
 
 // The numbers of a chance or a reward: a refusal's number and place, or 0 and a fraction, whose denominator 0 says infinite.
-#[derive(Drop)]
+#[derive(Clone, Copy)]
 pub struct Answer {
     pub number: u32,
     pub place: usize,
@@ -25,7 +25,7 @@ pub struct Answer {
 }
 
 // The numbers of two bounds: a refusal's number and place, or 0 and p over q, s over t.
-#[derive(Drop)]
+#[derive(Clone, Copy)]
 pub struct Limits {
     pub number: u32,
     pub place: usize,
@@ -36,7 +36,7 @@ pub struct Limits {
 }
 
 // The number and place of the file's refusal, or 0 and what was asked for, each figure with its own refusal. The rest is nought.
-#[derive(Drop)]
+#[derive(Clone, Copy)]
 pub struct Figures {
     pub number: u32,
     pub place: usize,

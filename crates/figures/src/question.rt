@@ -1,5 +1,5 @@
 // What is asked of a file: the exact chance, the bounds, or all that its report tells.
-#[derive(Drop)]
+#[derive(Clone, Copy)]
 pub enum Question {
     Chance,
     Bounds,

@@ -15,13 +15,13 @@ const ROWS: usize = 5;
 const COLUMNS: usize = layout::CHECKED / ROWS;
 
 // What both sums of a block are taken modulo, and what they begin at.
-#[derive(Drop)]
+#[derive(Clone, Copy)]
 struct Rule {
     modulus: u64,
     begin: u64,
 }
 
-#[derive(Drop)]
+#[derive(Clone, Copy)]
 pub struct Sums {
     pub first: u64,
     pub second: u64,

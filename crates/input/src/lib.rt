@@ -20,21 +20,21 @@ const PART: usize = 65536;
 const READS: u64 = 140737488355328;
 
 // How many bytes are kept at the front of a buffer, and how many came after them.
-#[derive(Drop)]
+#[derive(Clone, Copy)]
 pub struct Input {
     pub length: usize,
     pub more: u64,
 }
 
 // All that came, or that a read failed: errno then says why.
-#[derive(Drop)]
+#[derive(Clone, Copy)]
 pub enum Reading {
     Came(Input),
     Failed,
 }
 
 // What one read comes to.
-#[derive(Drop)]
+#[derive(Clone, Copy)]
 enum Step {
     Took(Input),
     Ended,

@@ -14,7 +14,7 @@ pub const LIMIT_BYTES: usize = 40;
 const PAST: u64 = limit::SAID + 1;
 
 // What is read up to the end of a run of digits, which is the place after it.
-#[derive(Drop)]
+#[derive(Clone, Copy)]
 struct Run {
     number: u64,
     end: usize,

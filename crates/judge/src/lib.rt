@@ -12,7 +12,7 @@ use blocks::{block, head};
 use octets::layout;
 
 // What a file is found to be: accepted, or refused with a number at a place.
-#[derive(Drop)]
+#[derive(Clone, Copy)]
 pub enum Verdict {
     Accepted,
     Refused(u32, usize),

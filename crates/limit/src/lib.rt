@@ -6,7 +6,7 @@ ghost use Rattle.meaning.specs.Number.{decides};
 ghost use Rattle.meaning.specs.Limit.{IsLimit, keeps};
 ghost use Rattle.limit.specs.Told.{told};
 
-#[derive(Drop)]
+#[derive(Clone, Copy)]
 pub struct Limit {
     pub digits: u64,
     pub tens: u64,

@@ -17,7 +17,7 @@ use near::answer::{Between, Nearly};
 use nearfile::From;
 
 // Open: which of the two cannot be said.
-#[derive(Drop)]
+#[derive(Clone, Copy)]
 pub enum Verdict {
     Kept,
     Broken,
@@ -25,7 +25,7 @@ pub enum Verdict {
 }
 
 // The verdict, and the near chance that is printed with it.
-#[derive(Drop)]
+#[derive(Clone, Copy)]
 pub enum Limited {
     Judged { verdict: Verdict, chance: Between },
     Refused { number: u32, place: usize },

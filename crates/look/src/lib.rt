@@ -16,7 +16,7 @@ pub mod sums;
 
 use scan::Place;
 
-#[derive(Drop)]
+#[derive(Clone, Copy)]
 pub enum Finding {
     Clear,
     Refused { number: u32, place: usize },

@@ -9,7 +9,7 @@ use chain::table::at;
 use chain::{Chain, edge};
 
 // Where a scan finds what it looks for: at the least such place, or nowhere.
-#[derive(Drop)]
+#[derive(Clone, Copy)]
 pub enum Place {
     Nowhere,
     At(usize),

@@ -9,7 +9,7 @@ use crate::row::weight_digits;
 use crate::word::{FIRST, digits_of};
 
 // Two fractions with a chance between them: the numerators, and the power of two that is the denominator of both.
-#[derive(Drop)]
+#[derive(Clone, Copy)]
 pub struct Between {
     pub lower: u64,
     pub upper: u64,
@@ -17,13 +17,13 @@ pub struct Between {
 }
 
 // What the entry answers: the fractions of the chance of reaching a goal, and those of the chance of missing every goal.
-#[derive(Drop)]
+#[derive(Clone, Copy)]
 pub struct Figures {
     pub chance: Between,
     pub miss: Between,
 }
 
-#[derive(Drop)]
+#[derive(Clone, Copy)]
 pub enum Nearly {
     Found(Figures),
     Refused { number: u32, place: usize },

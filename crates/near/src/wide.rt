@@ -9,7 +9,7 @@ use crate::word::{Split, lone, mix, split_of};
 use chain::Chain;
 
 // The columns from `from` to before `to`: of states that are gone, so that no row has a weight there.
-#[derive(Drop)]
+#[derive(Clone, Copy)]
 pub(crate) struct Gap {
     pub(crate) from: usize,
     pub(crate) to: usize,

@@ -113,7 +113,7 @@ fn sum(p: u64, x: u64, q: u64, y: u64) -> u64
 }
 
 // A word in two parts: its first digits, and how many it leaves out, 33 too high.
-#[derive(Drop)]
+#[derive(Clone, Copy)]
 pub(crate) struct Split {
     pub(crate) first: u64,
     pub(crate) behind: u64,

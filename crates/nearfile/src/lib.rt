@@ -15,7 +15,7 @@ use near::entry::near_unlent;
 use opening::Opening;
 
 // Where the chance is asked from: the file's own start, or a number that takes its place, whether it is a state or not.
-#[derive(Drop)]
+#[derive(Clone, Copy)]
 pub enum From {
     Start,
     State(u64),

@@ -15,13 +15,13 @@ pub const LARGEST: usize = EDGES + edge::MOST;
 pub const SMALL: usize = EDGES + edge::SIZE * (6 * layout::FULL);
 
 // The chain but for its tables, and how many edges it has.
-#[derive(Drop)]
+#[derive(Clone, Copy)]
 pub struct Book {
     pub chain: Chain,
     pub edges: usize,
 }
 
-#[derive(Drop)]
+#[derive(Clone, Copy)]
 pub enum Opening {
     Chain(Book),
     Refused { number: u32, place: usize },

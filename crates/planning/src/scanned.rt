@@ -25,7 +25,7 @@ use text::{named, put};
 pub const FEWEST_ROOM: usize = 152;
 
 // The fewest that are kept, or one more than the most; and the first below them that cannot be said.
-#[derive(Drop)]
+#[derive(Clone, Copy)]
 struct Found {
     fewest: u64,
     first: u64,

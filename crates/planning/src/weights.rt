@@ -7,7 +7,7 @@ ghost use Rattle.planning.specs.Told.{told_weights, Weighed};
 use copies::{LONGEST, Plan, file};
 use egorstream::Written;
 
-#[derive(Drop)]
+#[derive(Clone, Copy)]
 pub struct Weights {
     pub loss: u64,
     pub rebuild: u64,

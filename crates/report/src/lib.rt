@@ -17,7 +17,7 @@ mod records;
 pub use print::{ANSWER_ROOM, BOUNDS_LINE, FACE_ROOM, REPORT_ROOM, STEPS_ROOM};
 
 // What a text in a lent buffer answers: how long it is, or that the buffer is refused.
-#[derive(Drop)]
+#[derive(Clone, Copy)]
 pub enum Printed {
     Length(usize),
     Refused { number: u32, place: usize },

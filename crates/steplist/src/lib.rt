@@ -9,7 +9,7 @@ pub mod list;
 
 // What is told of one removed state.
 #[repr(C)]
-#[derive(Drop)]
+#[derive(Clone, Copy)]
 pub struct StepRecord {
     pub state: u64,
     pub rows: u64,
@@ -18,7 +18,7 @@ pub struct StepRecord {
 }
 
 // The chance entry's answer, and how many records were written.
-#[derive(Drop)]
+#[derive(Clone, Copy)]
 pub struct Steps {
     pub chance: Chance,
     pub count: usize,

@@ -14,7 +14,7 @@ pub mod looking;
 mod reach;
 
 // The states with a path to an end, the live ones, and whether a state is reached that has no path to one.
-#[derive(Drop)]
+#[derive(Clone, Copy)]
 pub struct Sets {
     pub good: u64,
     pub live: u64,
@@ -22,7 +22,7 @@ pub struct Sets {
 }
 
 // What a survey answers; told gives document 01's numbers for each case.
-#[derive(Drop)]
+#[derive(Clone, Copy)]
 pub enum Survey {
     Found { sets: Sets, goals: u32, live: u32 },
     Refused { number: u32, place: usize },

@@ -14,14 +14,14 @@ use look::shape::misshaped;
 use look::{rewards, scan};
 
 // The length of a table that may not be lent.
-#[derive(Drop)]
+#[derive(Clone, Copy)]
 pub enum Length {
     None,
     Of(usize),
 }
 
 // What the looking finds: the chain's sets where the input is well formed.
-#[derive(Drop)]
+#[derive(Clone, Copy)]
 pub enum Looked {
     Clear(Sets),
     Refused { number: u32, place: usize },

@@ -47,7 +47,7 @@ fn tell_work(table: &[u64; WORK], taken: usize)
     }
 }
 
-#[derive(Drop)]
+#[derive(Clone, Copy)]
 enum Entry {
     Chance,
     Reward,
