@@ -65,7 +65,7 @@ fn record_at(b: usize, i: usize) -> usize
 // A table of one number a state, which stands in its record from byte `offset` on.
 fn state_numbers(kept: &[u8], offset: usize, width: usize, table: &mut [u64])
     requires within { Within (input kept.now 0) }
-    requires kept_in_bounds { (head_states (input kept.now 0) ≤ length table.old) × (offset < record_size) × (width ≤ 4) }
+    requires room { (head_states (input kept.now 0) ≤ length table.old) × (offset < record_size) × (width ≤ 4) }
     ensures { let f = input kept.now 0 in
         table.new ≡ filled (tab_from 0 (head_states f) (λ i. number_at f (state_at i + offset) width)) table.old }
 {
@@ -133,7 +133,7 @@ fn keep(kept: &[u8], lost: &[u64], first: usize, e: usize, table: &mut [u64], k:
 // The kept edges, a record each. Answers how many.
 fn edge_numbers(kept: &[u8], lost: &[u64], table: &mut [u64]) -> usize
     requires within { Within (input kept.now 0) }
-    requires kept_in_bounds { edge_size * head_edges (input kept.now 0) ≤ length table.old }
+    requires room { edge_size * head_edges (input kept.now 0) ≤ length table.old }
     ensures { let f = input kept.now 0 in
         let v = verdict lost.now in
         (table.new ≡ filled (kept_edges f v (head_edges f)) table.old) × (result ≡ kept_before f v (head_edges f)) }
@@ -159,7 +159,7 @@ pub(crate) fn tables(
     rewards: &mut [u64],
 ) -> usize
     requires within { Within (input kept.now 0) }
-    requires fact { Narrow (input kept.now 0) (tables denominators.old edges.old order.old rewards.old) → ⊥ }
+    requires room { Narrow (input kept.now 0) (tables denominators.old edges.old order.old rewards.old) → ⊥ }
     ensures { let f = input kept.now 0 in
         let v = verdict lost.now in
         let before = tables denominators.old edges.old order.old rewards.old in

@@ -131,7 +131,7 @@ fn leave(
     rewards: &mut [u64],
 ) -> Left
     requires within { Within (input kept.now 0) }
-    requires fact { Short (tables denominators.old edges.old order.old rewards.old) → ⊥ }
+    requires room { Short (tables denominators.old edges.old order.old rewards.old) → ⊥ }
     ensures { let before = tables denominators.old edges.old order.old rewards.old in
         let after = tables denominators.new edges.new order.new rewards.new in
         ((more : ℕ) → LeftOver (input kept.now more) before (told_left result) after) }

@@ -54,7 +54,7 @@ fn records(
     begin: usize,
 )
     requires fitting { Fitting (lent c denominators.now edges.now order.now rewards.now []) }
-    requires b_lt_most_blocks { (b < most_blocks) × (begin ≤ full_block * most_blocks) × (block_at b + block_size ≤ length buffer.old) }
+    requires few_blocks { (b < most_blocks) × (begin ≤ full_block * most_blocks) × (block_at b + block_size ≤ length buffer.old) }
     ensures { let l = lent c denominators.now edges.now order.now rewards.now [] in
         Slots l kind count begin buffer.old b full_block buffer.new }
 {
@@ -102,7 +102,7 @@ fn block(
     b: usize,
 )
     requires fitting { Fitting (lent c denominators.now edges.now order.now rewards.now []) }
-    requires b_lt_most_blocks { (b < most_blocks) × (block_at b + block_size ≤ length buffer.old) }
+    requires few_blocks { (b < most_blocks) × (block_at b + block_size ≤ length buffer.old) }
     ensures { let l = lent c denominators.now edges.now order.now rewards.now [] in
         Made l buffer.old b buffer.new }
 {
@@ -136,7 +136,7 @@ pub(crate) fn blocks(
     total: usize,
 )
     requires fitting { Fitting (lent c denominators.now edges.now order.now rewards.now []) }
-    requires total_le_most_blocks { (total ≤ most_blocks) × (block_at total ≤ length buffer.old) }
+    requires few_blocks { (total ≤ most_blocks) × (block_at total ≤ length buffer.old) }
     ensures { let l = lent c denominators.now edges.now order.now rewards.now [] in
         Filed l buffer.old total buffer.new }
 {

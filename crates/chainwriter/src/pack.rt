@@ -102,7 +102,7 @@ pub(crate) fn slot(
     i: usize,
 ) -> u64
     requires fitting { Fitting (lent c denominators.now edges.now order.now rewards.now []) }
-    requires begin_bound { (begin ≤ full_block * most_blocks) × (i < full_block) }
+    requires place { (begin ≤ full_block * most_blocks) × (i < full_block) }
     ensures { let l = lent c denominators.now edges.now order.now rewards.now [] in
         result ≡ slot_of l kind count begin i }
 {

@@ -47,7 +47,7 @@ fn join(columns: &mut [u64], j: usize, members: u64)
 // Adds the source of edge e, where that is live, to the column of its target.
 fn carry(columns: &mut [u64], c: Chain, sets: Sets, edges: &[u64], e: usize)
     requires columns_len { (length columns.old ≡ column_count) × (c.states ≤ most_states) × (e < edge_count edges.now) }
-    requires by_index { (e : ℕ) → EndFault c.states edges.now e → ⊥ }
+    requires ends_right { (e : ℕ) → EndFault c.states edges.now e → ⊥ }
     ensures { let es = edges.now in
         Carried c.states (λ i j. Brings c.states c.goals es (sets_of sets) i j e) columns.old columns.new }
 {
@@ -63,8 +63,8 @@ fn carry(columns: &mut [u64], c: Chain, sets: Sets, edges: &[u64], e: usize)
 
 // The columns of the first rows, in one pass over the edges.
 pub(crate) fn first(c: Chain, sets: Sets, edges: &[u64]) -> [u64; COLUMNS]
-    requires states_le_most_states { c.states ≤ most_states }
-    requires by_index { (e : ℕ) → EndFault c.states edges.now e → ⊥ }
+    requires few_states { c.states ≤ most_states }
+    requires ends_right { (e : ℕ) → EndFault c.states edges.now e → ⊥ }
     ensures { let es = edges.now in
         Gathered c.states (Brought c.states c.goals es (sets_of sets) (edge_count es)) result }
 {

@@ -46,7 +46,7 @@ pub(crate) fn earnings(
     rewards: &[u64],
 ) -> [u64; Chain::STATES]
     requires earnable { paid ≡ true → Earnable n denominators.now edges.now rewards.now }
-    requires n_le_most_states { n ≤ most_states }
+    requires few_states { n ≤ most_states }
     ensures { let c = earning denominators.now edges.now in
         ((i : ℕ) → i < n → get_or result i 0 ≡ pays paid c rewards.now i) }
 {

@@ -52,7 +52,7 @@ fn turn(work: &mut [u64], e: Elimination, s: usize, log: &mut [u64]) -> bool
 // Takes the states in their order, up to the first after whose step a row does not fit. The log, where one is asked for, has the finished steps.
 pub(crate) fn eliminate(work: &mut [u64], e: Elimination, order: &[u64], log: &mut [u64]) -> Walk
     requires fitting { Fitting e.rounding e.chain.states work.old × (length order.now ≡ e.chain.states) × Logged log.old [] }
-    requires by_index { (p : ℕ) → p < e.chain.states → get_or order.now p 0 < e.chain.states }
+    requires order_fits { (p : ℕ) → p < e.chain.states → get_or order.now p 0 < e.chain.states }
     ensures { let b = e.rounding in
         let n = e.chain.states in
         let o = order.now in

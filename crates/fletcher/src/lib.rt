@@ -29,7 +29,7 @@ pub struct Sums {
 
 // A version other than 2 goes by the old rule.
 fn rule_of(version: u64) -> Rule
-    ensures modulus_value { (result.modulus ≡ check_modulus version) × (result.begin ≡ check_begin version) }
+    ensures constants { (result.modulus ≡ check_modulus version) × (result.begin ≡ check_begin version) }
     ensures begin_lt_modulus { (result.begin < result.modulus) × (result.modulus < 65536) }
 {
     match version {
@@ -167,9 +167,9 @@ fn both(block: &[u8], modulus: u64, begin: u64) -> Sums
 
 // The check of block b by the rule of this version.
 pub fn check(kept: &[u8], b: usize, version: u64) -> Sums
-    ensures first_value { let block = block_byte (input kept.now 0) b in
+    ensures first { let block = block_byte (input kept.now 0) b in
         result.first ≡ first_sum (check_modulus version) (check_begin version) block checked_bytes }
-    ensures second_value { let block = block_byte (input kept.now 0) b in
+    ensures second { let block = block_byte (input kept.now 0) b in
         result.second ≡ second_sum (check_modulus version) (check_begin version) block checked_bytes }
 {
     let rule = rule_of(version);

@@ -44,7 +44,7 @@ enum Step {
 // Keeps as many bytes of a part as there is room for from `at` on, and answers how many.
 fn keep(kept: &mut [u8], at: usize, part: &[u8]) -> usize
     requires { at ≤ length kept.old }
-    ensures value { result ≡ fitting kept.old at part.now }
+    ensures read { result ≡ fitting kept.old at part.now }
     ensures kept_after { kept.new ≡ pasted kept.old at part.now result }
 {
     let mut i = 0;
@@ -60,8 +60,8 @@ fn keep(kept: &mut [u8], at: usize, part: &[u8]) -> usize
 
 // Reads on once, and keeps what comes behind what is kept already.
 fn read_part(file: i32, kept: &mut [u8], came: Input) -> Step
-    requires length_in_bounds { came.length ≤ length kept.old }
-    requires more_bound { came.more + 65536 < 2 ^ 64 }
+    requires kept { came.length ≤ length kept.old }
+    requires few_more { came.more + 65536 < 2 ^ 64 }
     ensures { Steps (so_far kept.old came) kept.new result }
 {
     let mut part = [0u8; PART];

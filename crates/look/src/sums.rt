@@ -13,9 +13,9 @@ use chain::{Chain, edge};
 
 // The row sum of every state, in one pass over the edges.
 fn row_sums(edges: &[u64]) -> [u64; Chain::STATES]
-    requires edges_bound { edge_count edges.now ≤ most_edges }
-    requires by_index { (e : ℕ) → EndFault most_states edges.now e → ⊥ }
-    requires by_index_2 { (e : ℕ) → WeightFault edges.now e → ⊥ }
+    requires few_edges { edge_count edges.now ≤ most_edges }
+    requires ends_right { (e : ℕ) → EndFault most_states edges.now e → ⊥ }
+    requires weights_right { (e : ℕ) → WeightFault edges.now e → ⊥ }
     ensures { (i : ℕ) → i < most_states → get_or result i 0 ≡ row_sum edges.now i }
 {
     let count = edge::count(edges);
@@ -42,8 +42,8 @@ fn wrong(sum: u64, denominator: u64, short: bool) -> bool
 // The first state whose row sum is wrong.
 pub(crate) fn first_wrong(n: usize, denominators: &[u64], edges: &[u64], short: bool) -> Place
     requires shaped { Shaped n denominators.now edges.now }
-    requires by_index { (e : ℕ) → EndFault n edges.now e → ⊥ }
-    requires by_index_2 { (e : ℕ) → WeightFault edges.now e → ⊥ }
+    requires ends_right { (e : ℕ) → EndFault n edges.now e → ⊥ }
+    requires weights_right { (e : ℕ) → WeightFault edges.now e → ⊥ }
     ensures { least (SumFault short n denominators.now edges.now) result }
 {
     let sums = row_sums(edges);

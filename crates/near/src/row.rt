@@ -57,7 +57,7 @@ fn most(row: &[u64], gap: Gap) -> u64
 // The sum of the weights in the columns before `to`, each without its last k digits, where t is that in the columns before `from`.
 fn added_on(row: &[u64], k: u64, t: u64, from: usize, to: usize) -> u64
     requires from_le_to { (from ≤ to) × (to ≤ length row.now) × (length row.now ≤ 128) × (longest (value_at row.now) (length row.now) ≤ k + 56) }
-    requires t_value { (t ≡ sum_to (λ (j : ℕ). value_at row.now j / 2 ^ k) from) × (t ≤ from * 2 ^ 56) }
+    requires sum_so_far { (t ≡ sum_to (λ (j : ℕ). value_at row.now j / 2 ^ k) from) × (t ≤ from * 2 ^ 56) }
     ensures { (result ≡ sum_to (λ (j : ℕ). value_at row.now j / 2 ^ k) to) × (result ≤ to * 2 ^ 56) }
 {
     let mut sum = t;
@@ -71,7 +71,7 @@ fn added_on(row: &[u64], k: u64, t: u64, from: usize, to: usize) -> u64
 
 // The sum of the weights of a row, each without its last k digits.
 fn added(row: &[u64], k: u64, gap: Gap) -> u64
-    requires row_len_bound { (length row.now ≤ 128) × (longest (value_at row.now) (length row.now) ≤ k + 56) }
+    requires shape { (length row.now ≤ 128) × (longest (value_at row.now) (length row.now) ≤ k + 56) }
     requires within { Within gap (length row.now) × Empty gap row.now }
     ensures { result ≡ sum_to (λ (j : ℕ). value_at row.now j / 2 ^ k) (length row.now) }
 {

@@ -17,8 +17,8 @@ use elimination::work::clear;
 
 // A row once s is removed, which is not that of s. Answers how many rows are made anew, 1 or 0.
 fn renew(part: &mut [u64], s: usize, d: u64, pivot: &[u64], gap: Gap) -> u64
-    requires part_len_bound { (length part.old ≤ 68) × (s < length part.old) × Within gap (length part.old) × Parts pivot.now }
-    requires empty { Empty gap (slice_set part.old s 0) × Empty gap (joined pivot.now) }
+    requires shape { (length part.old ≤ 68) × (s < length part.old) × Within gap (length part.old) × Parts pivot.now }
+    requires gap_empty { Empty gap (slice_set part.old s 0) × Empty gap (joined pivot.now) }
     ensures { let z = part.old in
         (part.new ≡ renewed_words s d (joined pivot.now) z) × (result ≡ only (leads_to s z) 1) × (result ≤ 1) }
 {
@@ -39,7 +39,7 @@ pub(crate) fn row_start(n: usize, i: usize) -> usize
 
 // Renews row i of the table. The rest of the work table is as it was.
 fn renew_row(work: &mut [u64], i: usize, n: usize, s: usize, d: u64, pivot: &[u64], gap: Gap) -> u64
-    requires n_le_most_states { (n ≤ most_states) × (work_size n ≤ length work.old) × (i < n) × (s < n) × Parts pivot.now }
+    requires few_states { (n ≤ most_states) × (work_size n ≤ length work.old) × (i < n) × (s < n) × Parts pivot.now }
     requires within { Within gap n × Empty gap (slice_set (part_at n work.old i) s 0) × Empty gap (joined pivot.now) }
     ensures { let w = work.old in
         let z = part_at n w i in
@@ -61,7 +61,7 @@ fn renew_on(
     from: usize,
     to: usize,
 ) -> u64
-    requires n_le_most_states { (n ≤ most_states) × (work_size n ≤ length work.old) × (s < n) × Parts pivot.now × (from ≤ to) × (to ≤ n) }
+    requires few_states { (n ≤ most_states) × (work_size n ≤ length work.old) × (s < n) × Parts pivot.now × (from ≤ to) × (to ≤ n) }
     requires within { Within gap n × ((i : ℕ) → from ≤ i → i < to → Empty gap (slice_set (part_at n work.old i) s 0)) × Empty gap (joined pivot.now) }
     ensures { RenewedOn n s d (joined pivot.now) from to work.old work.new result }
 {
@@ -76,7 +76,7 @@ fn renew_on(
 
 // Renews the rows of the table, and answers how many were made anew. Those of states that are gone have no weight, and stay.
 fn renew_all(work: &mut [u64], n: usize, s: usize, d: u64, pivot: &[u64], gap: Gap) -> u64
-    requires n_le_most_states { (n ≤ most_states) × (work_size n ≤ length work.old) × (s < n) × Parts pivot.now }
+    requires few_states { (n ≤ most_states) × (work_size n ≤ length work.old) × (s < n) × Parts pivot.now }
     requires cleared { Cleared n s gap work.old × Empty gap (joined pivot.now) }
     ensures { RenewedOn n s d (joined pivot.now) 0 n work.old work.new result }
 {
@@ -122,7 +122,7 @@ fn clear_row(work: &mut [u64], n: usize, s: usize)
 // Removes the state s by a copy of its row. Only the copy is settled: to settle each new row would cost two more passes over it. The gap may have the
 // column of s already: the copy has no weight there, and a row that is made anew has none either.
 fn remove_by(work: &mut [u64], n: usize, s: usize, pivot: &mut [u64], gap: Gap) -> u64
-    requires n_le_most_states { (n ≤ most_states) × (work_size n ≤ length work.old) × (s < n) × (length pivot.old ≡ width n) }
+    requires few_states { (n ≤ most_states) × (work_size n ≤ length work.old) × (s < n) × (length pivot.old ≡ width n) }
     requires going { Going n s gap work.old × Empty gap pivot.old }
     ensures { RemovedBy n s (settled_words pivot.old) work.old work.new result }
 {

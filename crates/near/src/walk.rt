@@ -62,8 +62,8 @@ fn turn(work: &mut [u64], c: Chain, live: u64, s: usize, gap: Gap) -> u64
 
 // Takes the states in their order, and answers how many rows were made anew.
 pub(crate) fn eliminate(work: &mut [u64], c: Chain, live: u64, order: &[u64]) -> u64
-    requires states_le_most_states { (c.states ≤ most_states) × (work_size c.states ≤ length work.old) × (length order.now ≡ c.states) }
-    requires by_index { (p : ℕ) → p < c.states → slice_index order.now p < c.states }
+    requires few_states { (c.states ≤ most_states) × (work_size c.states ≤ length work.old) × (length order.now ≡ c.states) }
+    requires order_fits { (p : ℕ) → p < c.states → slice_index order.now p < c.states }
     ensures { Walked c live order.now c.states work.old work.new result }
 {
     let n = c.states;

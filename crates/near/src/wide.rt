@@ -46,8 +46,8 @@ fn blend(row: &mut [u64], pivot: &[u64], d: u64, w: u64, from: usize, to: usize)
 
 // A row once state s is removed: pivot is a copy of its row in its parts, without its weight to itself, and d its D. Nothing stands in the gap but the weight to s.
 pub(crate) fn replace(row: &mut [u64], pivot: &[u64], s: usize, d: u64, gap: Gap)
-    requires row_len_bound { (length row.old ≤ 68) × (s < length row.old) × Within gap (length row.old) × Parts pivot.now }
-    requires empty { Empty gap (slice_set row.old s 0) × Empty gap (joined pivot.now) }
+    requires shape { (length row.old ≤ 68) × (s < length row.old) × Within gap (length row.old) × Parts pivot.now }
+    requires gap_empty { Empty gap (slice_set row.old s 0) × Empty gap (joined pivot.now) }
     ensures { row.new ≡ replaced_words s d (joined pivot.now) row.old }
 {
     let w = row[s];

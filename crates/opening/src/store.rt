@@ -18,8 +18,8 @@ fn place(table: &mut [u64], at: usize, numbers: &[u64])
 
 // The numbers of the states, each list at the front of its part.
 pub(crate) fn states(table: &mut [u64], denominators: &[u64], order: &[u64], rewards: &[u64])
-    requires most_states_in_bounds { 3 * most_states ≤ length table.old }
-    requires denominators_len_bound { (length denominators.now ≤ most_states) × (length order.now ≤ most_states) × (length rewards.now ≤ most_states) }
+    requires room { 3 * most_states ≤ length table.old }
+    requires lengths { (length denominators.now ≤ most_states) × (length order.now ≤ most_states) × (length rewards.now ≤ most_states) }
     ensures { let before = split table.old in
         let d = denominators.now in
         split table.new ≡ stored d order.now rewards.now before }

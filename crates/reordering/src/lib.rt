@@ -41,7 +41,7 @@ fn rewrite(
 
 // The same of an opened file.
 fn written(opened: Opening, table: &[u64], buffer: &mut [u8]) -> Writing
-    requires longest_file_in_bounds { longest_file ≤ length buffer.old }
+    requires room { longest_file ≤ length buffer.old }
     requires opened { (f : Input) × Opened f opened table.now }
     ensures { let t = table.now in
         ((f : Input) → Bytes f.kept → Opened f opened t → ReorderOutcome f buffer.old (told result) buffer.new) }

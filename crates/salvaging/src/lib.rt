@@ -81,8 +81,8 @@ fn left(
     order: &[u64],
     buffer: &mut [u8],
 ) -> Printed
-    requires salvage_room_in_bounds { salvage_room ≤ length buffer.old }
-    requires by_index { (more : ℕ) × Holds (input kept.now more) lost.now c denominators.now edges.now order.now }
+    requires room { salvage_room ≤ length buffer.old }
+    requires order_fits { (more : ℕ) × Holds (input kept.now more) lost.now c denominators.now edges.now order.now }
     ensures { let l = lost.now in
         let d = denominators.now in
         ((more : ℕ) → let f = input kept.now more in
@@ -111,8 +111,8 @@ fn text(
     order: &[u64],
     buffer: &mut [u8],
 ) -> Printed
-    requires salvage_room_in_bounds { salvage_room ≤ length buffer.old }
-    requires by_index { (more : ℕ) × Holds (input kept.now more) lost.now c denominators.now edges.now order.now }
+    requires room { salvage_room ≤ length buffer.old }
+    requires order_fits { (more : ℕ) × Holds (input kept.now more) lost.now c denominators.now edges.now order.now }
     ensures { let d = denominators.now in
         ((more : ℕ) → let f = input kept.now more in
         Holds f lost.now c d edges.now order.now

@@ -81,7 +81,7 @@ pub(crate) fn left_lines(
     lost: &[u64],
     short: &[u64],
 ) -> usize
-    requires salvage_room_in_bounds { salvage_room ≤ length buffer.old }
+    requires room { salvage_room ≤ length buffer.old }
     requires fits { Fits (between lower.numerator lower.denominator upper.numerator upper.denominator) lost.now short.now }
     ensures { let a = between lower.numerator lower.denominator upper.numerator upper.denominator in
         Written buffer.old 0 (left_text a lost.now short.now) buffer.new result }

@@ -28,7 +28,7 @@ pub const ROOM: usize = (7 + 21)
 
 // Writes the text of an opened file.
 fn written(opened: Opening, table: &[u64], buffer: &mut [u8]) -> Printed
-    requires shown_room_in_bounds { shown_room ≤ length buffer.old }
+    requires room { shown_room ≤ length buffer.old }
     requires opened { (f : Input) × Opened f opened table.now }
     ensures { let t = table.now in
         ((f : Input) → Opened f opened t → TextedOutcome f buffer.old (told result) buffer.new) }

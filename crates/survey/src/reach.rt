@@ -39,8 +39,8 @@ fn tail(back: bool, edges: &[u64], e: usize) -> usize
 
 // The set with the head of edge e, where its tail is open.
 fn join(back: bool, barrier: u64, set: u64, edges: &[u64], e: usize) -> u64
-    requires e_bound { e < edge_count edges.now }
-    requires by_index { (e : ℕ) → EndFault most_states edges.now e → ⊥ }
+    requires edge_there { e < edge_count edges.now }
+    requires ends_right { (e : ℕ) → EndFault most_states edges.now e → ⊥ }
     ensures { Joined (way back barrier edges.now) e set result }
 {
     let i = tail(back, edges, e);
@@ -137,8 +137,8 @@ fn good(ends: u64, edges: &[u64]) -> u64
 
 // The states that can be reached from the start without passing a goal.
 fn reached(c: Chain, edges: &[u64]) -> u64
-    requires start_lt_most_states { c.start < most_states }
-    requires by_index { (e : ℕ) → EndFault most_states edges.now e → ⊥ }
+    requires start_fits { c.start < most_states }
+    requires ends_right { (e : ℕ) → EndFault most_states edges.now e → ⊥ }
     ensures { (d : List ℕ) → Exactly (FromStart (chain_of c d edges.now)) result }
 {
     let start = alone(c.start);
@@ -162,8 +162,8 @@ fn astray(good: u64, reached: u64) -> bool
 
 // The sets of a chain, whose rows may fall short or not.
 pub(crate) fn sets(c: Chain, denominators: &[u64], edges: &[u64], short: bool) -> Sets
-    requires start_lt_most_states { (c.start < most_states) × (c.states ≤ most_states) × (length denominators.now ≡ c.states) }
-    requires by_index { (e : ℕ) → EndFault most_states edges.now e → ⊥ }
+    requires start_fits { (c.start < most_states) × (c.states ≤ most_states) × (length denominators.now ≡ c.states) }
+    requires ends_right { (e : ℕ) → EndFault most_states edges.now e → ⊥ }
     ensures { Known short (chain_of c denominators.now edges.now) result }
 {
     let good = good(ends(c, denominators, edges, short), edges);

@@ -1,0 +1,15 @@
+use borrow.Author.Rules.{rules}
+use Rattle.look.proofs.Lacking.{lacking_none, lacking_more, lacking_all}
+use Rattle.look.proofs.sums.missing.Goals as goal
+
+pub loop-e-init : goal.loop-e-init
+loop-e-init c = lacking_none _ _ c.whole-left.ensures
+
+pub loop-e-preserved : goal.loop-e-preserved
+loop-e-preserved c =
+    let w = c in
+    let at = w in
+    lacking_more _ _ _ at.loop-e.invariant (search rules) w.from-i.ensures w.weight.ensures c.take_out.ensures
+
+pub returns : goal.returns
+returns c = lacking_all _ _ c.loop-e.invariant (search rules)
