@@ -1,0 +1,35 @@
+use Prim.Native.Nat.{◌-◌, ◌*◌, ◌≤◌}
+use native.Mathlib.Nat.{mul-le-mul_left}
+use native.Mathlib.Omega.{arith}
+use lib.ListN.{length, get_or-eq_default}
+use borrow.Author.Rules.{rules}
+use Rattle.meaning.specs.Block.{checked_bytes}
+use Rattle.fletcher.proofs.Summed.{none, more, rest, all}
+use Rattle.fletcher.proofs.byte_by_byte.Goals as goal
+use Rattle.fletcher.proofs.byte_by_byte.Goals.{After-loop-i}
+
+pub loop-i-init : goal.loop-i-init
+loop-i-init c = (search rules, none (search rules) (search rules))
+
+pub loop-i-preserved : goal.loop-i-preserved
+loop-i-preserved c =
+    let g = c.loop-i.invariant in
+    (search rules, more g.1 (search rules) (search rules) c.wide-first.ensures.0 c.wide-first.ensures.1)
+
+-- What the bytes that are not kept add is small.
+room : (c : After-loop-i)
+    → let a = c.args in
+    c.loop-i.first * (checked_bytes - length a.block.now) ≤ c.loop-i.first * checked_bytes
+room c = mul-le-mul_left c.loop-i.first (omega arith)
+
+pub overflow_mul-second : goal.overflow_mul-second
+overflow_mul-second c = omega (arith, room c)
+
+pub overflow_add-second-2 : goal.overflow_add-second-2
+overflow_add-second-2 c = omega (arith, room c)
+
+pub returns : goal.returns
+returns c =
+    let at = c in
+    let bytes = at.args.block.now in
+    all (rest at.loop-i.invariant.1 (search rules) (checked_bytes - length bytes) (omega arith) (λ j h. get_or-eq_default bytes 0 (omega arith))) (omega arith)

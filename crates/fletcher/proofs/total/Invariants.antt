@@ -1,0 +1,11 @@
+use Prim.Native.Nat.{◌-◌}
+use lib.ListN.{get_or}
+use Rattle.fletcher.specs.Columns.{columns}
+use Rattle.fletcher.proofs.Columns.{Totalled}
+use Rattle.fletcher.proofs.total.Given as goal
+
+abbrev pub invariant-loop-c : goal.invariant-loop-c
+invariant-loop-c l = Totalled (λ j. get_or l.numbers j 0) 65535 l.c l.sum
+
+abbrev pub decreases-loop-c : goal.decreases-loop-c
+decreases-loop-c l = columns - l.c
