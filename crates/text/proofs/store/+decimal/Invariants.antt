@@ -1,0 +1,5 @@
+-- Each call of itself is for a smaller number.
+use Rattle.text.proofs.store.+decimal.Given as goal
+
+abbrev pub decreases-decimal : goal.decreases-decimal
+decreases-decimal l = l.x
