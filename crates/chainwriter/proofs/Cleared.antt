@@ -7,7 +7,7 @@ use native.Mathlib.Omega.{arith}
 use lib.ListN.{length, get_or, take, drop, length-take, length-drop, take-append-drop, get_or-eq_default}
 use lib.Seq.{ext_get_or, length-take-le, get_or-take, get_or-drop}
 use Rattle.meaning.specs.Number.{filled}
-use Rattle.meaning.specs.Chain.{edge_size, from, to, weight}
+use Rattle.meaning.specs.Chain.{edge_size}
 use Rattle.meaning.specs.Refusal.{Lent, WellFormed}
 use Rattle.meaning.specs.Block.{block_at}
 use Rattle.meaning.specs.Write.{Bytes, filing}
