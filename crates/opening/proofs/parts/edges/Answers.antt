@@ -5,15 +5,13 @@ use native.Mathlib.Omega.{arith}
 use lib.ListN.{length, take, drop, length-drop}
 use lib.Seq.{take_all, length-take-le}
 use lib.Dec.{ltb}
-use borrow.Author.Rules.{rules}
 use borrow.Author.Tests.{lt-ltb, le-ltb}
 use Rattle.meaning.specs.Number.{choose}
 use Rattle.meaning.specs.Chain.{edge_size, edge_count}
 use Rattle.opening.specs.Sizes.{edges_at}
 use Rattle.opening.specs.Book.{edges_of}
 use Rattle.opening.specs.declared.book.Book.{Book}
-use Rattle.opening.proofs.parts.edges.Statement.{statement}
-use Rattle.opening.proofs.parts.edges.Tie as tie
+use Rattle.opening.proofs.parts.edges.Goals as goal
 
 module _ (b : Book) (table rest : List ℕ) (e : rest ≡ take (length table) (drop edges_at table)) where
   all : rest ≡ drop edges_at table
@@ -27,24 +25,15 @@ module _ (b : Book) (table rest : List ℕ) (e : rest ≡ take (length table) (d
       ap (take (edge_size * b.edges)) all
       ∙ sym (ap (λ t. choose t [] (take (edge_size * b.edges) (drop edges_at table))) (ap (λ l. ltb (edge_count l) b.edges) (sym all) ∙ le-ltb (edge_count rest) b.edges h))
 
-returns : tie.Need-returns
+pub returns-then-count : goal.returns-then-count
+returns-then-count c =
+    let a = c.args in
+    none a.book a.table.now c.part-rest.result.now c.part-rest.ensures (omega (arith, c.count.ensures))
+
+pub slice_bounds-result-end-2 : goal.slice_bounds-result-end-2
+slice_bounds-result-end-2 c = sym (length-take-le _ _ (omega (arith, c.count.ensures)))
+
+pub returns : goal.returns
 returns c =
-    let count = c.before.before in
-    let part = count.before in
-    let a = part.before.before.args in
-    none a.book a.table.now part.part.result.now part.part.ensures (omega (arith, count.count.ensures))
-
-slice-aggregate-result-2 : tie.Need-slice-aggregate-result-2
-slice-aggregate-result-2 c = sym (length-take-le _ _ (omega (arith, c.before.before.count.ensures)))
-
-returns-2 : tie.Need-returns-2
-returns-2 c =
-    let count = c.before.before in
-    let part = count.before in
-    let a = part.before.before.args in
-    some a.book a.table.now part.part.result.now part.part.ensures (omega (arith, count.count.ensures))
-
-pub edges_spec : {M : Type 1} → statement M
-edges_spec =
-    tie.close
-    (tie.spec (λ c κs. search rules) (λ c κs. search rules) (λ c. search rules) returns (λ c. search rules) slice-aggregate-result-2 returns-2)
+    let a = c.args in
+    some a.book a.table.now c.part-rest.result.now c.part-rest.ensures (omega (arith, c.count.ensures))
