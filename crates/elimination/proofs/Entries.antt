@@ -11,7 +11,7 @@ use Rattle.meaning.specs.Step.{Sets, RightTo}
 use Rattle.meaning.specs.Row.{rounding}
 use Rattle.meaning.specs.Refusal.{work_size, Lent, Entry, WellFormed}
 use Rattle.meaning.specs.Stop.{Stops, before_steps, in_step}
-use Rattle.theory.specs.Outcomes.Formed.{start_in, order_length, order_in_lem, room}
+use Rattle.theory.specs.Outcomes.Formed.{start_in, order_length, order_in_lem}
 use Rattle.elimination.specs.Engine.{rounds, is_paid, is_short}
 use Rattle.elimination.specs.Entered.{pay_of, Comes, missed, ran}
 use Rattle.elimination.specs.Run.{Begun, won, lost, live, runs}

@@ -6,7 +6,7 @@ use Rattle.meaning.specs.Row.{Row, cell, goal_column, unknown_column, reward, ro
 use Rattle.meaning.specs.Step.{Table, row, Sets, RightTo, outside, goes, unknown, stage_from}
 use Rattle.meaning.specs.Steps.{StepRecord, records_along}
 use Rattle.meaning.specs.Refusal.{Lent}
-use Rattle.meaning.specs.Stop.{earns, turn, Unfit, Stopped}
+use Rattle.meaning.specs.Stop.{turn, Unfit, Stopped}
 use Rattle.elimination.specs.First.{Makeable}
 use Rattle.elimination.specs.declared.course.Course.{Course}
 use Rattle.elimination.specs.declared.course.Course.TheVariants.{Ends, Stops}

@@ -174,10 +174,9 @@ pub fn with_own(
     order: &[u64],
     rewards: &[u64],
 ) -> Course
-    ensures* { λ r.
-        let e = read_by (is_paid engine) rewards.now in
+    ensures { let e = read_by (is_paid engine) rewards.now in
         let l = ours c denominators.now edges.now order.now e in
-        ⌜ Found (λ r w. Entered (asks engine) engine l w [] r) r ⌝ }
+        Found (λ r w. Entered (asks engine) engine l w [] r) result }
 {
     let mut work = [0u64; Chain::WORK];
     match look_for(engine, c, denominators, edges, order, rewards, &work) {

@@ -1,0 +1,10 @@
+use Prim.Native.Nat.{◌-◌}
+use lib.ListN.{length, get_or, replicate}
+use Rattle.theory.specs.Numbers.Walk.{Walked}
+use Rattle.elimination.proofs.part.load.Given as goal
+
+abbrev pub invariant-loop-j : goal.invariant-loop-j
+invariant-loop-j l = Walked (λ k. get_or l.part k 0) (replicate 68 0) l.j l.p
+
+abbrev pub decreases-loop-j : goal.decreases-loop-j
+decreases-loop-j l = length l.part - l.j
