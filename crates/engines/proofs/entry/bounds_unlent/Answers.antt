@@ -1,0 +1,17 @@
+use mathlib.Core.List.{[]}
+use Rattle.meaning.specs.Refusal.{Lent}
+use Rattle.elimination.specs.Own.{ours}
+use Rattle.engines.proofs.Outcomes.{outcome_bounds, summed_bounds}
+use Rattle.engines.proofs.entry.bounds_unlent.Goals as goal
+use Rattle.engines.proofs.entry.bounds_unlent.Goals.{After-with_own-course}
+
+abbrev l : After-with_own-course → Lent
+l c = let a = c.args in ours a.c a.denominators.now a.edges.now a.order.now []
+
+pub bounds_of-requires : goal.bounds_of-requires
+bounds_of-requires c = summed_bounds (l c) _ _ _ c.with_own-course.ensures.outcome
+
+pub returns : goal.returns
+returns c =
+    let z = c.with_own-course.ensures in
+    record { work = z.work; outcome = rw c.bounds_of.ensures (outcome_bounds (l (goal.at.returns c).After-with_own-course) _ _ _ z.outcome) }
