@@ -6,7 +6,7 @@ use native.Mathlib.Nat.{eq-or-lt_of_le}
 use mathlib.Core.Path.{◌≡◌, refl, sym, ap, subst, ◌∙◌}
 use mathlib.Core.Bool.{true, false}
 use mathlib.Core.Logic.{⊎_elim}
-use mathlib.Core.List.{List, [], ◌++◌, append_assoc, append-nil, append_cancel_left}
+use mathlib.Core.List.{List, ◌++◌, append_assoc, append-nil, append_cancel_left}
 use lib.ListN.{length, get_or, take, drop, set, length-drop, length-set, drop_of_length-le, get_or-eq_default}
 use lib.Seq.{drop-cons, take-suc-set, drop-set-lt, get_or-set_same, get_or-set_other, get_or-take, length-take-le}
 use Rattle.meaning.specs.Text.{bytes_of}

@@ -17,23 +17,7 @@ use Rattle.meaning.specs.Write.{filing}
 use Rattle.meaning.specs.ChainText.{Storable}
 use Rattle.theory.specs.Numbers.Sum.{below}
 use Rattle.theory.specs.Outcomes.Formed.{at_most, positive}
-use Rattle.theory.specs.Texts.ChainOne.{order_length}
-use Rattle.theory.specs.Texts.Turns.{
-  states_line,
-  edges_line,
-  next_states,
-  next_edges,
-  next_start,
-  same_states,
-  next_state,
-  next_order,
-  edge_edges,
-  next_edge,
-  next_none,
-  more_states,
-  more_order,
-  more_edges,
-}
+use Rattle.theory.specs.Texts.Turns.{states_line, edges_line, next_states, next_edges, next_start}
 use Rattle.chaintext.specs.Lines.{IsCount, count_read, CountRead}
 use Rattle.chaintext.specs.Turns.{held_lent, Cells, turn_fits, Ready, TakenAs}
 use Rattle.chaintext.specs.declared.lines.CountLine.{CountLine}
