@@ -1,0 +1,6 @@
+use Rattle.text.proofs.Putting.{one, then}
+use Rattle.report.proofs.print.refused.Goals as goal
+
+pub returns : goal.returns
+returns c =
+    then (then (then (one c.put-first.ensures) c.number-second.ensures) c.put-third.ensures) c.number.ensures
