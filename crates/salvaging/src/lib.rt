@@ -82,7 +82,7 @@ fn left(
     buffer: &mut [u8],
 ) -> Printed
     requires room { salvage_room ≤ length buffer.old }
-    requires order_fits { (more : ℕ) × Holds (input kept.now more) lost.now c denominators.now edges.now order.now }
+    requires holds { (more : ℕ) × Holds (input kept.now more) lost.now c denominators.now edges.now order.now }
     ensures { let l = lost.now in
         let d = denominators.now in
         ((more : ℕ) → let f = input kept.now more in
@@ -112,7 +112,7 @@ fn text(
     buffer: &mut [u8],
 ) -> Printed
     requires room { salvage_room ≤ length buffer.old }
-    requires order_fits { (more : ℕ) × Holds (input kept.now more) lost.now c denominators.now edges.now order.now }
+    requires holds { (more : ℕ) × Holds (input kept.now more) lost.now c denominators.now edges.now order.now }
     ensures { let d = denominators.now in
         ((more : ℕ) → let f = input kept.now more in
         Holds f lost.now c d edges.now order.now
