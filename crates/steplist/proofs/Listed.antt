@@ -1,10 +1,9 @@
 -- A list with the first records of a trace at its front.
 use mathlib.Core.Path.{◌≡◌, refl, sym, ap, ◌∙◌}
-use Prim.Native.Nat.{ℕ, zero, suc, ◌+◌, ◌≤◌, ◌<◌}
+use Prim.Native.Nat.{ℕ, zero, suc, ◌+◌, ◌<◌}
 use native.Mathlib.Numerals.{add-one}
-use native.Mathlib.Omega.{arith}
 use mathlib.Core.List.{List, [], ◌∷◌, ◌++◌, map, map-append}
-use lib.ListN.{length, get_or, set, drop, length-append, length-drop}
+use lib.ListN.{length, get_or, set, drop}
 use lib.Seq.{drop-cons, set_at, append_snoc}
 use Rattle.meaning.specs.Number.{tab_from, filled}
 use Rattle.theory.specs.Numbers.Tab.{tab_length, tab_more}
@@ -14,11 +13,6 @@ module _ {ℓ} {A : Type ℓ} where
     pub listed_none : filled (tab_from 0 0 f) l ≡ l
     unfolding tab_from
     listed_none = refl
-
-    pub listed_length : (k : ℕ) → k ≤ length l → length (filled (tab_from 0 k f) l) ≡ length l
-    listed_length k h =
-        length-append (tab_from 0 k f) (drop (length (tab_from 0 k f)) l)
-        ∙ rw (length-drop (length (tab_from 0 k f)) l, tab_length 0 k f) (omega arith)
 
     pub listed_next : (k : ℕ) → k < length l → filled (tab_from 0 (k + 1) f) l ≡ set (filled (tab_from 0 k f) l) k (f k)
     listed_next k h =

@@ -24,7 +24,7 @@ fn answer(t: Trace) -> Steps
     }
 }
 
-// The chance, and a record for each state that is removed, from the front of the list. Proved by hand.
+// The chance, and a record for each state that is removed, from the front of the list.
 pub fn steps(
     c: Chain,
     denominators: &[u64],

@@ -1,5 +1,4 @@
-// The step list for the desk: records that the caller lends. The functions that have the lent list are proved by hand, and are
-// thin for that reason.
+// The step list for the desk: records that the caller lends.
 #![tactic(auto)]
 
 use engines::answer::Chance;

@@ -43,7 +43,7 @@ fn shown(t: Trace, room: usize) -> usize
     least(few, room)
 }
 
-// Writes the records of a trace to the front of a list, as many as it has room for. Proved by hand.
+// Writes the records of a trace to the front of a list, as many as it has room for.
 pub fn fill(list: &mut [StepRecord], t: Trace)
     ensures { let before = list.old in
         map told list.new ≡ filled (records_for t (length before)) (map told before) }

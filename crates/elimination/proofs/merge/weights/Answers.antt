@@ -26,13 +26,9 @@ cell-v-requires c =
     let h = c.requires in
     (h.3.fits _, h.1, h.2, h.4.fits _)
 
--- What is left is not empty.
-low_at_After_cell_v : (c : After-cell-v) → Lowest c.loop-rest.rest c.lowest-j.result
-low_at_After_cell_v c = c.lowest-j.ensures.0 (omega arith)
-
 room : (c : After-cell-v) → c.loop-rest.k < length c.args.part.now
 room c =
-    written_room c.loop-rest.invariant (low_at_After_cell_v c) _ c.requires.0
+    written_room c.loop-rest.invariant (c.lowest-j.ensures.0 (omega arith)) _ c.requires.0
 
 pub offset_bounds-part-k : goal.offset_bounds-part-k
 offset_bounds-part-k c = omega (arith, room c)
