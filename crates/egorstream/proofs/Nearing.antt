@@ -8,7 +8,6 @@ use Rattle.meaning.specs.Outcome.{refused, stopped, answered}
 use Rattle.meaning.specs.Block.{Input}
 use Rattle.meaning.specs.Near.{Near, near, NearOutcome}
 use Rattle.meaning.specs.Miss.{MissOutcome}
-use Rattle.meaning.specs.NearText as text
 use Rattle.meaning.specs.FileNear.{From, FileNear}
 use Rattle.theory.specs.Outcomes.NearSizes.{near_small, miss_small}
 use Rattle.theory.specs.Files.NearFile.{file_near_one, file_near_place}

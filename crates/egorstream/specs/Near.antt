@@ -2,7 +2,7 @@
 use Rattle.std.specs.Prelude.{◌+◌, ◌≤◌, ◌<◌, ◌^◌, ◌≡◌}
 use Rattle.meaning.specs.Chain.{most_states, most_edges}
 use Rattle.meaning.specs.Block.{Input}
-use Rattle.meaning.specs.Near.{Near, near}
+use Rattle.meaning.specs.Near.{Near}
 use Rattle.meaning.specs.NearText.{figure, lower_figure, upper_figure}
 use Rattle.meaning.specs.FileNear.{From, FileNear}
 use Rattle.near.specs.Answer.{told_near, told_miss}

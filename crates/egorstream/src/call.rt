@@ -48,8 +48,7 @@ fn between(file: &[u8], answer: &mut [u8]) -> u32
 }
 
 // Returns the number of refusal, 0 where the answer is written.
-#[unsafe(no_mangle)]
-pub extern "C" fn egorstream_chance(file: &[u8], mode: u32, answer: &mut [u8]) -> u32
+pub fn egorstream_chance(file: &[u8], mode: u32, answer: &mut [u8]) -> u32
     ensures { CallOutcome file.now mode answer.old result answer.new }
 {
     if MODE_BOUNDS < mode {

@@ -14,8 +14,7 @@ pub struct Checked {
     pub state: u32,
 }
 
-#[unsafe(no_mangle)]
-pub extern "C" fn egorstream_check(file: &[u8], shares: &[u8]) -> Checked
+pub fn egorstream_check(file: &[u8], shares: &[u8]) -> Checked
     ensures { Checks (whole_file file.now) shares.now result }
 {
     match figures::check(file, 0, shares) {

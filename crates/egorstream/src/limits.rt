@@ -28,8 +28,7 @@ fn verdict_number(v: Verdict) -> u32
 }
 
 // The limit is digits over 10 ^ tens.
-#[unsafe(no_mangle)]
-pub extern "C" fn egorstream_limit(file: &[u8], digits: u64, tens: u64) -> Limited
+pub fn egorstream_limit(file: &[u8], digits: u64, tens: u64) -> Limited
     ensures { Limits (whole_file file.now) (limit digits tens) result }
 {
     match limitfile::judge(file, 0, Limit { digits, tens }) {

@@ -79,16 +79,14 @@ fn reply(n: Nearly) -> Nearness
 }
 
 // From the file's own start.
-#[unsafe(no_mangle)]
-pub extern "C" fn egorstream_near(file: &[u8]) -> Nearness
+pub fn egorstream_near(file: &[u8]) -> Nearness
     ensures { Nears (whole_file file.now) own result }
 {
     reply(nearfile::near(file, 0, From::Start))
 }
 
 // From a state that takes the place of the file's start.
-#[unsafe(no_mangle)]
-pub extern "C" fn egorstream_near_from(file: &[u8], state: u64) -> Nearness
+pub fn egorstream_near_from(file: &[u8], state: u64) -> Nearness
     ensures { Nears (whole_file file.now) (number state) result }
 {
     reply(nearfile::near(file, 0, From::State(state)))

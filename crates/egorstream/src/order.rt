@@ -50,8 +50,7 @@ fn chosen(opened: Opening, table: &[u64], list: &mut [u64]) -> Choice
     }
 }
 
-#[unsafe(no_mangle)]
-pub extern "C" fn egorstream_order(file: &[u8], list: &mut [u64]) -> Ordered
+pub fn egorstream_order(file: &[u8], list: &mut [u64]) -> Ordered
     ensures { FileChoice (whole_file file.now) list.old (told_order result) list.new }
 {
     if opening::long(file, 0) {

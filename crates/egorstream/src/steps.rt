@@ -52,9 +52,8 @@ fn reply(t: Trace) -> Stepped
     }
 }
 
-// A record for each removed state, from the front of the list. Proved by hand.
-#[unsafe(no_mangle)]
-pub extern "C" fn egorstream_steps(file: &[u8], list: &mut [StepRecord]) -> Stepped
+// A record for each removed state, from the front of the list.
+pub fn egorstream_steps(file: &[u8], list: &mut [StepRecord]) -> Stepped
     ensures { let f = whole_file file.now in
         let before = list.old in
         FileSteps f (length before) (map told before) (answer_of result) result.count (map told list.new) }

@@ -7,8 +7,7 @@ use crate::write::Written;
 use chainwriter::Writing;
 use report::Printed;
 
-#[unsafe(no_mangle)]
-pub extern "C" fn egorstream_show(file: &[u8], buffer: &mut [u8]) -> Written
+pub fn egorstream_show(file: &[u8], buffer: &mut [u8]) -> Written
     ensures { TextedOutcome (whole_file file.now) buffer.old (told result) buffer.new }
 {
     match showing::text(file, 0, buffer) {
@@ -25,8 +24,7 @@ pub extern "C" fn egorstream_show(file: &[u8], buffer: &mut [u8]) -> Written
     }
 }
 
-#[unsafe(no_mangle)]
-pub extern "C" fn egorstream_make(text: &[u8], buffer: &mut [u8]) -> Written
+pub fn egorstream_make(text: &[u8], buffer: &mut [u8]) -> Written
     ensures { MakeOutcome (whole_file text.now) buffer.old (told result) buffer.new }
 {
     match chaintext::make(text, 0, buffer) {

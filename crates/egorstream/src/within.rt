@@ -14,8 +14,7 @@ pub struct Reached {
     pub parts: u64,
 }
 
-#[unsafe(no_mangle)]
-pub extern "C" fn egorstream_within(file: &[u8], steps: u64) -> Reached
+pub fn egorstream_within(file: &[u8], steps: u64) -> Reached
     ensures { FileWithin (whole_file file.now) steps (told result) }
 {
     match figures::within(file, 0, steps) {

@@ -20,8 +20,7 @@ pub struct Written {
     pub length: u64,
 }
 
-#[unsafe(no_mangle)]
-pub extern "C" fn egorstream_write(
+pub fn egorstream_write(
     states: u64,
     start: u64,
     goals: u64,
