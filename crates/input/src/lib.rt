@@ -4,6 +4,7 @@
 ghost use Rattle.std.specs.Prelude.{◌+◌, ◌^◌, ◌≤◌, ◌<◌, ◌≡◌, length};
 ghost use Rattle.input.specs.Kept.{fitting, pasted};
 ghost use Rattle.input.specs.Reads.{so_far, Steps, Reads};
+ghost use Rattle.input.specs.Gives.{GivesPart, Gives};
 
 use std::fs;
 use std::fs::Files;
@@ -64,7 +65,8 @@ fn keep(kept: &mut [u8], at: usize, part: &[u8]) -> usize
 fn read_part<R: Read>(file: &mut R, kept: &mut [u8], came: Input) -> Step
     requires kept { came.length ≤ length kept.old }
     requires few_more { came.more + 65536 < 2 ^ 64 }
-    ensures { Steps (so_far kept.old came) kept.new result }
+    ensures step { Steps (so_far kept.old came) kept.new result }
+    ensures known { GivesPart (R.remaining file.old) (R.remaining file.new) (so_far kept.old came) kept.new result }
 {
     let mut part = [0u8; PART];
     let count = match file.read(&mut part) {
@@ -86,7 +88,8 @@ fn read_part<R: Read>(file: &mut R, kept: &mut [u8], came: Input) -> Step
 
 // Reads all that a reader gives, such as standard input: the buffer keeps what it has room for, and the rest is counted.
 pub fn read<R: Read>(file: &mut R, kept: &mut [u8]) -> Reading
-    ensures { Reads kept.old kept.new result }
+    ensures parts { Reads kept.old kept.new result }
+    ensures known { Gives (R.remaining file.old) (R.remaining file.new) kept.old kept.new result }
 {
     let mut came = Input { length: 0, more: 0 };
     let mut reads = READS;
