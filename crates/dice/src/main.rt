@@ -4,6 +4,7 @@
 use chain::{Chain, edge};
 use engines::entry::chance;
 use report::{Printed, face};
+use std::io::Write;
 
 // States 0 to 6 toss a coin, and states 7 to 12 are the faces.
 const STATES: usize = 13;
@@ -43,7 +44,7 @@ fn widened() -> [u64; edge::SIZE * COUNT] {
 }
 
 // Prints the line of the face whose state is the only goal, and answers whether it was written.
-fn print(number: u64, goals: u64) -> bool {
+fn print(out: &mut impl Write, people: &mut impl Write, number: u64, goals: u64) -> bool {
     let edges = widened();
     let mut work = [0u64; Chain::WORK];
     let found = chance(
@@ -55,16 +56,16 @@ fn print(number: u64, goals: u64) -> bool {
     );
     let mut buffer = [0u8; report::FACE_ROOM];
     if let Printed::Length(n) = face(number, found, &mut buffer) {
-        return output::print(&buffer[..n], b"dice: standard output");
+        return output::print(out, people, &buffer[..n], b"dice: standard output");
     }
     false
 }
 
 // The lines, up to one that could not be written.
-fn print_faces() {
+fn print_faces(out: &mut impl Write, people: &mut impl Write) {
     let mut number = 1;
     while number <= FACES {
-        let whole = print(number, 1 << (FIRST + number - 1));
+        let whole = print(out, people, number, 1 << (FIRST + number - 1));
         if !whole {
             return;
         }
@@ -72,12 +73,14 @@ fn print_faces() {
     }
 }
 
-fn main() {
-    if input::words() != 0 {
+fn main(rt: HostRuntime) {
+    let mut people = rt.stderr();
+    if input::words(&rt) != 0 {
         output::tell(
+            &mut people,
             b"usage: dice: takes no words, reads nothing, writes the chance of each face of a die to standard output. Example: dice\n",
         );
         return;
     }
-    print_faces();
+    print_faces(&mut rt.stdout(), &mut people);
 }

@@ -8,6 +8,7 @@ use lib.ListN.{length}
 use lib.Seq.{length-paste}
 use Rattle.input.specs.Kept.{SoFar, fitting, pasted, fresh, taken, all_taken}
 use Rattle.input.specs.Reads.{so_far, Steps, TookPart, CameAs, LeftAs, Reads}
+use Rattle.std.specs.declared.io.Error.{Error}
 use Rattle.input.specs.declared.Input.{Input}
 use Rattle.input.specs.declared.Reading.{Reading}
 use Rattle.input.specs.declared.Reading.TheVariants.{Came, Failed}
@@ -54,9 +55,9 @@ nothing before = record { parts = []; is = refl }
 pub missing : {before : List ℕ} → Reads before before (Came (record { length = 0; more = 0 }))
 missing {before} = record { reading = nothing before }
 
-pub unopened : {before : List ℕ} → Reads before before Failed
+pub unopened : {before : List ℕ} (why : Error) → Reads before before (Failed why)
 unfolding all_taken
-unopened = record { reading = record { parts = []; is = refl } }
+unopened why = record { reading = record { parts = []; is = refl } }
 
 module _ {before mid : List ℕ} {came : Input} (a : CameAs before mid came) where
   -- What is kept is within the buffer, whose length stays.
@@ -105,7 +106,7 @@ module _ {before mid after : List ℕ} {came : Input} {reads : ℕ} (g : Going b
   pub going_ended : r ≡ Ended → Reads before after (Came came)
   going_ended e = let b : after ≡ mid = rw e at h.step in record { reading = ended g.parts b }
 
-  pub going_broke : r ≡ Broke → Reads before after Failed
+  pub going_broke : {why : Error} → r ≡ Broke why → Reads before after (Failed why)
   going_broke e = let b : after ≡ mid = rw e at h.step in record { reading = left g.parts b }
 
 -- What is kept is within the buffer, so that its part of the buffer can be lent on.

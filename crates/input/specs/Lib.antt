@@ -1,4 +1,5 @@
 pub mod Kept
 pub mod Reads
+pub mod Gives
 pub mod Digit
 pub mod Run

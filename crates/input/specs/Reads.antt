@@ -22,7 +22,7 @@ pub record TookPart (s : SoFar) (after : List ℕ) (next : Input) : Type 0 where
 abbrev pub StepOf : SoFar → List ℕ → Step → Type 0
 StepOf s after (Took next) = TookPart s after next
 StepOf s after Ended = after ≡ s.buffer
-StepOf s after Broke = after ≡ s.buffer
+StepOf s after (Broke _) = after ≡ s.buffer
 
 pub record Steps (s : SoFar) (after : List ℕ) (r : Step) : Type 0 where
   pub step : StepOf s after r
@@ -39,7 +39,7 @@ pub record LeftAs (before after : List ℕ) : Type 0 where
 
 abbrev pub ReadingOf : List ℕ → List ℕ → Reading → Type 0
 ReadingOf before after (Came i) = CameAs before after i
-ReadingOf before after Failed = LeftAs before after
+ReadingOf before after (Failed _) = LeftAs before after
 
 pub record Reads (before after : List ℕ) (r : Reading) : Type 0 where
   pub reading : ReadingOf before after r

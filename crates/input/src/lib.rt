@@ -4,8 +4,11 @@
 ghost use Rattle.std.specs.Prelude.{◌+◌, ◌^◌, ◌≤◌, ◌<◌, ◌≡◌, length};
 ghost use Rattle.input.specs.Kept.{fitting, pasted};
 ghost use Rattle.input.specs.Reads.{so_far, Steps, Reads};
+ghost use Rattle.input.specs.Gives.{GivesPart, Gives};
 
-use libc::STDIN_FILENO;
+use std::fs;
+use std::fs::Files;
+use std::io::{Error, ErrorKind, Read};
 
 mod limit_word;
 mod word;
@@ -26,11 +29,11 @@ pub struct Input {
     pub more: u64,
 }
 
-// All that came, or that a read failed: errno then says why.
+// All that came, or that a read failed, and why.
 #[derive(Clone, Copy)]
 pub enum Reading {
     Came(Input),
-    Failed,
+    Failed(Error),
 }
 
 // What one read comes to.
@@ -38,7 +41,7 @@ pub enum Reading {
 enum Step {
     Took(Input),
     Ended,
-    Broke,
+    Broke(Error),
 }
 
 // Keeps as many bytes of a part as there is room for from `at` on, and answers how many.
@@ -59,17 +62,19 @@ fn keep(kept: &mut [u8], at: usize, part: &[u8]) -> usize
 }
 
 // Reads on once, and keeps what comes behind what is kept already.
-fn read_part(file: i32, kept: &mut [u8], came: Input) -> Step
+fn read_part<R: Read>(file: &mut R, kept: &mut [u8], came: Input) -> Step
     requires kept { came.length ≤ length kept.old }
     requires few_more { came.more + 65536 < 2 ^ 64 }
-    ensures { Steps (so_far kept.old came) kept.new result }
+    ensures step { Steps (so_far kept.old came) kept.new result }
+    ensures known { GivesPart (R.remaining file.old) (R.remaining file.new) (so_far kept.old came) kept.new result }
 {
     let mut part = [0u8; PART];
-    let got = libc::read(file, &mut part);
-    if got < 0 {
-        return Step::Broke;
-    }
-    let count = io::count(got, &part);
+    let count = match file.read(&mut part) {
+        Ok(count) => count,
+        Err(why) => {
+            return Step::Broke(why);
+        }
+    };
     if count == 0 {
         return Step::Ended;
     }
@@ -81,9 +86,10 @@ fn read_part(file: i32, kept: &mut [u8], came: Input) -> Step
     })
 }
 
-// Reads all of an open file: the buffer keeps what it has room for, and the rest is counted.
-fn read_from(file: i32, kept: &mut [u8]) -> Reading
-    ensures { Reads kept.old kept.new result }
+// Reads all that a reader gives, such as standard input: the buffer keeps what it has room for, and the rest is counted.
+pub fn read<R: Read>(file: &mut R, kept: &mut [u8]) -> Reading
+    ensures parts { Reads kept.old kept.new result }
+    ensures known { Gives (R.remaining file.old) (R.remaining file.new) kept.old kept.new result }
 {
     let mut came = Input { length: 0, more: 0 };
     let mut reads = READS;
@@ -95,8 +101,8 @@ fn read_from(file: i32, kept: &mut [u8]) -> Reading
             Step::Ended => {
                 return Reading::Came(came);
             }
-            Step::Broke => {
-                return Reading::Failed;
+            Step::Broke(why) => {
+                return Reading::Failed(why);
             }
         }
         reads -= 1;
@@ -104,28 +110,16 @@ fn read_from(file: i32, kept: &mut [u8]) -> Reading
     Reading::Came(came)
 }
 
-// Reads all of standard input.
-pub fn read(kept: &mut [u8]) -> Reading
-    ensures { Reads kept.old kept.new result }
-{
-    read_from(STDIN_FILENO, kept)
-}
-
 // Reads all of the file of that name. A missing file is an empty one; one that is there and cannot be opened is a failure.
-pub fn read_file(name: &[u8], kept: &mut [u8]) -> Reading
+pub fn read_file(rt: &impl Files, name: &str, kept: &mut [u8]) -> Reading
     ensures { Reads kept.old kept.new result }
 {
-    let file = os::open_read(name);
-    if file < 0 {
-        if os::errno() == libc::ENOENT {
-            return Reading::Came(Input { length: 0, more: 0 });
-        }
-        return Reading::Failed;
+    match fs::open(rt, name) {
+        Ok(mut file) => read(&mut file, kept),
+        Err(why) if why.kind() == ErrorKind::NotFound => Reading::Came(Input {
+            length: 0,
+            more: 0,
+        }),
+        Err(why) => Reading::Failed(why),
     }
-    let reading = read_from(file, kept);
-    // A close that failed would change errno, so that after a failed read there is none.
-    if let Reading::Came(_) = reading {
-        libc::close(file);
-    }
-    reading
 }

@@ -4,8 +4,9 @@ ghost use Rattle.meaning.specs.Limit.{LimitWord};
 ghost use Rattle.limit.specs.Told.{told};
 ghost use Rattle.input.specs.Run.{past, Capped, ReadRun, Middle, TensOf};
 
-use crate::word::{NONE, digit};
+use crate::word::{NONE, copy, digit};
 use limit::Limit;
+use std::env::Env;
 
 // The most bytes of a limit's word.
 pub const LIMIT_BYTES: usize = 40;
@@ -128,8 +129,8 @@ pub fn limit(word: &[u8]) -> Limit
 }
 
 // The limit that word i says; none where it is missing. A word that is too long is taken as an empty one.
-pub fn word_limit(i: usize) -> Limit {
+pub fn word_limit(rt: &impl Env, i: usize) -> Limit {
     let mut word = [0u8; LIMIT_BYTES];
-    let length = os::arg(i, &mut word);
+    let length = copy(rt, i, &mut word);
     limit(&word[..length])
 }

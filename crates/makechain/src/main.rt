@@ -4,24 +4,33 @@
 use chainwriter::Writing;
 use input::Reading;
 
-fn main() {
-    if input::words() != 0 {
+fn main(rt: HostRuntime) {
+    if input::words(&rt) != 0 {
         output::tell(
+            &mut rt.stderr(),
             b"usage: makechain <FILE: reads the text of a chain on standard input, writes its chain file to standard output. Example: makechain <examples/address.text >address.chain\n",
         );
         return;
     }
     let mut kept = [0u8; chaintext::LONGEST];
-    let Reading::Came(came) = input::read(&mut kept) else {
-        os::fail(b"makechain: standard input");
-        return;
+    let came = match input::read(&mut rt.stdin(), &mut kept) {
+        Reading::Came(came) => came,
+        Reading::Failed(why) => {
+            output::fail(&mut rt.stderr(), b"makechain: standard input", why);
+            return;
+        }
     };
     let length = came.length;
     let mut buffer = [0u8; chaintext::FILE_ROOM];
     match chaintext::make(&kept[..length], came.more, &mut buffer) {
         Writing::Length(n) => {
-            output::print(&buffer[..n], b"makechain: standard output");
+            output::print(
+                &mut rt.stdout(),
+                &mut rt.stderr(),
+                &buffer[..n],
+                b"makechain: standard output",
+            );
         }
-        Writing::Refused { number, place } => output::complain(number, place),
+        Writing::Refused { number, place } => output::complain(&mut rt.stderr(), number, place),
     }
 }

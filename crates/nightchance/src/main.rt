@@ -4,21 +4,30 @@
 use input::Reading;
 use report::{Printed, report};
 
-fn main() {
-    if input::words() != 0 {
+fn main(rt: HostRuntime) {
+    if input::words(&rt) != 0 {
         output::tell(
+            &mut rt.stderr(),
             b"usage: nightchance <FILE: reads a chain file on standard input, writes its report to standard output. Example: nightchance <examples/address.chain\n",
         );
         return;
     }
     let mut kept = [0u8; chainfile::LONGEST];
-    let Reading::Came(came) = input::read(&mut kept) else {
-        os::fail(b"nightchance: standard input");
-        return;
+    let came = match input::read(&mut rt.stdin(), &mut kept) {
+        Reading::Came(came) => came,
+        Reading::Failed(why) => {
+            output::fail(&mut rt.stderr(), b"nightchance: standard input", why);
+            return;
+        }
     };
     let length = came.length;
     let mut buffer = [0u8; report::REPORT_ROOM];
     if let Printed::Length(n) = report(&kept[..length], came.more, &mut buffer) {
-        output::print(&buffer[..n], b"nightchance: standard output");
+        output::print(
+            &mut rt.stdout(),
+            &mut rt.stderr(),
+            &buffer[..n],
+            b"nightchance: standard output",
+        );
     }
 }

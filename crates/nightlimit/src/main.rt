@@ -4,48 +4,57 @@
 use input::Reading;
 use limit::Limit;
 use report::Printed;
+use std::io::{Read, Write};
 
-fn usage() {
+fn usage(people: &mut impl Write) {
     output::tell(
+        people,
         b"usage: nightlimit LIMIT <FILE: takes a limit above 0 and at most 1, reads a chain file on standard input, writes whether the chance of reaching a goal is within the limit, kept, broken or open, with two figures that it lies between, to standard output. Example: nightlimit 1e-9 <examples/copies.chain\n",
     );
 }
 
-fn print(file: &[u8], more: u64, m: Limit) {
+fn print(out: &mut impl Write, people: &mut impl Write, file: &[u8], more: u64, m: Limit) {
     let mut buffer = [0u8; lines::LIMIT_ROOM];
     if let Printed::Length(n) = lines::limit(file, more, m, &mut buffer) {
-        output::print(&buffer[..n], b"nightlimit: standard output");
+        output::print(out, people, &buffer[..n], b"nightlimit: standard output");
     }
 }
 
-fn read(m: Limit) {
+fn read(file: &mut impl Read, out: &mut impl Write, people: &mut impl Write, m: Limit) {
     let mut kept = [0u8; chainfile::LONGEST];
-    let Reading::Came(came) = input::read(&mut kept) else {
-        os::fail(b"nightlimit: standard input");
-        return;
+    let came = match input::read(file, &mut kept) {
+        Reading::Came(came) => came,
+        Reading::Failed(why) => {
+            output::fail(people, b"nightlimit: standard input", why);
+            return;
+        }
     };
     let length = came.length;
-    print(&kept[..length], came.more, m);
+    print(out, people, &kept[..length], came.more, m);
 }
 
 // What is no limit is refused, whatever the file holds: it is not read.
-fn judge(m: Limit) {
+fn judge(file: &mut impl Read, out: &mut impl Write, people: &mut impl Write, m: Limit) {
     if limit::sound(m) {
-        read(m);
+        read(file, out, people, m);
         return;
     }
-    print(b"", 0, m);
+    print(out, people, b"", 0, m);
 }
 
-fn main() {
-    if input::asks_help() {
-        usage();
+fn main(rt: HostRuntime) {
+    let mut file = rt.stdin();
+    let mut out = rt.stdout();
+    let mut people = rt.stderr();
+    if input::asks_help(&rt) {
+        usage(&mut people);
         return;
     }
-    if input::words() != 1 {
-        usage();
-        judge(limit::NONE);
+    if input::words(&rt) != 1 {
+        usage(&mut people);
+        judge(&mut file, &mut out, &mut people, limit::NONE);
         return;
     }
-    judge(input::word_limit(1));
+    let m = input::word_limit(&rt, 1);
+    judge(&mut file, &mut out, &mut people, m);
 }

@@ -6,47 +6,60 @@ use input::Reading;
 use lines::near;
 use nearfile::From;
 use report::Printed;
+use std::env::Env;
+use std::io::Write;
 
 // What a word counts as that says no number: no state of any chain.
 const OUT: u64 = Chain::STATES as u64;
 
-fn usage() {
+fn usage(people: &mut impl Write) {
     output::tell(
+        people,
         b"usage: nightnear [STATE] <FILE: takes perhaps a state to begin in, reads a chain file on standard input, writes the chance of reaching a goal and that of missing every goal, each between two figures, to standard output. Example: nightnear <examples/copies.chain\n",
     );
 }
 
 // Where the words ask the chance from. A word too many counts as a wrong state.
-fn asked() -> From {
-    let words = input::words();
+fn asked(rt: &impl Env, people: &mut impl Write) -> From {
+    let words = input::words(rt);
     if words == 0 {
         return From::Start;
     }
     if 1 < words {
-        usage();
+        usage(people);
         return From::State(OUT);
     }
-    From::State(input::word_number(1, OUT))
+    From::State(input::word_number(rt, 1, OUT))
 }
 
-fn print(file: &[u8], more: u64, from: From) {
+fn print(out: &mut impl Write, people: &mut impl Write, file: &[u8], more: u64, from: From) {
     let mut buffer = [0u8; lines::NEAR_ROOM];
     if let Printed::Length(n) = near(file, more, from, &mut buffer) {
-        output::print(&buffer[..n], b"nightnear: standard output");
+        output::print(out, people, &buffer[..n], b"nightnear: standard output");
     }
 }
 
-fn main() {
-    if input::asks_help() {
-        usage();
+fn main(rt: HostRuntime) {
+    let mut people = rt.stderr();
+    if input::asks_help(&rt) {
+        usage(&mut people);
         return;
     }
-    let from = asked();
+    let from = asked(&rt, &mut people);
     let mut kept = [0u8; chainfile::LONGEST];
-    let Reading::Came(came) = input::read(&mut kept) else {
-        os::fail(b"nightnear: standard input");
-        return;
+    let came = match input::read(&mut rt.stdin(), &mut kept) {
+        Reading::Came(came) => came,
+        Reading::Failed(why) => {
+            output::fail(&mut people, b"nightnear: standard input", why);
+            return;
+        }
     };
     let length = came.length;
-    print(&kept[..length], came.more, from);
+    print(
+        &mut rt.stdout(),
+        &mut people,
+        &kept[..length],
+        came.more,
+        from,
+    );
 }

@@ -4,21 +4,30 @@
 use input::Reading;
 use report::{Printed, steps};
 
-fn main() {
-    if input::words() != 0 {
+fn main(rt: HostRuntime) {
+    if input::words(&rt) != 0 {
         output::tell(
+            &mut rt.stderr(),
             b"usage: nightsteps <FILE: reads a chain file on standard input, writes its step list and its chance to standard output. Example: nightsteps <examples/gateway.chain\n",
         );
         return;
     }
     let mut kept = [0u8; chainfile::LONGEST];
-    let Reading::Came(came) = input::read(&mut kept) else {
-        os::fail(b"nightsteps: standard input");
-        return;
+    let came = match input::read(&mut rt.stdin(), &mut kept) {
+        Reading::Came(came) => came,
+        Reading::Failed(why) => {
+            output::fail(&mut rt.stderr(), b"nightsteps: standard input", why);
+            return;
+        }
     };
     let length = came.length;
     let mut buffer = [0u8; report::STEPS_ROOM];
     if let Printed::Length(n) = steps(&kept[..length], came.more, &mut buffer) {
-        output::print(&buffer[..n], b"nightsteps: standard output");
+        output::print(
+            &mut rt.stdout(),
+            &mut rt.stderr(),
+            &buffer[..n],
+            b"nightsteps: standard output",
+        );
     }
 }

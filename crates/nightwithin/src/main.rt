@@ -4,43 +4,51 @@
 use input::Reading;
 use lines::within;
 use report::Printed;
+use std::io::{Read, Write};
 
 // What a word counts as that says no number: more than the most steps.
 const OUT: u64 = equations::STEPS + 1;
 
-fn usage() {
+fn usage(people: &mut impl Write) {
     output::tell(
+        people,
         b"usage: nightwithin K <FILE: takes a number of steps from 0 to 1000, reads a chain file on standard input, writes the chance of having reached a goal within K steps to standard output. Example: nightwithin 3 <examples/address.chain\n",
     );
 }
 
-fn print(file: &[u8], more: u64, steps: u64) {
+fn print(out: &mut impl Write, people: &mut impl Write, file: &[u8], more: u64, steps: u64) {
     let mut buffer = [0u8; lines::WITHIN_ROOM];
     if let Printed::Length(n) = within(file, more, steps, &mut buffer) {
-        output::print(&buffer[..n], b"nightwithin: standard output");
+        output::print(out, people, &buffer[..n], b"nightwithin: standard output");
     }
 }
 
-fn read(steps: u64) {
+fn read(file: &mut impl Read, out: &mut impl Write, people: &mut impl Write, steps: u64) {
     let mut kept = [0u8; chainfile::LONGEST];
-    let Reading::Came(came) = input::read(&mut kept) else {
-        os::fail(b"nightwithin: standard input");
-        return;
+    let came = match input::read(file, &mut kept) {
+        Reading::Came(came) => came,
+        Reading::Failed(why) => {
+            output::fail(people, b"nightwithin: standard input", why);
+            return;
+        }
     };
     let length = came.length;
-    print(&kept[..length], came.more, steps);
+    print(out, people, &kept[..length], came.more, steps);
 }
 
 // A wrong number of words is a wrong number of steps, whatever the file holds: it is not read.
-fn main() {
-    if input::asks_help() {
-        usage();
+fn main(rt: HostRuntime) {
+    let mut out = rt.stdout();
+    let mut people = rt.stderr();
+    if input::asks_help(&rt) {
+        usage(&mut people);
         return;
     }
-    if input::words() != 1 {
-        usage();
-        print(b"", 0, OUT);
+    if input::words(&rt) != 1 {
+        usage(&mut people);
+        print(&mut out, &mut people, b"", 0, OUT);
         return;
     }
-    read(input::word_number(1, OUT));
+    let steps = input::word_number(&rt, 1, OUT);
+    read(&mut rt.stdin(), &mut out, &mut people, steps);
 }

@@ -4,24 +4,33 @@
 use chainwriter::Writing;
 use input::Reading;
 
-fn main() {
-    if input::words() != 0 {
+fn main(rt: HostRuntime) {
+    if input::words(&rt) != 0 {
         output::tell(
+            &mut rt.stderr(),
             b"usage: reorder <FILE: reads a chain file on standard input, writes the file of the same chain with a chosen order to standard output. Example: reorder <examples/gateway.chain >better.chain\n",
         );
         return;
     }
     let mut kept = [0u8; chainfile::LONGEST];
-    let Reading::Came(came) = input::read(&mut kept) else {
-        os::fail(b"reorder: standard input");
-        return;
+    let came = match input::read(&mut rt.stdin(), &mut kept) {
+        Reading::Came(came) => came,
+        Reading::Failed(why) => {
+            output::fail(&mut rt.stderr(), b"reorder: standard input", why);
+            return;
+        }
     };
     let length = came.length;
     let mut buffer = [0u8; reordering::ROOM];
     match reordering::reorder(&kept[..length], came.more, &mut buffer) {
         Writing::Length(n) => {
-            output::print(&buffer[..n], b"reorder: standard output");
+            output::print(
+                &mut rt.stdout(),
+                &mut rt.stderr(),
+                &buffer[..n],
+                b"reorder: standard output",
+            );
         }
-        Writing::Refused { number, place } => output::complain(number, place),
+        Writing::Refused { number, place } => output::complain(&mut rt.stderr(), number, place),
     }
 }

@@ -4,21 +4,30 @@
 use input::Reading;
 use report::Printed;
 
-fn main() {
-    if input::words() != 0 {
+fn main(rt: HostRuntime) {
+    if input::words(&rt) != 0 {
         output::tell(
+            &mut rt.stderr(),
             b"usage: showchain <FILE: reads a chain file on standard input, writes it as a text to standard output. Example: showchain <examples/address.chain\n",
         );
         return;
     }
     let mut kept = [0u8; chainfile::LONGEST];
-    let Reading::Came(came) = input::read(&mut kept) else {
-        os::fail(b"showchain: standard input");
-        return;
+    let came = match input::read(&mut rt.stdin(), &mut kept) {
+        Reading::Came(came) => came,
+        Reading::Failed(why) => {
+            output::fail(&mut rt.stderr(), b"showchain: standard input", why);
+            return;
+        }
     };
     let length = came.length;
     let mut buffer = [0u8; showing::ROOM];
     if let Printed::Length(n) = showing::show(&kept[..length], came.more, &mut buffer) {
-        output::print(&buffer[..n], b"showchain: standard output");
+        output::print(
+            &mut rt.stdout(),
+            &mut rt.stderr(),
+            &buffer[..n],
+            b"showchain: standard output",
+        );
     }
 }

@@ -1,8 +1,14 @@
 // The reader's form for callers with tables of their own, on the chain file at standard input: examples/retries.chain.
+ghost use Rattle.std.specs.Prelude.{◌≡◌, ◌≤◌, length};
+
 use crate::run::case;
 use crate::tell;
 use chain::{Chain, edge};
 use chainfile::Reading;
+use std::io::{Read, Write};
+
+// The most bytes of the file.
+const ROOM: usize = 4096;
 
 fn front(table: &[u64], n: usize) -> &[u64] {
     if table.len() < n {
@@ -12,24 +18,26 @@ fn front(table: &[u64], n: usize) -> &[u64] {
 }
 
 // The chain and its tables as they are read, and what the entries say of them.
-fn chain(c: Chain, count: usize, d: &[u64], e: &[u64], o: &[u64], r: &[u64]) {
+fn chain(out: &mut impl Write, c: Chain, count: usize, d: &[u64], e: &[u64], o: &[u64], r: &[u64]) {
     if Chain::EDGES < count {
         return;
     }
     tell::numbers(
+        out,
         b"read: states ",
         c.states as u64,
         b" start ",
         c.start as u64,
     );
-    tell::numbers(b" goals ", c.goals, b" edges ", count as u64);
-    io::write_all(1, b"\n");
+    tell::numbers(out, b" goals ", c.goals, b" edges ", count as u64);
+    tell::text(out, b"\n");
     let edges = front(e, edge::SIZE * count);
-    tell::row(b"read: denominators", front(d, c.states));
-    tell::row(b"read: edges", edges);
-    tell::row(b"read: order", front(o, c.states));
-    tell::row(b"read: rewards", front(r, c.states));
+    tell::row(out, b"read: denominators", front(d, c.states));
+    tell::row(out, b"read: edges", edges);
+    tell::row(out, b"read: order", front(o, c.states));
+    tell::row(out, b"read: rewards", front(r, c.states));
     case(
+        out,
         b"read",
         c,
         front(d, c.states),
@@ -40,7 +48,7 @@ fn chain(c: Chain, count: usize, d: &[u64], e: &[u64], o: &[u64], r: &[u64]) {
 }
 
 // The file is read into tables of sevens.
-fn read(name: &[u8], kept: &[u8], e: &mut [u64]) {
+fn read(out: &mut impl Write, name: &[u8], kept: &[u8], e: &mut [u64]) {
     let mut d = [7u64; Chain::STATES];
     let mut o = [7u64; Chain::STATES];
     let mut r = [7u64; Chain::STATES];
@@ -48,32 +56,54 @@ fn read(name: &[u8], kept: &[u8], e: &mut [u64]) {
         Reading::Chain {
             chain: c,
             edges: count,
-        } => chain(c, count, &d, e, &o, &r),
+        } => chain(out, c, count, &d, e, &o, &r),
         Reading::Refused { number, place } => {
-            io::write_all(1, name);
-            tell::refused(number, place);
-            io::write_all(1, b"\n");
+            tell::text(out, name);
+            tell::refused(out, number, place);
+            tell::text(out, b"\n");
         }
     }
 }
 
-fn whole(name: &[u8], kept: &[u8]) {
+fn whole(out: &mut impl Write, name: &[u8], kept: &[u8]) {
     let mut e = [7u64; edge::MOST];
-    read(name, kept, &mut e);
+    read(out, name, kept, &mut e);
 }
 
-fn short(name: &[u8], kept: &[u8]) {
+fn short(out: &mut impl Write, name: &[u8], kept: &[u8]) {
     let mut e = [7u64; edge::MOST - 1];
-    read(name, kept, &mut e);
+    read(out, name, kept, &mut e);
 }
 
-pub(crate) fn given() {
-    let mut buffer = io::buffer();
-    let n = io::read_full(0, &mut buffer);
-    whole(b"read: ", &buffer[..n]);
-    short(b"read, an edge number short: ", &buffer[..n]);
+// Reads until the buffer is full, the input ends or a read fails, and answers how many bytes came.
+fn read_full(file: &mut impl Read, buffer: &mut [u8]) -> usize
+    ensures within { result ≤ length buffer.new }
+    ensures same { length buffer.new ≡ length buffer.old }
+{
+    let mut done = 0;
+    while done < buffer.len() {
+        match file.read(&mut buffer[done..]) {
+            Ok(0) => {
+                return done;
+            }
+            Ok(n) => {
+                done += n;
+            }
+            Err(_) => {
+                return done;
+            }
+        }
+    }
+    done
+}
+
+pub(crate) fn given(file: &mut impl Read, out: &mut impl Write) {
+    let mut buffer = [0u8; ROOM];
+    let n = read_full(file, &mut buffer);
+    whole(out, b"read: ", &buffer[..n]);
+    short(out, b"read, an edge number short: ", &buffer[..n]);
     if 0 < n {
         let m = n - 1;
-        whole(b"read, a byte short: ", &buffer[..m]);
+        whole(out, b"read, a byte short: ", &buffer[..m]);
     }
 }

@@ -5,6 +5,7 @@ ghost use Rattle.std.specs.Prelude.{◌≤◌};
 use crate::tell;
 use chain::Chain;
 use engines::entry;
+use std::io::Write;
 
 const SPARE: usize = 2;
 
@@ -34,16 +35,16 @@ fn holds(table: &[u64; WORK], from: usize, to: usize, x: u64) -> bool
     true
 }
 
-fn tell_work(table: &[u64; WORK], taken: usize)
+fn tell_work(out: &mut impl Write, table: &[u64; WORK], taken: usize)
     requires { taken ≤ 4352 }
 {
     let end = taken + SPARE;
     if holds(table, 0, end, 7) {
-        io::write_all(1, b", work unchanged\n");
+        tell::text(out, b", work unchanged\n");
     } else if holds(table, 0, taken, 0) && holds(table, taken, end, 7) {
-        io::write_all(1, b", work zeroed, rest kept\n");
+        tell::text(out, b", work zeroed, rest kept\n");
     } else {
-        io::write_all(1, b", work wrong\n");
+        tell::text(out, b", work wrong\n");
     }
 }
 
@@ -55,6 +56,7 @@ enum Entry {
 }
 
 fn line(
+    out: &mut impl Write,
     name: &[u8],
     which: Entry,
     lent: usize,
@@ -68,27 +70,44 @@ fn line(
 {
     let mut table = [7u64; WORK];
     let work = &mut table[..lent];
-    io::write_all(1, name);
+    tell::text(out, name);
     match which {
-        Entry::Chance => tell::chance(entry::chance(c, d, e, o, work)),
-        Entry::Reward => tell::reward(entry::reward(c, d, e, o, r, work)),
-        Entry::Bounds => tell::bounds(entry::bounds(c, d, e, o, work)),
+        Entry::Chance => tell::chance(out, entry::chance(c, d, e, o, work)),
+        Entry::Reward => tell::reward(out, entry::reward(c, d, e, o, r, work)),
+        Entry::Bounds => tell::bounds(out, entry::bounds(c, d, e, o, work)),
     }
-    tell_work(&table, used(c.states));
+    tell_work(out, &table, used(c.states));
 }
 
 // The lines of a case, the entries being lent so many numbers of the work table.
-pub(crate) fn lines(name: &[u8], lent: usize, c: Chain, d: &[u64], e: &[u64], o: &[u64], r: &[u64])
+pub(crate) fn lines(
+    out: &mut impl Write,
+    name: &[u8],
+    lent: usize,
+    c: Chain,
+    d: &[u64],
+    e: &[u64],
+    o: &[u64],
+    r: &[u64],
+)
     requires { lent ≤ 4354 }
 {
-    line(name, Entry::Chance, lent, c, d, e, o, r);
-    line(name, Entry::Reward, lent, c, d, e, o, r);
-    line(name, Entry::Bounds, lent, c, d, e, o, r);
-    io::write_all(1, name);
-    tell::survey(survey::of(c, d, e));
+    line(out, name, Entry::Chance, lent, c, d, e, o, r);
+    line(out, name, Entry::Reward, lent, c, d, e, o, r);
+    line(out, name, Entry::Bounds, lent, c, d, e, o, r);
+    tell::text(out, name);
+    tell::survey(out, survey::of(c, d, e));
 }
 
 // The lines of a case whose work table is longer than the chain takes.
-pub(crate) fn case(name: &[u8], c: Chain, d: &[u64], e: &[u64], o: &[u64], r: &[u64]) {
-    lines(name, used(c.states) + SPARE, c, d, e, o, r);
+pub(crate) fn case(
+    out: &mut impl Write,
+    name: &[u8],
+    c: Chain,
+    d: &[u64],
+    e: &[u64],
+    o: &[u64],
+    r: &[u64],
+) {
+    lines(out, name, used(c.states) + SPARE, c, d, e, o, r);
 }

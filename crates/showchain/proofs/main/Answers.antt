@@ -1,0 +1,17 @@
+use Rattle.std.proofs.Common.{sym}
+use Rattle.std.proofs.lemmas.List.{length-take-le}
+use Rattle.input.proofs.Taking.{came_within}
+use Rattle.report.proofs.Unique.{within}
+use Rattle.showchain.proofs.main.Goals as goal
+
+pub slice_bounds-kept-end : goal.slice_bounds-kept-end
+slice_bounds-kept-end c = came_within c.read.result c.read.ensures.parts c.in-Came.is
+
+pub slice_bounds-show-end : goal.slice_bounds-show-end
+slice_bounds-show-end c = sym (length-take-le _ _ (came_within c.read.result c.read.ensures.parts c.in-Came.is))
+
+pub slice_bounds-buffer-end : goal.slice_bounds-buffer-end
+slice_bounds-buffer-end c = within c.show.result c.show.ensures c.in-Length.is
+
+pub slice_bounds-print-end : goal.slice_bounds-print-end
+slice_bounds-print-end c = sym (length-take-le _ _ (within c.show.result c.show.ensures c.in-Length.is))
