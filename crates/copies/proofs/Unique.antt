@@ -6,7 +6,7 @@ use Rattle.meaning.specs.Buffer.{Writing, no_writing}
 use Rattle.meaning.specs.Copies.{Plan, CopiesOutcome, PlanFiled}
 use Rattle.theory.specs.Files.Written.{write_one}
 use Rattle.theory.specs.Plans.Copies.{refused_senseless, refused_one, copies_one}
-use Rattle.egorstream.specs.Told.{told as toldWritten}
+use Rattle.egorstream.specs.Told.{told as told_written}
 use Rattle.egorstream.specs.declared.write.Written.{Written}
 use Rattle.copies.specs.declared.ask.Planned.{Planned}
 use Rattle.copies.specs.Told.{told}
@@ -16,8 +16,8 @@ planned_unique r r' o o' =
     let e = copies_one o o' in
     λ i. record { number = (e i).number; place = (e i).place; numerator = (e i).numerator; denominator = (e i).denominator }
 
-pub filed_unique : {j : Plan} {before after after' : List ℕ} (r r' : Written) → PlanFiled j before (toldWritten r) after
-    → PlanFiled j before (toldWritten r') after' → (r ≡ r') × (after ≡ after')
+pub filed_unique : {j : Plan} {before after after' : List ℕ} (r r' : Written) → PlanFiled j before (told_written r) after
+    → PlanFiled j before (told_written r') after' → (r ≡ r') × (after ≡ after')
 filed_unique {j} {before} {after} {after'} r r' o o' =
     let e = one o o' in
     ((λ i. record { number = (e.0 i).number; place = (e.0 i).place; length = (e.0 i).written }), e.1)

@@ -5,17 +5,17 @@ use Rattle.meaning.specs.Chain.{most_states, most_edges}
 use Rattle.meaning.specs.Block.{Input}
 use Rattle.meaning.specs.Within.{FileWithin}
 use Rattle.theory.specs.Rounds.Texts.{file_within_one, file_within_place}
-use Rattle.equations.specs.Told.{told as parts-told}
+use Rattle.equations.specs.Told.{told as parts_told}
 use Rattle.equations.specs.declared.Parts.{Parts}
 use Rattle.figures.specs.Within.{FileWithins}
 use Rattle.egorstream.specs.Reach.{told}
 use Rattle.egorstream.specs.declared.within.Reached.{Reached}
 
 module _ {f : Input} {k : ℕ} {r p : Parts} (w : FileWithins f k r) (e : r ≡ p) where
-  pub reached : FileWithin f k (parts-told p)
-  reached = subst (λ (p : Parts). FileWithin f k (parts-told p)) e w.outcome
+  pub reached : FileWithin f k (parts_told p)
+  reached = subst (λ (p : Parts). FileWithin f k (parts_told p)) e w.outcome
 
-  pub place_small : (parts-told p).place ≤ most_states + most_edges
+  pub place_small : (parts_told p).place ≤ most_states + most_edges
   place_small = file_within_place reached
 
 pub reached_unique : {f : Input} {k : ℕ} (r r' : Reached) → FileWithin f k (told r) → FileWithin f k (told r') → r ≡ r'

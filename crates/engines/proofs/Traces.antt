@@ -14,7 +14,7 @@ use Rattle.meaning.specs.Step.{Sets, Right, goes}
 use Rattle.meaning.specs.Refusal.{Lent, listing, WellFormed}
 use Rattle.meaning.specs.Stop.{earns, turn, table_at, Stops, before_steps, in_step}
 use Rattle.meaning.specs.Outcome.{refusal}
-use Rattle.meaning.specs.Steps.{StepRecord, records_to, FinishedTo, through, before_steps as none-finished, in_step as finished-before, Listed, untouched, listed}
+use Rattle.meaning.specs.Steps.{StepRecord, records_to, FinishedTo, through, before_steps as none_finished, in_step as finished_before, Listed, untouched, listed}
 use Rattle.theory.specs.Outcomes.Formed.{few_states, list_room}
 use Rattle.theory.specs.Numbers.Tab.{filled_nothing}
 use Rattle.theory.specs.Outcomes.Steps.{finished_inside}
@@ -65,8 +65,8 @@ module _ {log : List ℕ} {rs : List StepRecord} (h : HoldsRecords log rs) where
 -- The steps that are finished where 12 stops the elimination.
 finished_to : {pay : ℕ → ℕ} {l : Lent} {k : Sets} {number place : ℕ} → l.chain.states ≤ most_states → Stops pay exact l k number place
     → FinishedTo l (refusal number place) (finished_in l.chain.states (Stopping number place))
-finished_to {l} few (before_steps u) = rw (le-ltb most_states l.chain.states few) (none-finished refl refl)
-finished_to {l} few (in_step p h c u) = rw (lt-ltb p l.chain.states h) (finished-before refl h)
+finished_to {l} few (before_steps u) = rw (le-ltb most_states l.chain.states few) (none_finished refl refl)
+finished_to {l} few (in_step p h c u) = rw (lt-ltb p l.chain.states h) (finished_before refl h)
 
 -- What the trace says, by its answer and the records that the log holds.
 module _ (l : Lent) (w log : List ℕ) (size : length log ≡ log_size) where

@@ -11,7 +11,7 @@ use Rattle.meaning.specs.Block.{first_sum, second_sum, checked_bytes}
 use Rattle.theory.specs.Numbers.Sum.{sum_ext, sum_add, sum_zero, sum_next}
 use Rattle.theory.specs.Numbers.Tab.{get_d_zeros}
 use Rattle.fletcher.specs.Columns.{rows, columns, Low, RowAdded}
-use Rattle.fletcher.proofs.Summed.{Summed, none as none-summed, run, all as all-summed}
+use Rattle.fletcher.proofs.Summed.{Summed, none as none_summed, run, all as all_summed}
 use Rattle.theory.specs.Numbers.Walk.{Walked, walk_none, walk_more}
 
 -- Of the first c columns: the sum of their numbers, each at most so large.
@@ -104,7 +104,7 @@ module _ {m s : ℕ} {f : ℕ → ℕ} where
         plain_low = zero-low;
         sums_low = zero-low;
         second = s;
-        summed = subst (λ z. Summed m s f checked_bytes 0 z s) (omega arith) (none-summed h l);
+        summed = subst (λ z. Summed m s f checked_bytes 0 z s) (omega arith) (none_summed h l);
         second_is = omega (arith, p, w);
       }
 
@@ -142,7 +142,7 @@ module _ {m s : ℕ} {f : ℕ → ℕ} where
     all_laid {first} {counted} {places} h p q t =
         let e : r ≡ rows = omega (arith, g.upto) in
         let begun : s * (columns * r) ≡ s * checked_bytes = ap (λ z. s * (columns * z)) e in
-        let both = all-summed g.summed (omega arith) in (
+        let both = all_summed g.summed (omega arith) in (
           omega (arith, g.second_is),
           ap (λ z. (s + z) % m) p ∙ both.0,
           ap (λ z. z % m) (omega (arith, g.second_is)) ∙ both.1,

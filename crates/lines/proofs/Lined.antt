@@ -16,7 +16,7 @@ use Rattle.theory.specs.Rounds.Texts.{within_report_one}
 use Rattle.octets.specs.Written.{Written, Stored}
 use Rattle.octets.proofs.Steps.{join, kept}
 use Rattle.octets.proofs.Storing.{stored}
-use Rattle.equations.specs.Told.{told as parts-told, Proper}
+use Rattle.equations.specs.Told.{told as parts_told, Proper}
 use Rattle.equations.specs.declared.Parts.{Parts}
 use Rattle.equations.specs.declared.Parts.TheVariants.{Held, Refused}
 use Rattle.figures.specs.Within.{FileWithins}
@@ -50,7 +50,7 @@ module _ {f : Input} {k : ℕ} {found : Parts} {before : List ℕ} (w : FileWith
   -- Parts are told in a line of their own.
   pub held_line : {parts r : ℕ} {after : List ℕ} → found ≡ Held parts → Written before 0 (within_text k parts) after r
       → WithinReportOutcome f k before (told (Length r)) after
-  held_line q t = printed room (stands (record { answer = _; outcome = subst (λ (p : Parts). FileWithin f k (parts-told p)) q w.outcome; line = refl }) t)
+  held_line q t = printed room (stands (record { answer = _; outcome = subst (λ (p : Parts). FileWithin f k (parts_told p)) q w.outcome; line = refl }) t)
 
   -- A refusal is told as the report tells it.
   pub refused_line : {number place : ℕ} (r : Printed) {after : List ℕ} → found ≡ Refused number place
@@ -61,7 +61,7 @@ module _ {f : Input} {k : ℕ} {found : Parts} {before : List ℕ} (w : FileWith
       (λ t l.
       record {
         answer = no_within number place;
-        outcome = subst (λ (p : Parts). FileWithin f k (parts-told p)) q w.outcome;
+        outcome = subst (λ (p : Parts). FileWithin f k (parts_told p)) q w.outcome;
         line = l ∙ rw (ne_eqb number 0 (λ z. omega arith));
       })
 

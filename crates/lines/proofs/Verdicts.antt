@@ -12,7 +12,7 @@ use Rattle.theory.specs.Judging.Texts.{judged_one, file_judged_number}
 use Rattle.octets.specs.Written.{Written, Stored}
 use Rattle.octets.proofs.Steps.{join, kept}
 use Rattle.octets.proofs.Storing.{stored}
-use Rattle.equations.specs.Judge.{told as verdict-told}
+use Rattle.equations.specs.Judge.{told as verdict_told}
 use Rattle.equations.specs.declared.verdict.Verdict.{Verdict}
 use Rattle.equations.specs.declared.verdict.Verdict.TheVariants.{Yes, No, Refused}
 use Rattle.text.specs.Pieces.{Named}
@@ -34,10 +34,10 @@ no_written state room small a b =
     let long = kept first in
     join first (stored (omega arith) b)
 
-said : {f : Input} {shares : List ℕ} {r v : Verdict} → FileJudged f shares (verdict-told r) → r ≡ v → FileJudged f shares (verdict-told v)
-said {f} {shares} o e = subst (λ (v : Verdict). FileJudged f shares (verdict-told v)) e o
+said : {f : Input} {shares : List ℕ} {r v : Verdict} → FileJudged f shares (verdict_told r) → r ≡ v → FileJudged f shares (verdict_told v)
+said {f} {shares} o e = subst (λ (v : Verdict). FileJudged f shares (verdict_told v)) e o
 
-module _ {f : Input} {shares before : List ℕ} {found : Verdict} (o : FileJudged f shares (verdict-told found)) (room : answer_room ≤ length before) where
+module _ {f : Input} {shares before : List ℕ} {found : Verdict} (o : FileJudged f shares (verdict_told found)) (room : answer_room ≤ length before) where
   pub yes_line : {r : ℕ} {after : List ℕ} → found ≡ Yes → Stored before 0 (bytes_of "yes\n") after r
       → JudgeReportOutcome f shares before (told (Length r)) after
   yes_line q t = printed room (stands (record { verdict = right; outcome = said o q; line = refl }) (stored (omega arith) t))

@@ -3,7 +3,7 @@ use Rattle.std.specs.Prelude.{ℕ, zero, suc, ◌+◌, ◌-◌, ◌*◌, ◌/◌
 use Rattle.meaning.specs.Number.{choose}
 use Rattle.meaning.specs.Text.{bytes_of, decimal}
 use Rattle.meaning.specs.Report.{line_text, named_text}
-use Rattle.meaning.specs.Near.{Near, digits as binaryDigits}
+use Rattle.meaning.specs.Near.{Near, digits as binary_digits}
 
 -- A printed figure: digits × 10 ^ -tens. It has six digits, or is 0 or 1 with no tens.
 pub record Figure : Type 0 where
@@ -21,7 +21,7 @@ one = figure 1 0
 
 -- A number with its highest 60 binary digits alone, and zeros for the others.
 abbrev pub highest : ℕ → ℕ
-highest x = let k = binaryDigits x - 60 in x / 2 ^ k * 2 ^ k
+highest x = let k = binary_digits x - 60 in x / 2 ^ k * 2 ^ k
 
 -- p times ten, b times over, each time with the highest 60 binary digits alone.
 unfoldable pub grown : ℕ → ℕ → ℕ

@@ -13,7 +13,7 @@ use Rattle.theory.specs.Files.FileOne.{file_numbers}
 use Rattle.theory.specs.Files.Right.{bounded}
 use Rattle.theory.specs.Numbers.Tab.{tab_length}
 use Rattle.chain.specs.declared.Chain.{Chain as Frame}
-use Rattle.chainfile.specs.Tells.{Narrow, ShortFor, OpenOutcome, told as toldReading, tables}
+use Rattle.chainfile.specs.Tells.{Narrow, ShortFor, OpenOutcome, told as told_reading, tables}
 use Rattle.chainfile.specs.declared.Reading.{Reading}
 use Rattle.chainfile.specs.declared.Reading.TheVariants as reader
 use Rattle.opening.specs.Sizes.{edges_at}
@@ -100,25 +100,25 @@ module _ (f : Input) (table : List ℕ) (room : edges_at ≤ length table) where
       let e = ap (λ (t : Tables). t.edges) d ∙ all_lent in
       split_back after.edges ∙ (λ i. tables (split table).denominators (e i) (split table).order (split table).rewards)
 
-  pub refused_read : {r : Reading} {after : Tables} {n p : ℕ} → OpenOutcome f (made table) (toldReading r) after → r ≡ reader.Refused n p
+  pub refused_read : {r : Reading} {after : Tables} {n p : ℕ} → OpenOutcome f (made table) (told_reading r) after → r ≡ reader.Refused n p
       → OpeningOutcome f table (Refused n p) (back table after.edges)
   refused_read {after = after} (OpenOutcome.refused n' p' w e d) q =
-      OpeningOutcome.read room (OpenOutcome.refused n' p' w (sym (ap toldReading q) ∙ e) (same d))
+      OpeningOutcome.read room (OpenOutcome.refused n' p' w (sym (ap told_reading q) ∙ e) (same d))
   refused_read (OpenOutcome.narrow w s e d) q =
-      OpeningOutcome.read room (OpenOutcome.narrow w (subst (λ A. A) narrow_is s) (sym (ap toldReading q) ∙ e) (same d))
+      OpeningOutcome.read room (OpenOutcome.narrow w (subst (λ A. A) narrow_is s) (sym (ap told_reading q) ∙ e) (same d))
   refused_read (OpenOutcome.accepted w s e d) q =
-      absurd (omega (arith, ap (λ (a : Numbers). a.states) (sym (ap toldReading q) ∙ e), bounded f (w.blocks 0 (omega arith))))
+      absurd (omega (arith, ap (λ (a : Numbers). a.states) (sym (ap told_reading q) ∙ e), bounded f (w.blocks 0 (omega arith))))
 
   -- The numbers of the states are put where they belong.
-  pub chain_read : {r : Reading} {after : Tables} {c : Frame} {count : ℕ} {stored_in : List ℕ} → OpenOutcome f (made table) (toldReading r) after
+  pub chain_read : {r : Reading} {after : Tables} {c : Frame} {count : ℕ} {stored_in : List ℕ} → OpenOutcome f (made table) (told_reading r) after
       → r ≡ reader.Chain c count
       → split stored_in
       ≡ stored (take c.states after.denominators) (take c.states after.order) (take c.states after.rewards) (split (back table after.edges))
       → OpeningOutcome f table (Chain (record { chain = c; edges = count })) stored_in
-  chain_read (OpenOutcome.refused n p w e d) q s = absurd (omega (arith, ap (λ (a : Numbers). a.number) (sym (ap toldReading q) ∙ e), file_numbers w))
-  chain_read (OpenOutcome.narrow w n e d) q s = absurd (omega (arith, ap (λ (a : Numbers). a.number) (sym (ap toldReading q) ∙ e)))
+  chain_read (OpenOutcome.refused n p w e d) q s = absurd (omega (arith, ap (λ (a : Numbers). a.number) (sym (ap told_reading q) ∙ e), file_numbers w))
+  chain_read (OpenOutcome.narrow w n e d) q s = absurd (omega (arith, ap (λ (a : Numbers). a.number) (sym (ap told_reading q) ∙ e)))
   chain_read {after = after} {c} {count} (OpenOutcome.accepted w n e d) q s =
-      let z : toldReading (reader.Chain c count) ≡ reading f = sym (ap toldReading q) ∙ e in
+      let z : told_reading (reader.Chain c count) ≡ reading f = sym (ap told_reading q) ∙ e in
       let size : (g : ℕ → ℕ) → c.states ≡ length (tab_from 0 (head_states f) g) = λ g. ap (λ (a : Numbers). a.states) z ∙ sym (tab_length 0 (head_states f) g) in
       let fd = (at (denominators_in f) _ _ (size (denominator_in f)) (ap (λ (t : Tables). t.denominators) d)).1 in
       let fo = (at (orders_in f) _ _ (size (order_in f)) (ap (λ (t : Tables). t.order) d)).1 in
@@ -130,11 +130,11 @@ module _ (f : Input) (table : List ℕ) (room : edges_at ≤ length table) where
       (s ∙ (λ i. stored (fd i) (fo i) (fr i) (b i)) ∙ (λ i. tables (filled (denominators_in f) (split table).denominators) (fe i) (filled (orders_in f) (split table).order) (filled (rewards_in f) (split table).rewards))))
 
   -- The tables that are made have the numbers of the states at their front.
-  pub states_room : {r : Reading} {after : Tables} {c : Frame} {count : ℕ} → OpenOutcome f (made table) (toldReading r) after → r ≡ reader.Chain c count → Room c after
-  states_room (OpenOutcome.refused n p w e d) q = absurd (omega (arith, ap (λ (a : Numbers). a.number) (sym (ap toldReading q) ∙ e), file_numbers w))
-  states_room (OpenOutcome.narrow w n e d) q = absurd (omega (arith, ap (λ (a : Numbers). a.number) (sym (ap toldReading q) ∙ e)))
+  pub states_room : {r : Reading} {after : Tables} {c : Frame} {count : ℕ} → OpenOutcome f (made table) (told_reading r) after → r ≡ reader.Chain c count → Room c after
+  states_room (OpenOutcome.refused n p w e d) q = absurd (omega (arith, ap (λ (a : Numbers). a.number) (sym (ap told_reading q) ∙ e), file_numbers w))
+  states_room (OpenOutcome.narrow w n e d) q = absurd (omega (arith, ap (λ (a : Numbers). a.number) (sym (ap told_reading q) ∙ e)))
   states_room {after = after} {c} {count} (OpenOutcome.accepted w n e d) q =
-      let few : c.states ≡ head_states f = ap (λ (a : Numbers). a.states) (sym (ap toldReading q) ∙ e) in
+      let few : c.states ≡ head_states f = ap (λ (a : Numbers). a.states) (sym (ap told_reading q) ∙ e) in
       let b = bounded f (w.blocks 0 (omega arith)) in
       let size : (g : ℕ → ℕ) → c.states ≡ length (tab_from 0 (head_states f) g) = λ g. few ∙ sym (tab_length 0 (head_states f) g) in
       record {

@@ -5,7 +5,7 @@ use mathlib.Core.List.{List}
 use native.Mathlib.Omega.{arith}
 use Rattle.meaning.specs.Block.{Input}
 use Rattle.meaning.specs.File.{Tables, Reading as Numbers, no_reading}
-use Rattle.chainfile.specs.Tells.{OpenOutcome, told as toldReading}
+use Rattle.chainfile.specs.Tells.{OpenOutcome, told as told_reading}
 use Rattle.chainfile.specs.declared.Reading.{Reading}
 use Rattle.chainfile.specs.declared.Reading.TheVariants as reader
 use Rattle.chainfile.proofs.Unique.{open_unique}
@@ -28,7 +28,7 @@ unfolding reading opening
 same (Chain b) = refl
 same (Refused number place) = refl
 
-told_same : (r : Opening) → told r ≡ toldReading (reading r)
+told_same : (r : Opening) → told r ≡ told_reading (reading r)
 unfolding reading
 told_same (Chain b) = refl
 told_same (Refused number place) = refl
@@ -43,7 +43,7 @@ opening_unique {r = r} {r'} (short h e d) (short h' e' d') = (refused_two r e �
 opening_unique (short h e d) (read h' o') = absurd (omega arith)
 opening_unique (read h o) (short h' e' d') = absurd (omega arith)
 opening_unique {f} {before} {after} {after'} {r} {r'} (read h o) (read h' o') =
-    let said : (r : Opening) (t : Tables) → OpenOutcome f (split before) (told r) t → OpenOutcome f (split before) (toldReading (reading r)) t =
+    let said : (r : Opening) (t : Tables) → OpenOutcome f (split before) (told r) t → OpenOutcome f (split before) (told_reading (reading r)) t =
     λ r t. subst (λ (a : Numbers). OpenOutcome f (split before) a t) (told_same r) in
     let u = open_unique f (split before) (split after) (split after') (reading r) (reading r') (said r (split after) o) (said r' (split after') o') in
     (sym (same r) ∙ ap opening u.0 ∙ same r', u.1)

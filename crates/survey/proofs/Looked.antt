@@ -17,7 +17,7 @@ use Rattle.survey.specs.Sets.{Known}
 use Rattle.survey.specs.Told.{told}
 use Rattle.survey.specs.Looking.{asked, size_of, so_far, looked}
 use Rattle.survey.specs.declared.looking.Length.{Length}
-use Rattle.survey.specs.declared.looking.Length.TheVariants as length
+use Rattle.survey.specs.declared.looking.Length.TheVariants as size
 use Rattle.survey.specs.declared.Survey.{Survey}
 use Rattle.survey.specs.declared.Survey.TheVariants as survey
 use Rattle.survey.specs.declared.Sets.{Sets as Found}
@@ -37,10 +37,10 @@ module _ {x : Entry} {l : Lent} (u : Upto x l 3) {r : Survey} (o : SurveyOutcome
 
 -- What is taken for the length of a table that may not be lent.
 module _ {t : Length} (n : ℕ) where
-  pub wanted_none : t ≡ length.None → counted (asked t) (size_of t) n n
+  pub wanted_none : t ≡ size.None → counted (asked t) (size_of t) n n
   wanted_none e = subst (λ t. counted (asked t) (size_of t) n n) (sym e) (refl, refl)
 
-  pub wanted_of : {k : ℕ} → t ≡ length.Of k → counted (asked t) (size_of t) n k
+  pub wanted_of : {k : ℕ} → t ≡ size.Of k → counted (asked t) (size_of t) n k
   wanted_of {k} e = subst (λ t. counted (asked t) (size_of t) n k) (sym e) refl
 
 pub counted_same : (t : Length) (w : List ℕ) (n given : ℕ) → long w ≡ size_of t → counted (asked t) (size_of t) n given → counted (asked t) (long w) n given
@@ -50,13 +50,13 @@ counted_same t w n given e h = rw e h
 module _ {A : Type 0} (n list : ℕ) where
   pub lacking_in : (t : Length) → counted (asked t) (size_of t) n list → A ⊎ (size_of t < only (asked t) n) → A ⊎ (list < n)
   lacking_in t f (inl h) = inl h
-  lacking_in (length.Of k) f (inr h) = inr (omega (arith, f, h))
-  lacking_in length.None f (inr h) = absurd (omega (arith, h))
+  lacking_in (size.Of k) f (inr h) = inr (omega (arith, f, h))
+  lacking_in size.None f (inr h) = absurd (omega (arith, h))
 
   pub lacking_out : (t : Length) → counted (asked t) (size_of t) n list → A ⊎ (list < n) → A ⊎ (size_of t < only (asked t) n)
   lacking_out t f (inl h) = inl h
-  lacking_out (length.Of k) f (inr h) = inr (omega (arith, f, h))
-  lacking_out length.None f (inr h) = absurd (omega (arith, f.1, h))
+  lacking_out (size.Of k) f (inr h) = inr (omega (arith, f, h))
+  lacking_out size.None f (inr h) = absurd (omega (arith, f.1, h))
 
 -- What is said before the numbers from k on are looked at, and of all once these are cleared.
 module _ (x : Entry) (l : Lent) (k : ℕ) where
