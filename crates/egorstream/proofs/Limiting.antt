@@ -11,7 +11,7 @@ use Rattle.limitfile.specs.declared.Verdict.{Verdict}
 use Rattle.limitfile.specs.declared.Limited as file
 use Rattle.limitfile.specs.declared.Limited.TheVariants.{Judged, Refused}
 use Rattle.limitfile.proofs.Judged.{limit_proper}
-use Rattle.theory.specs.Limits.File.{file_limit_one}
+use Rattle.theory.proofs.Limits.File.{file_limit_one}
 use Rattle.egorstream.specs.Limits.{verdict_number, limited_as, Limits}
 use Rattle.egorstream.specs.declared.limits.Limited.{Limited}
 

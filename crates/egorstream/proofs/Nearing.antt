@@ -9,8 +9,8 @@ use Rattle.meaning.specs.Block.{Input}
 use Rattle.meaning.specs.Near.{Near, near, NearOutcome}
 use Rattle.meaning.specs.Miss.{MissOutcome}
 use Rattle.meaning.specs.FileNear.{From, FileNear}
-use Rattle.theory.specs.Outcomes.NearSizes.{near_small, miss_small}
-use Rattle.theory.specs.Files.NearFile.{file_near_one, file_near_place}
+use Rattle.theory.proofs.Outcomes.NearSizes.{near_small, miss_small}
+use Rattle.theory.proofs.Files.NearFile.{file_near_one, file_near_place}
 use Rattle.near.specs.Answer.{told_between, told_near, told_miss, Proper}
 use Rattle.near.specs.declared.answer.Figures.{Figures}
 use Rattle.near.specs.declared.answer.Nearly.{Nearly}

@@ -11,7 +11,7 @@ use Rattle.limitfile.specs.declared.Verdict.{Verdict}
 use Rattle.limitfile.specs.declared.Verdict.TheVariants.{Kept, Broken, Open}
 use Rattle.limitfile.specs.declared.Limited.{Limited}
 use Rattle.limitfile.specs.declared.Limited.TheVariants.{Judged, Refused}
-use Rattle.theory.specs.Limits.File.{file_limit_one}
+use Rattle.theory.proofs.Limits.File.{file_limit_one}
 
 -- Back from the words of meaning.
 verdict_of_lem : meant.Verdict → Verdict

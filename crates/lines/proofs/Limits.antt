@@ -19,7 +19,7 @@ use Rattle.limitfile.specs.declared.Verdict.{Verdict}
 use Rattle.limitfile.specs.declared.Limited.{Limited}
 use Rattle.limitfile.specs.declared.Limited.TheVariants.{Judged, Refused}
 use Rattle.limitfile.proofs.Judged.{limit_proper}
-use Rattle.theory.specs.Limits.File.{limit_report_one}
+use Rattle.theory.proofs.Limits.File.{limit_report_one}
 use Rattle.report.specs.Stands.{told, answer_of}
 use Rattle.report.specs.declared.Printed.{Printed}
 use Rattle.report.specs.declared.Printed.TheVariants.{Length}

@@ -13,7 +13,7 @@ use Rattle.meaning.specs.Text.{bytes_of}
 use Rattle.meaning.specs.Report.{refused_text, AnswerOutcome}
 use Rattle.meaning.specs.NearText.{near_text, near_room}
 use Rattle.meaning.specs.FileNear.{From, FileNear, NearReport, NearReportOutcome}
-use Rattle.theory.specs.Files.NearFile.{near_report_one}
+use Rattle.theory.proofs.Files.NearFile.{near_report_one}
 use Rattle.octets.specs.Written.{Written}
 use Rattle.near.specs.Answer.{told_between, told_near, told_miss, Proper}
 use Rattle.near.specs.declared.answer.Figures.{Figures}

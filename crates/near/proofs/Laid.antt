@@ -11,7 +11,7 @@ use Rattle.theory.specs.Numbers.Tops.{top_small}
 use Rattle.theory.specs.Chains.Fine.{Fine, fine_whole}
 use Rattle.theory.specs.Stages.Given.{given_reward, given_whole}
 use Rattle.theory.specs.Stages.NearStep.{no_cell, first_by}
-use Rattle.theory.specs.Stages.Nearly.{nearly_stage}
+use Rattle.theory.proofs.Stages.Nearly.{nearly_stage}
 use Rattle.theory.specs.Outcomes.Formed.{few_states, denominator_small, order_length, room}
 use Rattle.theory.specs.Outcomes.Whole.{formed_prepared}
 use Rattle.survey.specs.Sets.{Known, sets_of}

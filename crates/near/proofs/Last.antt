@@ -9,8 +9,8 @@ use Rattle.meaning.specs.Miss.{miss_from, miss_live, MissFigure}
 use Rattle.meaning.specs.Refusal.{Lent, work_size}
 use Rattle.meaning.specs.Outcome.{cleared}
 use Rattle.theory.specs.Numbers.Sum.{below}
-use Rattle.theory.specs.Stages.NearDigits.{near_each}
-use Rattle.theory.specs.Stages.NearLast.{last_goal, last_some}
+use Rattle.theory.proofs.Stages.NearDigits.{near_each}
+use Rattle.theory.proofs.Stages.NearLast.{last_goal, last_some}
 use Rattle.chain.specs.declared.Chain.{Chain as Given}
 use Rattle.chain.specs.Lent.{lent}
 use Rattle.survey.specs.Sets.{chain_of, sets_of}

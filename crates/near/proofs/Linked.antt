@@ -12,8 +12,8 @@ use Rattle.theory.specs.Numbers.Tops.{top_digits}
 use Rattle.theory.specs.Rows.Relation.{combined_cell, combined_own}
 use Rattle.theory.specs.Stages.Blended as new
 use Rattle.theory.specs.Stages.Last.{Prepared}
-use Rattle.theory.specs.Stages.Nearly.{nearly_stage}
-use Rattle.theory.specs.Stages.NearDigits.{near_digits, near_outside_digits}
+use Rattle.theory.proofs.Stages.Nearly.{nearly_stage}
+use Rattle.theory.proofs.Stages.NearDigits.{near_digits, near_outside_digits}
 use Rattle.near.specs.Word.{word, value}
 use Rattle.near.specs.Row.{value_at, settled_words, replaced_words}
 use Rattle.near.specs.Step.{sum_of}

@@ -11,7 +11,7 @@ use Rattle.meaning.specs.Miss.{MissOutcome}
 use Rattle.meaning.specs.FileNear.{FileNear, lent_from}
 use Rattle.meaning.specs.FileNear as asked
 use Rattle.theory.specs.Files.FileOne.{file_numbers}
-use Rattle.theory.specs.Files.NearFile.{file_near_one}
+use Rattle.theory.proofs.Files.NearFile.{file_near_one}
 use Rattle.near.proofs.Unique.{told_one}
 use Rattle.chain.specs.declared.Chain.{Chain}
 use Rattle.elimination.specs.Own.{ours, Found}

@@ -18,7 +18,6 @@ pub mod Opened
 pub mod Decided
 pub mod ReportOne
 pub mod StepsOne
-pub mod NearFile
 pub mod Lengths
 pub mod SalvageOne
 pub mod SalvageExists

@@ -1,6 +1,3 @@
 -- Limits: a word says one limit, a verdict holds, and what is said of a chain file and a limit is one.
 pub mod Word
-pub mod Verdict
-pub mod File
 pub mod Figure
-pub mod Near

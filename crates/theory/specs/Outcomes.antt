@@ -16,14 +16,9 @@ pub mod Surveyed
 pub mod Entries
 pub mod DemandTwo
 pub mod DemandThree
-pub mod NearHolds
+pub mod NearFigure
 pub mod NearOne
-pub mod NearClose
-pub mod MissHolds
-pub mod MissClose
-pub mod NearSizes
 pub mod MissOne
-pub mod NearShown
 pub mod LeftHolds
 pub mod LeftOne
 pub mod Small

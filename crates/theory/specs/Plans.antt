@@ -6,5 +6,4 @@ pub mod Copies
 pub mod Filed
 pub mod More
 pub mod Judged
-pub mod Fewest
 pub mod Told

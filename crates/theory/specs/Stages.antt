@@ -13,10 +13,6 @@ pub mod Blended
 pub mod Spreads
 pub mod Outset
 pub mod NearStep
-pub mod Nearly
-pub mod NearLast
-pub mod NearDigits
-pub mod Missed
 pub mod Left
 pub mod Records
 pub mod Rewards

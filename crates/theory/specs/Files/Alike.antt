@@ -3,40 +3,7 @@ use Rattle.std.specs.Prelude.{ℕ, ◌+◌, ◌*◌, ◌-◌, ◌/◌, ◌%◌, 
 use Rattle.std.proofs.Common.{sym, ap, ap₂, ◌∙◌, ⊎_elim, inr, arith, ext_get_or}
 use Rattle.meaning.specs.Number.{sum_to, choose, tab_from}
 use Rattle.meaning.specs.Chain.{Chain, edge_size, edge_number}
-use Rattle.meaning.specs.Block.{
-  Input,
-  whole_file,
-  byte,
-  block_byte,
-  number_at,
-  block_size,
-  block_at,
-  block_number_at,
-  version_in,
-  count_at,
-  records_at,
-  record_size,
-  full_block,
-  checked_bytes,
-  blocks_of,
-  head_states,
-  head_start,
-  head_edges,
-  head_zeros,
-  state_blocks,
-  demanded,
-  record_at,
-  state_at,
-  edge_at,
-  denominator_in,
-  reward_in,
-  flag_byte,
-  flag_in,
-  order_byte,
-  order_in,
-  edge_reward_byte,
-  weight_byte,
-}
+use Rattle.meaning.specs.Block.{Input, whole_file, byte, block_byte, number_at, block_size, block_at, block_number_at, version_in, count_at, records_at, record_size, full_block, checked_bytes, blocks_of, head_states, head_edges, head_zeros, state_blocks, demanded, record_at, state_at, edge_at, denominator_in, reward_in, flag_byte, flag_in, order_byte, order_in, edge_reward_byte, weight_byte}
 use Rattle.meaning.specs.File.{kind_of, count_of, Accepted, edge_in, chain_in, orders_in, rewards_in}
 use Rattle.meaning.specs.Write.{Bytes}
 use Rattle.theory.specs.Numbers.Sum.{below}

@@ -7,28 +7,7 @@ use Rattle.std.proofs.Math.Logic.{⊎_elim}
 use Rattle.meaning.specs.Number.{sum_to}
 use Rattle.meaning.specs.Chain.{edge_size, edge_number, weight}
 use Rattle.meaning.specs.Refusal.{paid, Applies}
-use Rattle.meaning.specs.Block.{
-  Input,
-  byte,
-  number_at,
-  kind_at,
-  version_at,
-  block_number_at,
-  count_at,
-  records_at,
-  record_size,
-  full_block,
-  second_version,
-  version_in,
-  head_states,
-  head_edges,
-  state_blocks,
-  demanded,
-  state_at,
-  edge_at,
-  denominator_in,
-  weight_in,
-}
+use Rattle.meaning.specs.Block.{Input, byte, kind_at, version_at, block_number_at, count_at, records_at, record_size, full_block, second_version, version_in, head_states, head_edges, state_blocks, demanded, state_at, edge_at, denominator_in, weight_in}
 use Rattle.meaning.specs.File.{
   kind_of,
   count_of,

@@ -1,5 +1,5 @@
 -- A chain file with the chosen order: the writer refuses nothing of it, only 20 to 24 and 3 to 9 come, and there is one outcome.
-use Rattle.std.specs.Prelude.{ℕ, zero, suc, ◌+◌, ◌*◌, ◌≤◌, ◌<◌, ◌≡◌, refl, ◌⊎◌, List, [], length}
+use Rattle.std.specs.Prelude.{ℕ, zero, suc, ◌+◌, ◌*◌, ◌≤◌, ◌<◌, ◌≡◌, refl, ◌⊎◌, List, length}
 use Rattle.std.proofs.Common.{sym, ap, ap₂, subst, ◌∙◌, inl, inr, arith}
 use Rattle.meaning.specs.Number.{sum_to, filled}
 use Rattle.meaning.specs.Chain.{most_reward, edge_size, edge_number}

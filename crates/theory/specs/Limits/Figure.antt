@@ -1,13 +1,13 @@
 -- Every printed figure but 0 is the word of a limit, and says its own value.
 use Prim.Native.Nat.{ℕ, zero, suc, ◌+◌, ◌-◌, ◌*◌, ◌/◌, ◌%◌, ◌^◌, ◌≤◌, ◌<◌}
-use Rattle.std.specs.Prelude.{◌≡◌, refl, ◌⊎◌, List, [], ◌∷◌, ◌++◌, length, get_or}
-use Rattle.std.proofs.Common.{sym, ap₂, subst, ◌∙◌, inl, inr, ⊎_elim, le-ltb}
+use Rattle.std.specs.Prelude.{◌≡◌, refl, List, [], ◌∷◌, length, get_or}
+use Rattle.std.proofs.Common.{sym, ap₂, ◌∙◌, inl, inr, ⊎_elim, le-ltb}
 use Rattle.std.proofs.Math.Path.{ap}
 use native.Mathlib.Omega.{arith}
 use Rattle.std.proofs.Math.Nat.{pow-le-pow_right}
-use Rattle.meaning.specs.Text.{bytes_of, read_on, IsDigit, decimal, decimal_in}
+use Rattle.meaning.specs.Text.{read_on, IsDigit, decimal, decimal_in}
 use Rattle.meaning.specs.NearText.{Figure, figure, nought, one, last_digits, figure_text}
-use Rattle.meaning.specs.Limit.{Limit, limit, most_tens, IsLimit, DigitsIn, Spelled, spelled_limit, Says}
+use Rattle.meaning.specs.Limit.{limit, most_tens, Spelled, Says}
 use Rattle.theory.specs.Numbers.Sum.{below}
 use Rattle.theory.specs.Numbers.Decimal.{decimal_small, decimal_more}
 use Rattle.theory.specs.Numbers.Printed.{Proper}

@@ -6,7 +6,7 @@ use Rattle.std.proofs.Common.{sym, ap, ◌∙◌, ⊎_elim, mul-le-mul, eq-eqb, 
 use Rattle.std.proofs.Math.Bool.{true, false}
 use native.Mathlib.Omega.{arith}
 use Rattle.meaning.specs.Number.{sum_to, only, choose, present, bit}
-use Rattle.meaning.specs.Chain.{Chain, to, Goal}
+use Rattle.meaning.specs.Chain.{Chain, Goal}
 use Rattle.meaning.specs.Row.{cell, exact}
 use Rattle.meaning.specs.Step.{Table, row, Sets, removed, after}
 use Rattle.meaning.specs.Refusal.{plain}

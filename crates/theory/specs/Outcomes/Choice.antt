@@ -1,6 +1,6 @@
 -- The chosen order is one, it is each state once, and its products sum to what an exact run's step list shows.
 use Prim.Native.Nat.{ℕ, zero, suc, ◌+◌, ◌*◌, ◌-◌, ◌≤◌, ◌<◌}
-use Rattle.std.specs.Prelude.{◌≡◌, refl, Bool, true, false, List, [], length, get_or, take}
+use Rattle.std.specs.Prelude.{◌≡◌, refl, Bool, true, false, List, length, get_or, take}
 use Rattle.std.proofs.Common.{sym, ap₂, subst, ◌∙◌, inl, inr, ⊎_elim, arith, length-drop, ext_get_or, get_or-drop}
 use Rattle.std.proofs.Math.Path.{ap}
 use Rattle.meaning.specs.Number.{sum_to, only}

@@ -1,6 +1,6 @@
 -- Two inputs whose edges differ in rewards alone: one chance, one pair of bounds, one step list; and one expected reward where they differ on
 -- edges that leave a goal.
-use Rattle.std.specs.Prelude.{ℕ, ◌+◌, ◌*◌, ◌<◌, ◌≡◌, refl, List, Bool, true, false, length}
+use Rattle.std.specs.Prelude.{ℕ, ◌+◌, ◌*◌, ◌<◌, ◌≡◌, refl, List, Bool, false, length}
 use Rattle.std.proofs.Common.{sym, ap, subst, ◌∙◌, arith}
 use Rattle.meaning.specs.Number.{filled, Reduced}
 use Rattle.meaning.specs.Chain.{Chain, denominator, edge_count, from, edge_reward, Goal}

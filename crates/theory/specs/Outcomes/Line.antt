@@ -1,12 +1,10 @@
 -- A chain that is nearly a line: the sum of the products along its order has a limit.
-use Rattle.std.specs.Prelude.{ℕ, ◌+◌, ◌*◌, ◌-◌, ◌≤◌, ◌<◌, ◌≡◌, refl, true, false, List, get_or, take}
+use Rattle.std.specs.Prelude.{ℕ, ◌+◌, ◌*◌, ◌-◌, ◌≤◌, ◌<◌, ◌≡◌, refl, true, false, List, get_or}
 use Rattle.std.proofs.Common.{ap, inl, inr, ⊎_elim, arith}
 use Rattle.meaning.specs.Number.{sum_to, only}
 use Rattle.meaning.specs.Chain.{Chain}
 use Rattle.meaning.specs.Step.{Sets, Right}
-use Rattle.meaning.specs.Refusal.{Lent, Entry, listing, bare, WellFormed}
-use Rattle.meaning.specs.Outcome.{Answer}
-use Rattle.meaning.specs.Steps.{StepRecord, record_of, StepsOutcome}
+use Rattle.meaning.specs.Refusal.{Lent, Entry, bare, WellFormed}
 use Rattle.meaning.specs.Survey.{Count}
 use Rattle.meaning.specs.Choice.{product_at, Chosen, products_to, Choice, ChoiceOutcome, list_wrong, refused, chosen}
 use Rattle.meaning.specs.Line.{counts, ShortEdges, products_along}
@@ -18,7 +16,7 @@ use Rattle.theory.specs.Stages.Last.{Prepared}
 use Rattle.theory.specs.Outcomes.Formed.{formed_fine, start_in}
 use Rattle.theory.specs.Outcomes.Places.{refused_places}
 use Rattle.theory.specs.Outcomes.Whole.{formed_prepared}
-use Rattle.theory.specs.Outcomes.StepsStates.{Removable, steps_through, steps_sum}
+use Rattle.theory.specs.Outcomes.StepsStates.{Removable}
 use Rattle.theory.specs.Outcomes.Band.{products_few, places_all}
 use Rattle.theory.specs.Outcomes.TurnsCounted.{turns_few}
 use Rattle.theory.specs.Outcomes.Choice.{chosen_turns, choice_order}
@@ -34,17 +32,6 @@ pub line_limit : (x : Entry) (l : Lent) → WellFormed x l → x.order ≡ true 
     → products_along l.chain k l.order ≤ m * (b + 1) * (b + 3)
 line_limit x l formed lent whole k right m b number short =
     omega (arith, prepared_limit l.chain k l.order (formed_prepared x l formed lent whole k right) m b number short)
-
--- The same in the words of the step list: where the companion answers, the sum over the records that it wrote.
-pub steps_limit : (l : Lent) {before after : List StepRecord} {a : Answer} {count : ℕ} {w : List ℕ} → a.number ≡ 0
-    → StepsOutcome l before a count w after → (k : Sets) → Right l.chain k → (m b : ℕ)
-    → Count (Removable l.chain) l.chain.states m → ShortEdges l.chain k l.order b → (d : StepRecord)
-    → sum_to (λ i. let r = get_or (take count after) i d in r.rows * r.columns) count ≤ m * (b + 1) * (b + 3)
-unfolding record_of
-steps_limit l answers s k right m b number short d =
-    let run = steps_through l answers s in
-    rw (steps_sum l answers s (λ r. r.rows * r.columns) d k right)
-    (line_limit listing l run.formed refl refl k right m b number short)
 
 -- And of a chosen order, where that is such an order: the sum that is answered with it.
 module _ (c : Chain) (k : Sets) (o : List ℕ) {turns : ℕ} (x : Chosen c k o turns) where

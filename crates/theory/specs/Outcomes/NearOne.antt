@@ -10,7 +10,7 @@ use Rattle.theory.specs.Chains.Sets.{right_one}
 use Rattle.theory.specs.Outcomes.Begin.{won, lost, live, begins}
 use Rattle.theory.specs.Outcomes.Computed.{Computed, computed, figure, set_in}
 use Rattle.theory.specs.Outcomes.Determined.{outcome_one}
-use Rattle.theory.specs.Outcomes.NearHolds.{near_figure}
+use Rattle.theory.specs.Outcomes.NearFigure.{near_figure}
 
 module _ (l : Lent) where
   abbrev c : Chain

@@ -1,5 +1,5 @@
 -- Every D is above 0: in each engine a live state has weight outside its own loop at its turn, and a live start has at the end.
-use Rattle.std.specs.Prelude.{ℕ, ◌≡◌, refl, Bool, true, false}
+use Rattle.std.specs.Prelude.{ℕ, ◌≡◌, refl, Bool, true}
 use Rattle.meaning.specs.Row.{exact, rounding}
 use Rattle.meaning.specs.Refusal.{Lent, Entry, plain, paid, WellFormed}
 use Rattle.meaning.specs.Stop.{earns}

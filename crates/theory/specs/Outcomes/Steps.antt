@@ -1,6 +1,6 @@
 -- The companion of the entry for the chance, which writes the step list, has one outcome: answer, count, work table and list; and its list
 -- keeps its length.
-use Rattle.std.specs.Prelude.{ℕ, ◌≤◌, ◌≡◌, refl, List, [], length, drop}
+use Rattle.std.specs.Prelude.{ℕ, ◌≤◌, ◌≡◌, refl, List, length, drop}
 use Rattle.std.proofs.Common.{sym, ap, subst, ◌∙◌, arith, length-append, length-drop}
 use Rattle.meaning.specs.Number.{filled}
 use Rattle.meaning.specs.Row.{exact}

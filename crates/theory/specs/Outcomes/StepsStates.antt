@@ -3,7 +3,7 @@
 use Rattle.std.specs.Prelude.{ℕ, ◌<◌, ◌≡◌, refl, ◌↔◌, Bool, true, false, length, get_or, take, drop, eqb}
 use Rattle.std.proofs.Common.{ap, ap₂, ◌∙◌, arith, take_all, ne_eqb, eqb-true}
 use Rattle.std.proofs.Math.Logic.Dec
-use mathlib.Core.List.{List, [], map, filter}
+use mathlib.Core.List.{List, map, filter}
 use Rattle.std.proofs.Math.Decide.{ℕ_discrete}
 use Rattle.std.proofs.Math.Seq.{take-append_seam}
 use Rattle.std.proofs.lemmas.Bool.{eqb-false}

@@ -6,7 +6,7 @@ use Rattle.meaning.specs.Number.{bit}
 use Rattle.meaning.specs.Chain.{Goal}
 use Rattle.meaning.specs.Step.{Sets}
 use Rattle.meaning.specs.Refusal.{Lent, Entry, WellFormed}
-use Rattle.meaning.specs.Survey.{Count, none, Survey, no_survey, surveys, SurveyOutcome, refused, surveyed}
+use Rattle.meaning.specs.Survey.{Count, Survey, no_survey, surveys, SurveyOutcome, refused, surveyed}
 use Rattle.theory.specs.Chains.Sets.{right_one}
 use Rattle.theory.specs.Numbers.Bits.{bit_below, set_apart}
 use Rattle.theory.specs.Outcomes.Formed.{some_goal, goals_in_lem}

@@ -1,11 +1,11 @@
 -- The turns of a chosen order: what they read of it, what holds of the table at each of them, and how many they are.
 use Prim.Native.Nat.{ℕ, zero, suc, ◌≤◌, ◌<◌}
 use Rattle.std.proofs.Math.Logic.{inl}
-use Rattle.std.specs.Prelude.{◌≡◌, refl, Bool, true, List, []}
+use Rattle.std.specs.Prelude.{◌≡◌, refl, Bool, true, List}
 use Rattle.std.proofs.Common.{sym, ap₂, ◌∙◌, arith}
 use Rattle.std.proofs.Math.Path.{ap, subst}
 use Rattle.std.proofs.Math.ListN.{get_or}
-use Rattle.meaning.specs.Number.{only, choose}
+use Rattle.meaning.specs.Number.{choose}
 use Rattle.meaning.specs.Chain.{Chain, Goal}
 use Rattle.meaning.specs.Row.{exact}
 use Rattle.meaning.specs.Step.{Table, row, Sets, Right, outside, removed, goes, after}

@@ -1,7 +1,7 @@
 -- What is asked of a plan's file is the plan's: its near chances and the verdict on it; and each plan has one verdict.
 use Rattle.std.specs.Prelude.{ℕ, ◌≤◌, ◌<◌, ◌≡◌, refl, List, []}
 use Rattle.std.proofs.Common.{sym, ap₂, subst, ◌∙◌, inl, inr, ⊎_elim, arith}
-use Rattle.meaning.specs.Refusal.{Lent, own_work, Beyond, plain}
+use Rattle.meaning.specs.Refusal.{Lent, own_work, Beyond}
 use Rattle.meaning.specs.Outcome.{Answer, refusal, fraction, ChanceOutcome}
 use Rattle.meaning.specs.Block.{whole_file}
 use Rattle.meaning.specs.File.{plain_in}

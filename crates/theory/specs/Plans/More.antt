@@ -1,7 +1,7 @@
 -- More copies: with the same weights, the chance that no copy is left before the finish is smaller.
 use Prim.Native.Nat.{ℕ, zero, suc, ◌+◌, ◌*◌, ◌-◌, ◌≤◌, ◌<◌, min}
 use Rattle.std.specs.Prelude.{◌≡◌, refl}
-use Rattle.std.proofs.Common.{sym, ap, subst, ◌∙◌, mul-pos, mul-le-mul_left, eq-or-lt_of_le}
+use Rattle.std.proofs.Common.{sym, ap, subst, ◌∙◌, mul-pos, mul-le-mul_left}
 use Rattle.std.proofs.Math.Logic.{⊎_elim}
 use native.Mathlib.Omega.{arith}
 use Rattle.std.proofs.Math.Nat.{mul-lt-mul_of_pos_left, lt_of_mul-lt-mul_left}
@@ -9,15 +9,12 @@ use Rattle.meaning.specs.Chain.{from, to, row_sum, PathTo, ToGoal}
 use Rattle.meaning.specs.Figure.{Shares, Chance}
 use Rattle.meaning.specs.Refusal.{plain}
 use Rattle.meaning.specs.Outcome.{Answer}
-use Rattle.meaning.specs.Demand.{AtMost}
 use Rattle.meaning.specs.Copies.{Plan, Sensible, finished, copies_states, copies_edges, copies_chain, copies_lent, copies_wrong, weight_wrong, CopiesOutcome, refused, large, planned}
 use Rattle.meaning.specs.PlanTable.{Weights, with_copies}
 use Rattle.theory.specs.Numbers.Sum.{below}
 use Rattle.theory.specs.Numbers.Bits.{in_one}
 use Rattle.theory.specs.Numbers.Tab.{tab_at}
-use Rattle.theory.specs.Outcomes.Formed.{formed_fine}
 use Rattle.theory.specs.Outcomes.Existence.{chances_exist}
-use Rattle.theory.specs.Figures.Unique.{chance_one}
 use Rattle.theory.specs.Plans.Kinds.{Kind, loses, rebuilt, ends, empty, done, kind, losing, copies_count_lem}
 use Rattle.theory.specs.Plans.Sums.{flow_between, flow_full}
 use Rattle.theory.specs.Plans.Formed.{in_range_lem, copies_plain}
@@ -161,22 +158,3 @@ module _ (g : Weights) where
         ap (λ z. z * (d * q)) (C'.share e y S'),
         mul-lt-mul_of_pos_left (shares_less s s' h S S') (mul-pos C.lowest.whole C'.lowest.whole),
       ))
-
-  -- More copies never hurt.
-  pub more_copies_most : {n m : ℕ} → Sensible (with_copies g n) → Sensible (with_copies g m) → n ≤ m → {p q p' q' : ℕ}
-      → Chance (copies_chain (with_copies g n)) p q → Chance (copies_chain (with_copies g m)) p' q' → AtMost p' q' p q
-  more_copies_most {n} {m} s s' h {p} {q} {p'} {q'} C C' =
-      ⊎_elim
-      (λ (e : n ≡ m).
-      let o = chance_one (formed_fine plain (copies_lent (with_copies g m)) (copies_plain s') refl) (rw e at C) C' in
-      rw (o.0, o.1) (omega arith))
-      (λ (l : n < m). omega (arith, more_copies_less s s' l C C'))
-      (eq-or-lt_of_le h)
-
-  -- In the planner's words: of two answers that are chances, that for more copies is the smaller.
-  pub planned_less : {n m : ℕ} {a b : Answer} → CopiesOutcome (with_copies g n) a → CopiesOutcome (with_copies g m) b → a.number ≡ 0 → b.number ≡ 0
-      → n < m → b.numerator * a.denominator < a.numerator * b.denominator
-  planned_less o o' z z' h =
-      let (s, C) = answered o z in
-      let (s', C') = answered o' z' in
-      more_copies_less s s' h C C'

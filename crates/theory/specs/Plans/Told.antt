@@ -1,5 +1,5 @@
 -- What the planners say is one: the near chances of a plan, the table of the weights, and the fewest copies.
-use Rattle.std.specs.Prelude.{ℕ, zero, suc, ◌+◌, ◌-◌, ◌≤◌, ◌<◌, ◌≡◌, refl, Bool, true, false, List, [], ◌++◌, leb, ltb}
+use Rattle.std.specs.Prelude.{ℕ, zero, suc, ◌-◌, ◌≤◌, ◌<◌, ◌≡◌, refl, Bool, true, false, List, [], ◌++◌, leb, ltb}
 use Rattle.std.proofs.Common.{sym, ap, ap₂, ◌∙◌, arith, leb-true}
 use Rattle.meaning.specs.Number.{choose}
 use Rattle.meaning.specs.Text.{bytes_of}
@@ -7,9 +7,9 @@ use Rattle.meaning.specs.Report.{named_text, refused_text}
 use Rattle.meaning.specs.Near.{Near, near}
 use Rattle.meaning.specs.Copies.{Plan, most_copies}
 use Rattle.meaning.specs.Limit.{Limit}
-use Rattle.meaning.specs.FileLimit.{Verdict, kept, broken}
+use Rattle.meaning.specs.FileLimit.{Verdict}
 use Rattle.meaning.specs.PlanTable.{PlanNear, Weights, copies_line, table_text, PlanTable}
-use Rattle.meaning.specs.Fewest.{Verdicts, Fewest, fewest_text, FewestReport}
+use Rattle.meaning.specs.Fewest.{Fewest, fewest_text, FewestReport}
 use Rattle.theory.specs.Outcomes.Determined.{meet}
 use Rattle.theory.specs.Outcomes.NearOne.{near_determined}
 use Rattle.theory.specs.Outcomes.MissOne.{miss_determined}

@@ -7,15 +7,7 @@ use Rattle.meaning.specs.Row.{cell}
 use Rattle.meaning.specs.Step.{Table, row, Sets, Right, outside, combined, given}
 use Rattle.theory.specs.Numbers.Sum.{same, below, sum_ext, sum_scale, sum_next}
 use Rattle.theory.specs.Numbers.Trimmed.{Trimmed}
-use Rattle.theory.specs.Figures.Spread.{
-  Spread,
-  Hands,
-  beyond,
-  handing,
-  handing_sum,
-  spread_first,
-  spread_last,
-}
+use Rattle.theory.specs.Figures.Spread.{Spread, Hands, beyond, handing, spread_first, spread_last}
 use Rattle.theory.specs.Numbers.Powers.{power_twos, total_below}
 use Rattle.theory.specs.Chains.Fine.{Fine}
 use Rattle.theory.specs.Rows.Relation.{combined_cell, combined_own}

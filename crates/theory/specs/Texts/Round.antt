@@ -8,7 +8,7 @@ use Rattle.meaning.specs.Refusal.{Lent, paid, Applies, WellFormed}
 use Rattle.meaning.specs.Block.{Input, whole_file, second_version, version_in, head_states, head_edges, reward_in, order_in}
 use Rattle.meaning.specs.File.{Accepted, orders_in, paid_in, edge_in}
 use Rattle.meaning.specs.Buffer.{Writing, writing}
-use Rattle.meaning.specs.Write.{Bytes, FileOf, filing, WriteOutcome, written}
+use Rattle.meaning.specs.Write.{Bytes, FileOf, filing, WriteOutcome}
 use Rattle.meaning.specs.Reorder.{longest_file}
 use Rattle.meaning.specs.ChainText.{chain_lines, chain_text, text_of, LinesOf, said, TextSays}
 use Rattle.meaning.specs.Translate.{Shown, MakeOutcome}

@@ -1,5 +1,5 @@
 -- What is said of a chain file and a limit is one, and holds.
-use Rattle.std.specs.Prelude.{ℕ, ◌≡◌, refl, List}
+use Rattle.std.specs.Prelude.{ℕ, ◌≡◌, List}
 use Rattle.std.proofs.Common.{sym, ap, ap₂, subst, ◌∙◌}
 use Rattle.meaning.specs.Figure.{Chance}
 use Rattle.meaning.specs.Refusal.{plain, WellFormed}
@@ -15,7 +15,7 @@ use Rattle.theory.specs.Outcomes.DemandTwo.{chance_is}
 use Rattle.theory.specs.Outcomes.Entries.{chance_determined}
 use Rattle.theory.specs.Outcomes.NearOne.{near_determined}
 use Rattle.theory.specs.Files.FileOne.{file_one, accepted_unrefused}
-use Rattle.theory.specs.Limits.Verdict.{Within, Right, Straddled, verdict_kept, verdict_broken, verdict_open}
+use Rattle.theory.proofs.Limits.Verdict.{Within, Right, Straddled, verdict_kept, verdict_broken, verdict_open}
 
 pub file_limit_one : {f : Input} {m : Limit} {a a' : Limited} → FileLimit f m a → FileLimit f m a' → a ≡ a'
 file_limit_one (no_limit_lem n e) (no_limit_lem n' e') = e ∙ sym e'

@@ -12,12 +12,12 @@ use Rattle.theory.specs.Numbers.Sum.{same}
 use Rattle.theory.specs.Numbers.Sure.{quotient, sure, lower_of}
 use Rattle.theory.specs.Numbers.Narrow.{quotient_small, quotient_large, lower_small, upper_small}
 use Rattle.theory.specs.Stages.Last.{Prepared}
-use Rattle.theory.specs.Stages.NearDigits.{near_digits, near_outside_digits}
-use Rattle.theory.specs.Stages.NearLast.{rows_most, last_some, last_twice}
+use Rattle.theory.proofs.Stages.NearDigits.{near_digits, near_outside_digits}
+use Rattle.theory.proofs.Stages.NearLast.{rows_most, last_some, last_twice}
 use Rattle.theory.specs.Outcomes.Formed.{few_states, denominator_small}
 use Rattle.theory.specs.Outcomes.Whole.{formed_prepared}
-use Rattle.theory.specs.Outcomes.NearHolds.{near_figure}
-use Rattle.theory.specs.Outcomes.MissHolds.{miss_figure}
+use Rattle.theory.specs.Outcomes.NearFigure.{near_figure}
+use Rattle.theory.specs.Outcomes.NearFigure.{miss_figure}
 
 -- A number has 30 binary digits or more, is 0, or stands over 1.
 abbrev pub Large : ℕ → ℕ → Type 0

@@ -1,5 +1,5 @@
 -- Every printed figure of a near chance, and of a chance of missing, is the word of a limit, unless it is 0.
-use Rattle.std.specs.Prelude.{ℕ, ◌+◌, ◌*◌, ◌^◌, ◌≤◌, ◌<◌, ◌≡◌, refl, ◌⊎◌, List}
+use Rattle.std.specs.Prelude.{ℕ, ◌+◌, ◌*◌, ◌^◌, ◌≤◌, ◌<◌, ◌≡◌, ◌⊎◌, List}
 use Rattle.std.proofs.Common.{ap, inl, inr, ⊎_elim, arith, le_trans}
 use Rattle.meaning.specs.Refusal.{Lent, plain, WellFormed}
 use Rattle.meaning.specs.Near.{Near, NearOutcome}
@@ -9,10 +9,10 @@ use Rattle.meaning.specs.Limit.{limit, most_tens, Says}
 use Rattle.theory.specs.Numbers.Sum.{below}
 use Rattle.theory.specs.Numbers.Tens.{tens_fewer}
 use Rattle.theory.specs.Numbers.Printed.{Lower, lower_case, Upper, upper_case, raised_next, raised_fewer, raised_one}
-use Rattle.theory.specs.Outcomes.NearSizes.{Large, NearFits, near_small, miss_small}
-use Rattle.theory.specs.Outcomes.NearClose.{near_close, near_lower}
-use Rattle.theory.specs.Outcomes.MissClose.{miss_close, miss_lower}
-use Rattle.theory.specs.Outcomes.NearShown.{NearPrinted, near_printed, miss_printed}
+use Rattle.theory.proofs.Outcomes.NearSizes.{Large, NearFits, near_small, miss_small}
+use Rattle.theory.proofs.Outcomes.NearClose.{near_close, near_lower}
+use Rattle.theory.proofs.Outcomes.MissClose.{miss_close, miss_lower}
+use Rattle.theory.proofs.Outcomes.NearShown.{NearPrinted, near_printed, miss_printed}
 use Rattle.theory.specs.Limits.Figure.{figure_says}
 
 -- One more in the last place asks for no more tens.

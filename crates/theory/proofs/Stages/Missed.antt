@@ -29,8 +29,8 @@ use Rattle.theory.specs.Stages.Outset.{outset, counted, outset_solves, outset_le
 use Rattle.theory.specs.Stages.Stage.{leaving, StageKept, kept_turn}
 use Rattle.theory.specs.Stages.Last.{Prepared}
 use Rattle.theory.specs.Stages.NearStep.{first_is, new_is, old_is, anew, anew_parts, goes_live}
-use Rattle.theory.specs.Stages.Nearly.{Nearly, passes, nearly_stage}
-use Rattle.theory.specs.Stages.NearLast.{start_kept, last_alone}
+use Rattle.theory.proofs.Stages.Nearly.{Nearly, passes, nearly_stage}
+use Rattle.theory.proofs.Stages.NearLast.{start_kept, last_alone}
 
 -- A table seen as a system in which Trap is what is reached.
 abbrev pub facing : ℕ → Table → System

@@ -7,7 +7,6 @@ use Rattle.meaning.specs.Figure.{Chance}
 use Rattle.meaning.specs.Row.{Row, cell}
 use Rattle.meaning.specs.Step.{row, Sets}
 use Rattle.meaning.specs.Refusal.{Lent, plain, WellFormed}
-use Rattle.meaning.specs.Outcome.{refused, stopped, answered}
 use Rattle.meaning.specs.Demand.{AtMost}
 use Rattle.meaning.specs.Near.{near_outside, near_stage, rows_made, Near, near, near_live, NearFigure, NearOutcome}
 use Rattle.theory.specs.Numbers.Trimmed.{close_parts}
@@ -17,9 +16,10 @@ use Rattle.theory.specs.Figures.Shares.{shares_exist}
 use Rattle.theory.specs.Figures.Below.{share_below}
 use Rattle.theory.specs.Figures.Unique.{chance_one}
 use Rattle.theory.specs.Stages.Last.{Prepared}
-use Rattle.theory.specs.Stages.NearLast.{rows_most, nearly_chance, last_outside, last_some}
+use Rattle.theory.proofs.Stages.NearLast.{rows_most, nearly_chance, last_outside, last_some}
 use Rattle.theory.specs.Outcomes.Formed.{formed_fine, few_states, start_in}
 use Rattle.theory.specs.Outcomes.Whole.{formed_prepared, chance_won, chance_lost}
+use Rattle.theory.specs.Outcomes.NearFigure.{near_figure}
 
 -- A chance is at most 1.
 pub chance_below : {c : Chain} → Fine c → c.start < c.states → (p q : ℕ) → Chance c p q → p ≤ q
@@ -70,11 +70,6 @@ chance_known fine u h =
     }
 
 module _ (l : Lent) (formed : WellFormed plain l) where
-  pub near_figure : {a : Near} {w : List ℕ} → NearOutcome l a w → NearFigure l a
-  near_figure (refused n p r e s) = absurd (formed.none n p r.applies)
-  near_figure (stopped n p f t e s) = absurd t
-  near_figure (answered f t g s) = g
-
   figure_holds : (a : Near) → NearFigure l a → NearBetween l.chain a
   figure_holds a (NearFigure.won g e) =
       subst (NearBetween l.chain) (sym e) (chance_known (formed_fine plain l formed refl) 1 (chance_won l.chain (start_in plain l formed) g))
@@ -85,4 +80,4 @@ module _ (l : Lent) (formed : WellFormed plain l) where
       (live_near l.chain k l.order (formed_prepared plain l formed refl refl k right) (few_states plain l formed) alive)
 
   pub near_holds : {a : Near} {w : List ℕ} → NearOutcome l a w → NearBetween l.chain a
-  near_holds {a} o = figure_holds a (near_figure o)
+  near_holds {a} o = figure_holds a (near_figure l formed o)

@@ -25,7 +25,7 @@ use Rattle.theory.specs.Stages.Outset.{outset, outset_leads, outset_share, outse
 use Rattle.theory.specs.Stages.Stage.{leaving, StageKept, kept_start, only_start}
 use Rattle.theory.specs.Stages.Last.{Prepared}
 use Rattle.theory.specs.Stages.NearStep.{anew, only_few}
-use Rattle.theory.specs.Stages.Nearly.{nearly_stage}
+use Rattle.theory.proofs.Stages.Nearly.{nearly_stage}
 
 -- Ones, at least one of which is left out.
 ones_most : (b : ℕ → Bool) (n : ℕ) → sum_to (λ i. only (b i) 1) n ≤ n

@@ -2,14 +2,14 @@
 use Prim.Native.Nat.{ℕ, zero, suc, ◌+◌, ◌*◌, ◌^◌, ◌≤◌, ◌<◌}
 use Rattle.std.proofs.Math.Path.{◌≡◌, refl}
 use Rattle.std.proofs.Common.{◌∙◌, ⊎_elim, eq-eqb, ne_eqb}
-use Rattle.std.specs.Prelude.{Bool, List, [], length}
+use Rattle.std.specs.Prelude.{Bool, List, length}
 use Rattle.std.proofs.Math.Bool.{true, false}
 use native.Mathlib.Omega.{arith}
 use Rattle.std.proofs.Math.ListN.{get_or}
 use Rattle.meaning.specs.Number.{sum_to, only, choose, bit}
 use Rattle.meaning.specs.Chain.{Chain}
 use Rattle.meaning.specs.Row.{Row, cell}
-use Rattle.meaning.specs.Step.{Table, row, Sets, given, combined, goes}
+use Rattle.meaning.specs.Step.{Table, row, Sets, given, combined}
 use Rattle.meaning.specs.Near.{made_anew, near_outside, near_first, near_removed, near_stage, rows_made}
 use Rattle.theory.specs.Numbers.Sum.{same}
 use Rattle.theory.specs.Numbers.Sure.{row_loss}

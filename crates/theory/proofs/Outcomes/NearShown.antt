@@ -11,11 +11,11 @@ use Rattle.meaning.specs.Miss.{MissOutcome}
 use Rattle.meaning.specs.NearText.{lower_figure, upper_figure}
 use Rattle.theory.specs.Numbers.Printed.{Proper}
 use Rattle.theory.specs.Numbers.Figured.{lower_below, lower_proper, lower_near, upper_above, upper_proper, upper_next}
-use Rattle.theory.specs.Outcomes.NearSizes.{NearFits, near_small, miss_small}
-use Rattle.theory.specs.Outcomes.NearHolds.{near_holds}
-use Rattle.theory.specs.Outcomes.NearClose.{near_upper, near_lower}
-use Rattle.theory.specs.Outcomes.MissHolds.{miss_holds}
-use Rattle.theory.specs.Outcomes.MissClose.{miss_upper, miss_lower}
+use Rattle.theory.proofs.Outcomes.NearSizes.{NearFits, near_small, miss_small}
+use Rattle.theory.proofs.Outcomes.NearHolds.{near_holds}
+use Rattle.theory.proofs.Outcomes.NearClose.{near_upper, near_lower}
+use Rattle.theory.proofs.Outcomes.MissHolds.{miss_holds}
+use Rattle.theory.proofs.Outcomes.MissClose.{miss_upper, miss_lower}
 
 -- The chance lies between the figures of its line.
 pub record NearShown (c : Chain) (a : Near) : Type 0 where

@@ -24,7 +24,7 @@ use Rattle.theory.specs.Stages.Blended.{divisor, Low, outside_trimmed, lowered_t
 use Rattle.theory.specs.Stages.Stage.{leaving, StageKept, kept_turn}
 use Rattle.theory.specs.Stages.Last.{Prepared}
 use Rattle.theory.specs.Stages.NearStep.{no_cell, goes_live, only_few, first_by, first_is, removes, new_is, old_is, anew_some, anew_none}
-use Rattle.theory.specs.Stages.Nearly.{Nearly, nearly_stage}
+use Rattle.theory.proofs.Stages.Nearly.{Nearly, nearly_stage}
 
 -- The spread of the kept rows is bounded, where at most p states were removed; one weight of each row is small; and each has its first 31
 -- digits alone.

@@ -17,12 +17,13 @@ use Rattle.theory.specs.Outcomes.Existence.{chance_is_there}
 use Rattle.theory.specs.Figures.Surely.{chance_sure}
 use Rattle.theory.specs.Figures.Unique.{chance_one}
 use Rattle.theory.specs.Stages.Last.{Prepared}
-use Rattle.theory.specs.Stages.NearLast.{rows_most, last_some, last_twice}
+use Rattle.theory.proofs.Stages.NearLast.{rows_most, last_some, last_twice}
 use Rattle.theory.specs.Outcomes.Formed.{formed_fine, few_states, start_in}
 use Rattle.theory.specs.Outcomes.Whole.{formed_prepared, chance_lost}
-use Rattle.theory.specs.Outcomes.NearHolds.{chance_below}
-use Rattle.theory.specs.Outcomes.NearClose.{CloseBy, near_rows}
-use Rattle.theory.specs.Outcomes.MissHolds.{none_trap, miss_figure, miss_holds}
+use Rattle.theory.proofs.Outcomes.NearHolds.{chance_below}
+use Rattle.theory.proofs.Outcomes.NearClose.{CloseBy, near_rows}
+use Rattle.theory.proofs.Outcomes.MissHolds.{none_trap, miss_holds}
+use Rattle.theory.specs.Outcomes.NearFigure.{miss_figure}
 
 module _ (c : Chain) (k : Sets) (o : List ℕ) (ready : Prepared c k o) (few : c.states ≤ 64) (alive : Live c c.start) where
   abbrev last : Row

@@ -11,9 +11,10 @@ use Rattle.meaning.specs.PlanTable.{Weights, with_copies}
 use Rattle.meaning.specs.Fewest.{PlanVerdict, Verdicts, Fewest}
 use Rattle.theory.specs.Numbers.Sum.{below}
 use Rattle.theory.specs.Outcomes.Existence.{chance_is_there}
-use Rattle.theory.specs.Limits.Verdict.{Within, verdict_kept, verdict_broken, within_below}
+use Rattle.theory.proofs.Limits.Verdict.{Within, verdict_kept, verdict_broken, within_below}
 use Rattle.theory.specs.Plans.Formed.{copies_plain}
-use Rattle.theory.specs.Plans.More.{answered, more_copies_most}
+use Rattle.theory.specs.Plans.More.{answered}
+use Rattle.theory.proofs.Plans.More.{more_copies_most}
 use Rattle.theory.specs.Plans.Judged.{sensible_copies}
 
 -- A plan that is kept has a chance of at most the limit, and one that is broken has not.

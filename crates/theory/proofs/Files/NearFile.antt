@@ -9,7 +9,7 @@ use Rattle.meaning.specs.Outcome.{refused, stopped, answered}
 use Rattle.meaning.specs.Near.{Near, near, NearFigure, NearOutcome}
 use Rattle.meaning.specs.FileNear.{From, chain_from, lent_from, FileNear, near_lines, NearReport}
 use Rattle.theory.specs.Outcomes.Places.{refused_places}
-use Rattle.theory.specs.Outcomes.NearShown.{NearShown, MissShown, NearPrinted, near_shown, miss_shown, near_printed, miss_printed}
+use Rattle.theory.proofs.Outcomes.NearShown.{NearShown, MissShown, NearPrinted, near_shown, miss_shown, near_printed, miss_printed}
 use Rattle.theory.specs.Outcomes.NearOne.{near_determined}
 use Rattle.theory.specs.Outcomes.MissOne.{miss_determined}
 use Rattle.theory.specs.Files.FileOne.{file_one, accepted_unrefused}

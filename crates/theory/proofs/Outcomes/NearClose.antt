@@ -12,10 +12,11 @@ use Rattle.theory.specs.Numbers.Narrow.{quotient_large, narrow_answer, narrow_pa
 use Rattle.theory.specs.Chains.Sets.{right_one}
 use Rattle.theory.specs.Outcomes.Existence.{chance_is_there}
 use Rattle.theory.specs.Stages.Last.{Prepared}
-use Rattle.theory.specs.Stages.NearLast.{rows_most, last_goal, last_some, last_twice}
+use Rattle.theory.proofs.Stages.NearLast.{rows_most, last_goal, last_some, last_twice}
 use Rattle.theory.specs.Outcomes.Formed.{few_states}
 use Rattle.theory.specs.Outcomes.Whole.{formed_prepared}
-use Rattle.theory.specs.Outcomes.NearHolds.{near_figure, near_holds}
+use Rattle.theory.proofs.Outcomes.NearHolds.{near_holds}
+use Rattle.theory.specs.Outcomes.NearFigure.{near_figure}
 
 -- The upper fraction is not far above the lower one, by the rows that were made anew.
 abbrev pub CloseBy : ℕ → Near → Type 0

@@ -6,7 +6,6 @@ use Rattle.meaning.specs.Figure.{Chance}
 use Rattle.meaning.specs.Row.{Row, cell}
 use Rattle.meaning.specs.Step.{row, Sets}
 use Rattle.meaning.specs.Refusal.{Lent, plain, WellFormed}
-use Rattle.meaning.specs.Outcome.{refused, stopped, answered}
 use Rattle.meaning.specs.Demand.{AtMost}
 use Rattle.meaning.specs.Near.{near_outside, near_stage, rows_made, Near, near}
 use Rattle.meaning.specs.Miss.{miss_live, MissFigure, MissOutcome}
@@ -16,11 +15,12 @@ use Rattle.theory.specs.Numbers.Sure.{row_loss, lower_sound, upper_sound}
 use Rattle.theory.specs.Chains.Fine.{Fine}
 use Rattle.theory.specs.Figures.Unique.{chance_one}
 use Rattle.theory.specs.Stages.Last.{Prepared}
-use Rattle.theory.specs.Stages.NearLast.{rows_most, last_out, last_outside, last_some, few_lost}
-use Rattle.theory.specs.Stages.Missed.{missed_chance}
+use Rattle.theory.proofs.Stages.NearLast.{rows_most, last_out, last_outside, last_some, few_lost}
+use Rattle.theory.proofs.Stages.Missed.{missed_chance}
 use Rattle.theory.specs.Outcomes.Formed.{formed_fine, few_states, start_in}
 use Rattle.theory.specs.Outcomes.Whole.{formed_prepared, chance_won, chance_lost}
-use Rattle.theory.specs.Outcomes.NearHolds.{chance_below}
+use Rattle.theory.proofs.Outcomes.NearHolds.{chance_below}
+use Rattle.theory.specs.Outcomes.NearFigure.{miss_figure}
 
 -- Where the chance is p over q, that of missing is q - p over q: it lies between the two fractions of an answer.
 pub record MissBetween (c : Chain) (a : Near) : Type 0 where
@@ -111,11 +111,6 @@ miss_known fine u v e h =
     }
 
 module _ (l : Lent) (formed : WellFormed plain l) where
-  pub miss_figure : {a : Near} {w : List ℕ} → MissOutcome l a w → MissFigure l a
-  miss_figure (refused n p r e s) = absurd (formed.none n p r.applies)
-  miss_figure (stopped n p f t e s) = absurd t
-  miss_figure (answered f t g s) = g
-
   figure_holds : (a : Near) → MissFigure l a → MissBetween l.chain a
   figure_holds a (MissFigure.won g e) =
       subst (MissBetween l.chain) (sym e)
@@ -128,4 +123,4 @@ module _ (l : Lent) (formed : WellFormed plain l) where
       (live_miss l.chain k l.order (formed_prepared plain l formed refl refl k right) (few_states plain l formed) alive)
 
   pub miss_holds : {a : Near} {w : List ℕ} → MissOutcome l a w → MissBetween l.chain a
-  miss_holds {a} o = figure_holds a (miss_figure o)
+  miss_holds {a} o = figure_holds a (miss_figure l formed o)

@@ -1,5 +1,5 @@
 -- A verdict holds: kept only where the chance is at most the limit, broken only where it is not, open only where the exact entry refuses.
-use Rattle.std.specs.Prelude.{ℕ, ◌*◌, ◌^◌, ◌≤◌, ◌<◌, ◌≡◌, refl, Bool, true, false, List, eqb, leb}
+use Rattle.std.specs.Prelude.{ℕ, ◌*◌, ◌^◌, ◌≤◌, ◌<◌, ◌≡◌, refl, Bool, true, false, List, eqb}
 use Rattle.std.proofs.Common.{subst, ⊎_elim, arith, mul-le-mul_right, eqb-true, leb-true, leb-false}
 use Rattle.std.proofs.Math.Nat.{le_of_mul-le-mul_left}
 use Rattle.std.proofs.lemmas.Bool.{eqb-false}
@@ -16,7 +16,7 @@ use Rattle.theory.specs.Numbers.Figured.{ten_some}
 use Rattle.theory.specs.Figures.Unique.{chance_one}
 use Rattle.theory.specs.Outcomes.Formed.{formed_fine}
 use Rattle.theory.specs.Outcomes.DemandTwo.{chance_answers, chance_refuses}
-use Rattle.theory.specs.Outcomes.NearShown.{near_shown}
+use Rattle.theory.proofs.Outcomes.NearShown.{near_shown}
 
 -- p over q is at most the limit.
 abbrev pub Within : Limit → ℕ → ℕ → Type 0

@@ -1,0 +1,4 @@
+pub mod Nearly
+pub mod NearDigits
+pub mod NearLast
+pub mod Missed
