@@ -64,7 +64,7 @@ help: ## this list
 ALONE := $(if $(shell command -v flock 2>/dev/null),flock target/.building)
 target/bin/%: $(shell find crates -name '*.rt' -o -name '*.antt') crates.txt
 	@mkdir -p target
-	@$(ALONE) rt check $* >&2
+	@$(ALONE) tests/build $* >&2
 	@test -x $@ && touch $@
 
 test: ## the gate: proves everything from nothing, then runs every test
@@ -74,11 +74,11 @@ memory: ## a sample of the tests under valgrind, on x86-64, after make test
 	tests/memory
 
 bench: ## timings beside FLINT and LAPACK
-	rt staticlib egorstream
+	tests/build egorstream
 	bench/run
 
 fmt: ## lays out every file of Rattle
-	rt fmt
+	for crate in crates/*; do (cd $$crate && rt fmt) || exit 1; done
 
-clean: ## removes target/, where all that is built lies
+clean: ## removes target/, where what is built is put; what the prover keeps lies in crates/*/out
 	rm -rf target

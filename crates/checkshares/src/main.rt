@@ -16,7 +16,7 @@ const MOST: usize = layout::QUAD * (Chain::STATES + 1) + 1;
 // Reads the table for a chain file, and prints what is said of it.
 fn judge(rt: &impl Files, out: &mut impl Write, people: &mut impl Write, file: &[u8], more: u64) {
     let mut table = [0u8; MOST];
-    let sent = match input::read_file(rt, "shares", &mut table) {
+    let sent = match input::read_file(rt, b"shares", &mut table) {
         Reading::Came(sent) => sent,
         Reading::Failed(why) => {
             output::fail(people, b"checkshares: shares", why);

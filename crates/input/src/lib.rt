@@ -110,8 +110,8 @@ pub fn read<R: Read>(file: &mut R, kept: &mut [u8]) -> Reading
     Reading::Came(came)
 }
 
-// Reads all of the file of that name. A missing file is an empty one; one that is there and cannot be opened is a failure.
-pub fn read_file(rt: &impl Files, name: &str, kept: &mut [u8]) -> Reading
+// The file of a name that is text.
+fn read_named(rt: &impl Files, name: &str, kept: &mut [u8]) -> Reading
     ensures { Reads kept.old kept.new result }
 {
     match fs::open(rt, name) {
@@ -121,5 +121,16 @@ pub fn read_file(rt: &impl Files, name: &str, kept: &mut [u8]) -> Reading
             more: 0,
         }),
         Err(why) => Reading::Failed(why),
+    }
+}
+
+// Reads all of the file of that name. A missing file is an empty one; one that is there and cannot be opened is a failure, and so is a name that is no
+// text, which the library cannot open.
+pub fn read_file(rt: &impl Files, name: &[u8], kept: &mut [u8]) -> Reading
+    ensures { Reads kept.old kept.new result }
+{
+    match str::from_utf8(name) {
+        Ok(name) => read_named(rt, name, kept),
+        Err(_) => Reading::Failed(Error::from(ErrorKind::InvalidInput)),
     }
 }

@@ -1,8 +1,5 @@
-use Rattle.input.proofs.Taking.{missing, unopened}
+use Rattle.input.proofs.Taking.{unopened}
 use Rattle.input.proofs.read_file.Goals as goal
 
 pub returns-in-Err : goal.returns-in-Err
-returns-in-Err g c = missing
-
-pub returns-in-Err-2 : goal.returns-in-Err-2
-returns-in-Err-2 g c = unopened _
+returns-in-Err g c = unopened _
