@@ -67,7 +67,7 @@ target/bin/%: $(shell find crates -name '*.rt' -o -name '*.antt') crates.txt
 	@$(ALONE) tests/build $* >&2
 	@test -x $@ && touch $@
 
-test: ## the gate: proves everything from nothing, then runs every test
+test: ## the gate: proves what it has not proved here yet, then runs every test
 	bash .ci/run
 
 memory: ## a sample of the tests under valgrind, on x86-64, after make test

@@ -15,7 +15,7 @@ use text::{named, put};
 
 fn count_line(buffer: &mut [u8], at: usize, name: &[u8], x: u64) -> usize
     requires { at + (length name.now + 21) ≤ length buffer.old }
-    ensures { let name = name.entry.now in
+    ensures { let name = name.now in
         Put buffer.old at (named_text name x ++ bytes_of "\n") (length name + 21) buffer.new result }
 {
     let end = named(buffer, at, name, x);
@@ -83,7 +83,7 @@ fn state_lines(
 
 fn order_numbers(buffer: &mut [u8], at: usize, order: &[u64]) -> usize
     requires { at + length order.now * 21 ≤ length buffer.old }
-    ensures { let order = order.entry.now in
+    ensures { let order = order.now in
         Put buffer.old at (spaced order) (length order * 21) buffer.new result }
 {
     let mut next = at;
@@ -97,7 +97,7 @@ fn order_numbers(buffer: &mut [u8], at: usize, order: &[u64]) -> usize
 
 fn order_line(buffer: &mut [u8], at: usize, order: &[u64]) -> usize
     requires { at + (length order.now * 21 + 6) ≤ length buffer.old }
-    ensures { let order = order.entry.now in
+    ensures { let order = order.now in
         Put buffer.old at (order_line order ++ bytes_of "\n") (length order * 21 + 6) buffer.new result }
 {
     let first = put(buffer, at, b"order");
