@@ -62,7 +62,7 @@ help: ## this list
 
 # Only a proved program is built, so the first build takes as long as its proofs. Two makes at once build one after the other.
 ALONE := $(if $(shell command -v flock 2>/dev/null),flock target/.building)
-target/bin/%: $(shell find crates -name '*.rt' -o -name '*.antt') crates.txt
+target/bin/%: $(shell find crates -name out -prune -o -name '*.rt' -print -o -name '*.antt' -print) crates.txt
 	@mkdir -p target
 	@$(ALONE) tests/build $* >&2
 	@test -x $@ && touch $@
