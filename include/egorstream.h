@@ -178,7 +178,7 @@ extern "C" {
  *
  * The mode is tested first, then the answer's length, then the file, then the chain.
  *
- * Its tables are its own and lie on the stack, some 222,000 bytes: give a thread that calls it a
+ * Its tables are its own and lie on the stack, some 187,000 bytes: give a thread that calls it a
  * stack of 256 KiB or more. It keeps nothing between calls, so threads may call it at the same time.
  */
 uint32_t egorstream_chance(const uint8_t *file, size_t file_length, uint32_t mode,

@@ -22,6 +22,8 @@ pub use answer::{Answer, Counts, Figures, Limits};
 pub use question::Question;
 
 // What is asked of the chain file of which `kept` holds the first bytes and `more` counts the others. A short file gets a small table.
+// Its tables lie in a frame of its own, so that a caller who asks something else too does not hold both.
+#[inline(never)]
 pub fn ask(kept: &[u8], more: u64, question: Question) -> Figures
     ensures { FiguresOutcome (input kept.now more) question result }
 {

@@ -46,7 +46,9 @@ fn near_of(opened: Opening, table: &[u64], from: From) -> Nearly
     }
 }
 
-// Those of the chain file of which `kept` holds the first bytes and `more` counts the others.
+// Those of the chain file of which `kept` holds the first bytes and `more` counts the others. Its tables lie in a frame of its own, so that a caller
+// who asks something else too does not hold both.
+#[inline(never)]
 pub fn near(kept: &[u8], more: u64, from: From) -> Nearly
     ensures { FileNear (input kept.now more) (from_of from) (told_near result) (told_miss result) × Proper result }
 {
