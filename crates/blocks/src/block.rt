@@ -4,17 +4,12 @@ ghost use Rattle.meaning.specs.Block.{block_at, records_at, full_block, first_ve
 ghost use Rattle.meaning.specs.File.{CheckFault, BlockNumberFault, VersionFault, KindFault, ReservedFault, ContentFault, kind_of, count_of};
 ghost use Rattle.meaning.specs.Number.{decides};
 ghost use Rattle.octets.specs.Input.{input};
+ghost use Rattle.blocks.specs.Kinds.{byte_of};
 ghost use Rattle.blocks.specs.Tested.{tested};
 
-use crate::{head, records};
+use crate::{Kind, head, records};
+use chain::refusal::Fault;
 use octets::layout;
-
-// What a test of a block finds.
-#[derive(Clone, Copy)]
-pub enum Block {
-    Right,
-    Wrong(u32),
-}
 
 // 21: the check is wrong.
 fn check_wrong(kept: &[u8], b: usize) -> bool
@@ -23,13 +18,8 @@ fn check_wrong(kept: &[u8], b: usize) -> bool
 {
     let at = layout::BLOCK * b;
     let sums = fletcher::check(kept, b, octets::byte(kept, at + layout::VERSION));
-    if octets::byte(kept, at + layout::CHECKED) != sums.first {
-        return true;
-    }
-    if octets::byte(kept, at + layout::CHECKED + 1) != sums.second {
-        return true;
-    }
-    false
+    octets::byte(kept, at + layout::CHECKED) != sums.first
+        || octets::byte(kept, at + layout::CHECKED + 1) != sums.second
 }
 
 // 22: the block number is not the block's place.
@@ -37,24 +27,20 @@ fn block_number_wrong(kept: &[u8], b: usize) -> bool
     requires { block_at b ≤ length kept.now }
     ensures { decides (BlockNumberFault (input kept.now 0) b) result }
 {
-    let place = b as u64;
-    if octets::number(kept, layout::BLOCK * b + layout::BLOCK_NUMBER, layout::PAIR) != place {
-        return true;
-    }
-    false
+    octets::number(kept, layout::BLOCK * b + layout::BLOCK_NUMBER, layout::PAIR) != b as u64
 }
 
 // The kind whose turn it is.
-pub fn kind(kept: &[u8], b: usize) -> u64
-    ensures { result ≡ kind_of (input kept.now 0) b }
+pub fn kind(kept: &[u8], b: usize) -> Kind
+    ensures { byte_of result ≡ kind_of (input kept.now 0) b }
 {
     if b == 0 {
-        return layout::HEAD;
+        Kind::Head
+    } else if b <= head::state_blocks(kept) {
+        Kind::State
+    } else {
+        Kind::Edge
     }
-    if b <= head::state_blocks(kept) {
-        return layout::STATE;
-    }
-    layout::EDGE
 }
 
 // The version is neither 1 nor 2, or differs from block 0's.
@@ -64,13 +50,8 @@ fn version_wrong(kept: &[u8], b: usize) -> bool
 {
     let at = layout::BLOCK * b + layout::VERSION;
     let version = octets::byte(kept, at);
-    if version != octets::byte(kept, layout::VERSION) {
-        return true;
-    }
-    match version {
-        layout::FIRST | layout::SECOND => false,
-        _ => true,
-    }
+    version != octets::byte(kept, layout::VERSION)
+        || !matches!(version, layout::FIRST | layout::SECOND)
 }
 
 // 23: kind or version wrong, or kind out of turn.
@@ -79,35 +60,24 @@ fn kind_wrong(kept: &[u8], b: usize) -> bool
     ensures { decides (KindFault (input kept.now 0) b) result }
 {
     let at = layout::BLOCK * b;
-    if octets::byte(kept, at + layout::KIND) != kind(kept, b) {
-        return true;
-    }
-    version_wrong(kept, b)
+    octets::byte(kept, at + layout::KIND) != kind(kept, b) as u64 || version_wrong(kept, b)
 }
 
 // How many of so many records block k of their kind holds.
 fn held(records: usize, k: usize) -> usize
     ensures { result ≡ min full_block (records - full_block * k) }
 {
-    if records / layout::FULL < k {
-        return 0;
-    }
-    let left = records - layout::FULL * k;
-    if layout::FULL < left {
-        return layout::FULL;
-    }
-    left
+    layout::FULL.min(records.saturating_sub(layout::FULL.saturating_mul(k)))
 }
 
 // How many records the block holds.
 pub fn count(kept: &[u8], b: usize) -> usize
     ensures { (result ≡ count_of (input kept.now 0) b) × (result ≤ full_block) }
 {
-    let kind = kind(kept, b);
-    match kind {
-        layout::HEAD => 1,
-        layout::STATE => held(head::states(kept), b - 1),
-        _ => held(head::edges(kept), b - 1 - head::state_blocks(kept)),
+    match kind(kept, b) {
+        Kind::Head => 1,
+        Kind::State => held(head::states(kept), b - 1),
+        Kind::Edge => held(head::edges(kept), b - 1 - head::state_blocks(kept)),
     }
 }
 
@@ -118,10 +88,8 @@ fn edges_wrong(kept: &[u8], b: usize, count: usize) -> bool
         decides ((version_in f b ≡ first_version) × ReservedFault f (records_at b) count) result }
 {
     let at = layout::BLOCK * b;
-    if octets::byte(kept, at + layout::VERSION) != layout::FIRST {
-        return false;
-    }
-    records::reserved_wrong(kept, at + layout::RECORDS, count)
+    octets::byte(kept, at + layout::VERSION) == layout::FIRST
+        && records::reserved_wrong(kept, at + layout::RECORDS, count)
 }
 
 // 24: count, flag or reserved byte wrong.
@@ -132,46 +100,42 @@ fn content_wrong(kept: &[u8], b: usize) -> bool
     let at = layout::BLOCK * b;
     let begin = at + layout::RECORDS;
     let count = count(kept, b);
-    if octets::number(kept, at + layout::COUNT, layout::PAIR) != count as u64 {
-        return true;
-    }
-    if octets::written(kept, begin + layout::RECORD * count, at + layout::CHECKED) {
-        return true;
-    }
-    let kind = kind(kept, b);
-    match kind {
-        layout::HEAD => records::head_wrong(kept),
-        layout::STATE => records::flag_wrong(kept, begin, count),
-        _ => edges_wrong(kept, b, count),
-    }
+    octets::number(kept, at + layout::COUNT, layout::PAIR) != count as u64
+        || octets::written(kept, begin + layout::RECORD * count, at + layout::CHECKED)
+        || match kind(kept, b) {
+            Kind::Head => records::head_wrong(kept),
+            Kind::State => records::flag_wrong(kept, begin, count),
+            Kind::Edge => edges_wrong(kept, b, count),
+        }
 }
 
 // The first of 21 to 24 that applies to a block that begins within the bytes.
-fn in_turn(kept: &[u8], b: usize) -> Block
+fn in_turn(kept: &[u8], b: usize) -> Result<(), Fault>
     requires { block_at b ≤ length kept.now }
     ensures { (more : ℕ) → tested (input kept.now more) b result }
 {
     if check_wrong(kept, b) {
-        return Block::Wrong(21);
+        return Err(Fault::BlockCheck);
     }
     if block_number_wrong(kept, b) {
-        return Block::Wrong(22);
+        return Err(Fault::BlockNumber);
     }
     if kind_wrong(kept, b) {
-        return Block::Wrong(23);
+        return Err(Fault::BlockKind);
     }
     if content_wrong(kept, b) {
-        return Block::Wrong(24);
+        return Err(Fault::BlockContent);
     }
-    Block::Right
+    Ok(())
 }
 
 // The same of any block. Past the bytes all are 0: the check is right, the block number is not.
-pub fn test(kept: &[u8], b: usize) -> Block
+pub fn test(kept: &[u8], b: usize) -> Result<(), Fault>
     ensures { (more : ℕ) → tested (input kept.now more) b result }
 {
     if b <= kept.len() / layout::BLOCK {
-        return in_turn(kept, b);
+        in_turn(kept, b)
+    } else {
+        Err(Fault::BlockNumber)
     }
-    Block::Wrong(22)
 }

@@ -27,11 +27,7 @@ pub fn edges(kept: &[u8]) -> usize
 pub fn blocks(records: usize) -> usize
     ensures { result ≡ blocks_of records }
 {
-    let full = records / layout::FULL;
-    if records % layout::FULL == 0 {
-        return full;
-    }
-    full + 1
+    records.div_ceil(layout::FULL)
 }
 
 pub fn state_blocks(kept: &[u8]) -> usize

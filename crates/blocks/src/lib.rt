@@ -4,3 +4,11 @@
 pub mod block;
 pub mod head;
 mod records;
+
+// What a block holds records of, by the byte that says so.
+#[derive(Clone, Copy, PartialEq, Eq)]
+pub enum Kind {
+    Head = 1,
+    State = 2,
+    Edge = 3,
+}

@@ -13,25 +13,13 @@ use octets::layout;
 pub(crate) fn head_wrong(kept: &[u8]) -> bool
     ensures { decides (HeadFault (input kept.now 0)) result }
 {
-    let states = head::states(kept);
-    if states == 0 {
-        return true;
-    }
-    if Chain::STATES < states {
-        return true;
-    }
-    let edges = head::edges(kept);
-    if edges == 0 {
-        return true;
-    }
-    if Chain::EDGES < edges {
-        return true;
-    }
-    octets::written(
-        kept,
-        layout::RECORDS + layout::HEAD_REST,
-        layout::RECORDS + layout::RECORD,
-    )
+    !(1..=Chain::STATES).contains(&head::states(kept))
+        || !(1..=Chain::EDGES).contains(&head::edges(kept))
+        || octets::written(
+            kept,
+            layout::RECORDS + layout::HEAD_REST,
+            layout::RECORDS + layout::RECORD,
+        )
 }
 
 // Of `count` states' records from byte `at` on, one has a flag above 1.
@@ -39,14 +27,7 @@ pub(crate) fn flag_wrong(kept: &[u8], at: usize, count: usize) -> bool
     requires { at + record_size * count ≤ length kept.now + block_size }
     ensures { decides (FlagFault (input kept.now 0) at count) result }
 {
-    let mut i = 0;
-    while i < count {
-        if 1 < octets::byte(kept, at + layout::RECORD * i + layout::FLAG) {
-            return true;
-        }
-        i += 1;
-    }
-    false
+    (0..count).any(|i| 1 < octets::byte(kept, at + layout::RECORD * i + layout::FLAG))
 }
 
 // Of `count` edges' records of version 1 from byte `at` on, one has a reserved byte that is not 0.
@@ -54,13 +35,8 @@ pub(crate) fn reserved_wrong(kept: &[u8], at: usize, count: usize) -> bool
     requires { at + record_size * count ≤ length kept.now + block_size }
     ensures { decides (ReservedFault (input kept.now 0) at count) result }
 {
-    let mut i = 0;
-    while i < count {
+    (0..count).any(|i| {
         let begin = at + layout::RECORD * i;
-        if octets::written(kept, begin + layout::EDGE_REWARD, begin + layout::WEIGHT) {
-            return true;
-        }
-        i += 1;
-    }
-    false
+        octets::written(kept, begin + layout::EDGE_REWARD, begin + layout::WEIGHT)
+    })
 }

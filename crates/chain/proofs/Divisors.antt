@@ -1,36 +1,60 @@
 -- The divisor of a row, found from its end on: numbers that it divides already, and powers of two.
-use Prim.Native.Nat.{ℕ, zero, suc, ◌+◌, ◌-◌, ◌*◌, ◌/◌, ◌%◌, ◌^◌, ◌≤◌, ◌<◌, min, max}
+use Prim.Native.Nat.{ℕ, zero, suc, ◌-◌, ◌*◌, ◌/◌, ◌%◌, ◌^◌, ◌≤◌, ◌<◌, min, max}
 use mathlib.Core.Path.{◌≡◌, refl, sym, ap, ap₂, ◌∙◌}
 use mathlib.Core.Logic.{⊎_elim}
 use mathlib.Core.List.{List, [], ◌∷◌, ◌++◌}
 use native.Mathlib.Omega.{arith}
-use native.Mathlib.Numerals.{add-one}
-use native.Mathlib.Nat.{dvd_trans, zero-div, pow-succ', mul-one}
-use lib.Bits.{bit_or, or_step, or_lt}
-use lib.Count.{count_trailing_zeros, under, trailing_of_zero}
-use lib.ListN.{length, get_or, take, drop, take-append-drop}
-use lib.Seq.{take-suc}
-use Rattle.meaning.specs.Number.{gcd, bit}
+use native.Mathlib.Nat.{dvd_trans, pow-succ', mul-one}
+use lib.Bits.{bit_or, or_step, or_add_and, and_le_r}
+use lib.Count.{count_trailing_zeros, under, trailing_le, ones, ones_step, ones-le}
+use lib.ListN.{length, get_or, take, drop}
+use Rattle.std.specs.List.{fold}
+use Rattle.meaning.specs.Number.{gcd}
 use Rattle.meaning.specs.Row.{gcd_of}
 use Rattle.theory.specs.Numbers.Sum.{same, below}
 use Rattle.theory.specs.Numbers.Gcd.{gcd_greatest, greatest_one, gcd_zero, gcd_step}
-use Rattle.theory.specs.Numbers.Shift.{pow_whole}
 use Rattle.theory.specs.Numbers.Twos.{gcd_scale, odd_twos}
-use Rattle.theory.specs.Numbers.Bits.{in_one, bits_same}
-use Rattle.chain.specs.Rising.{Lowest, Others}
-use Rattle.chain.proofs.Lowest.{gcd_of_more, gcd_one}
+use Rattle.chain.specs.Rising.{Lowest}
+use Rattle.chain.proofs.Lowest.{gcd_one}
 use Rattle.chain.proofs.Rising.{zeros_below, one_at}
 
--- A number that is divided already leaves the divisor.
-pub gcd_of_stays : (l : List ℕ) (j g : ℕ) → 0 < j → j ≤ length l → g ≡ gcd_of (drop j l) → get_or l (j - 1) 0 % g ≡ 0 → g ≡ gcd_of (drop (j - 1) l)
-gcd_of_stays l j g h k e d =
-    let x = get_or l (j - 1) 0 in
-    let same : gcd x g ≡ g = gcd_step x g ∙ ap (gcd g) d ∙ gcd_zero g in
-    sym (gcd_of_more l j h k ∙ ap (gcd x) (sym e) ∙ same)
+-- A row of zeros.
+pub gcd_of_zeros : (l : List ℕ) → ((k : ℕ) → k < length l → get_or l k 0 ≡ 0) → gcd_of l ≡ 0
+unfolding gcd_of
+gcd_of_zeros [] h = refl
+gcd_of_zeros (x ∷ l) h = ap₂ gcd (h 0 (omega arith)) (gcd_of_zeros l (λ k b. h (suc k) (omega arith))) ∙ gcd_zero 0
 
 -- A number behind which all are 0 is their divisor.
-pub gcd_of_first : (l : List ℕ) (j : ℕ) → 0 < j → j ≤ length l → gcd_of (drop j l) ≡ 0 → get_or l (j - 1) 0 ≡ gcd_of (drop (j - 1) l)
-gcd_of_first l j h k e = sym (gcd_of_more l j h k ∙ ap (gcd (get_or l (j - 1) 0)) e ∙ gcd_zero _)
+pub gcd_of_first : (l : List ℕ) (j : ℕ) → j < length l → ((k : ℕ) → j < k → k < length l → get_or l k 0 ≡ 0) → get_or l j 0 ≡ gcd_of (drop j l)
+unfolding gcd_of
+gcd_of_first [] j b h = absurd (omega arith)
+gcd_of_first (x ∷ l) zero b h = sym (ap (gcd x) (gcd_of_zeros l (λ k q. h (suc k) (omega arith) (omega arith))) ∙ gcd_zero x)
+gcd_of_first (x ∷ l) (suc j) b h = gcd_of_first l j (omega arith) (λ k q r. h (suc k) (omega arith) (omega arith))
+
+-- The numbers from some place on may stand as their divisor.
+pub gcd_of_behind : (l : List ℕ) (j g : ℕ) → j ≤ length l → g ≡ gcd_of (drop j l) → gcd_of (take j l ++ g ∷ []) ≡ gcd_of l
+unfolding gcd_of
+gcd_of_behind l zero g h e = gcd_zero g ∙ e
+gcd_of_behind [] (suc j) g h e = absurd (omega arith)
+gcd_of_behind (x ∷ l) (suc j) g h e = ap (gcd x) (gcd_of_behind l j g (omega arith) e)
+
+-- Numbers that are divided already leave the divisor.
+pub gcd_of_divided : (l : List ℕ) (g : ℕ) → ((k : ℕ) → k < length l → get_or l k 0 % g ≡ 0) → gcd_of (l ++ g ∷ []) ≡ g
+unfolding gcd_of
+gcd_of_divided [] g h = gcd_zero g
+gcd_of_divided (x ∷ l) g h =
+    ap (gcd x) (gcd_of_divided l g (λ k b. h (suc k) (omega arith))) ∙ gcd_step x g ∙ ap (gcd g) (h 0 (omega arith)) ∙ gcd_zero g
+
+pub gcd_of_passed : (l : List ℕ) (j e g : ℕ) → j < e → e ≤ length l → g ≡ gcd_of (drop e l)
+    → ((k : ℕ) → j < k → k < length (take e l) → get_or (take e l) k 0 % g ≡ 0) → gcd_of (drop j l) ≡ gcd (get_or l j 0) g
+unfolding gcd_of
+gcd_of_passed [] j e g b h d p = absurd (omega arith)
+gcd_of_passed (x ∷ l) j zero g b h d p = absurd (omega arith)
+gcd_of_passed (x ∷ l) zero (suc e) g b h d p =
+    ap (gcd x)
+    (sym (gcd_of_behind l e g (omega arith) d) ∙ gcd_of_divided (take e l) g (λ k q. p (suc k) (omega arith) (omega arith)))
+gcd_of_passed (x ∷ l) (suc j) (suc e) g b h d p =
+    gcd_of_passed l j e g (omega arith) (omega arith) d (λ k q r. p (suc k) (omega arith) (omega arith))
 
 -- A number between others can come first.
 gcd_left : (a b c : ℕ) → gcd a (gcd b c) ≡ gcd b (gcd a c)
@@ -45,10 +69,10 @@ gcd_left a b c =
       most = λ k p q. h.most k (dvd_trans _ q v.left) (w.most k p (dvd_trans _ q v.right));
     })
 
-gcd_of_between : (a : List ℕ) (x : ℕ) (b : List ℕ) → gcd_of ((a ++ x ∷ []) ++ b) ≡ gcd x (gcd_of (a ++ b))
+gcd_of_last : (l : List ℕ) (x y : ℕ) → gcd x (gcd_of (l ++ y ∷ [])) ≡ gcd_of (l ++ gcd x y ∷ [])
 unfolding gcd_of
-gcd_of_between [] x b = refl
-gcd_of_between (y ∷ a) x b = ap (gcd y) (gcd_of_between a x b) ∙ gcd_left y x (gcd_of (a ++ b))
+gcd_of_last [] x y = ap (gcd x) (gcd_zero y) ∙ sym (gcd_zero (gcd x y))
+gcd_of_last (z ∷ l) x y = gcd_left x z _ ∙ ap (gcd z) (gcd_of_last l x y)
 
 -- The twos of two numbers that are joined are the fewer of theirs.
 under_max : (p q s t : ℕ) → under (max p q) (min s t) ≡ min (under p s) (under q t)
@@ -85,7 +109,7 @@ gcd_twos (suc k) x (suc m) h =
     ap (gcd x) (sym (mul-one (2 ^ suc m))) ∙ odd_twos (suc m) x 1 o ∙ gcd_one x ∙ rw (o, fewer))
     (same (x % 2) 0)
 
--- The lowest state of a set stands behind its twos, and a set with no others is a power of two.
+-- The lowest state of a set stands behind its twos.
 lowest_twos : (s t : ℕ) → 0 < s → s < 2 ^ 64 → Lowest s t → t ≡ count_trailing_zeros 64 s
 lowest_twos s t h k b =
     ⊎_elim
@@ -97,59 +121,46 @@ lowest_twos s t h k b =
     (below (count_trailing_zeros 64 s) t))
     (below t (count_trailing_zeros 64 s))
 
-pub one_bit : (s r : ℕ) → 0 < s → s < 2 ^ 64 → Others s r → r ≡ 0 → s ≡ 2 ^ count_trailing_zeros 64 s
-one_bit s r h k o z =
-    let t = count_trailing_zeros 64 s in
-    let one = one_at 64 s h k in
-    let b : Lowest s t = record { inside = one.0; least = zeros_below 64 s; small = one.1 } in
-    bits_same
-    (λ i.
+-- A number with one digit 1 is a power of two.
+no_ones : (k n : ℕ) → n < 2 ^ k → ones n ≡ 0 → n ≡ 0
+no_ones zero n h e = omega arith
+no_ones (suc k) n h e =
+    let rest = no_ones k (n / 2) (omega (arith, pow-succ' 2 k)) (omega (arith, ones_step n)) in
+    omega (arith, ones_step n)
+
+pub one_bit : (k n : ℕ) → n < 2 ^ k → ones n ≡ 1 → n ≡ 2 ^ count_trailing_zeros k n
+unfolding count_trailing_zeros
+one_bit zero n h e = absurd (omega (arith, e, ones-le 0 n h))
+one_bit (suc k) n h e =
+    let less : n / 2 < 2 ^ k = omega (arith, pow-succ' 2 k) in
     ⊎_elim
-    (λ (e : i ≡ t). rw e (one.0 ∙ sym ((in_one t t).1 refl)))
-    (λ (d : i ≡ t → ⊥).
-    let none : bit r i ≡ 0 = rw (z, zero-div (2 ^ i)) in
-    let out : bit (2 ^ t) i ≡ 1 → ⊥ = λ q. d ((in_one t i).0 q) in
-    omega (arith, o.kept t b i d))
-    (same i t))
+    (λ (z : n % 2 ≡ 0).
+    let rest = one_bit k (n / 2) less (omega (arith, ones_step n)) in
+    rw z (omega (arith, pow-succ' 2 (count_trailing_zeros k (n / 2)))))
+    (λ (d : n % 2 ≡ 0 → ⊥).
+    let o : n % 2 ≡ 1 = omega arith in
+    let rest = no_ones k (n / 2) less (omega (arith, ones_step n)) in
+    rw o (omega arith))
+    (same (n % 2) 0)
 
--- The numbers before place i are joined to the divisor of those from place e on: the lowest bit is the divisor of them all.
-pub record Joined (l : List ℕ) (e all i : ℕ) : Type 0 where
-  pub past : i ≤ e
-  pub is : gcd_of (take i l ++ drop e l) ≡ 2 ^ count_trailing_zeros 64 all
-  pub less : count_trailing_zeros 64 all < 64
-  pub fits : all < 2 ^ 64
+-- The numbers of a row, joined to a divisor behind them: the lowest bit is the divisor of them all.
+pub gcd_of_joined : (l : List ℕ) (g : ℕ) → gcd_of (l ++ 2 ^ count_trailing_zeros 64 g ∷ []) ≡ 2 ^ count_trailing_zeros 64 (fold bit_or g l)
+unfolding gcd_of
+gcd_of_joined [] g = gcd_zero _
+gcd_of_joined (x ∷ l) g =
+    let fewer : min (count_trailing_zeros 64 x) (count_trailing_zeros 64 g) ≡ count_trailing_zeros 64 (bit_or g x) = omega (arith, twos_or 64 g x) in
+    gcd_of_last l x _
+    ∙ ap (λ z. gcd_of (l ++ z ∷ [])) (gcd_twos 64 x (count_trailing_zeros 64 g) (trailing_le 64 g) ∙ ap (λ z. 2 ^ z) fewer)
+    ∙ gcd_of_joined l (bit_or g x)
 
-module _ (l : List ℕ) (e : ℕ) where
-  pub joined_none : (g : ℕ) → g < 2 ^ 64 → g ≡ gcd_of (drop e l) → g ≡ 2 ^ count_trailing_zeros 64 g → Joined l e g 0
-  joined_none g h d p =
-      record { past = omega arith; is = sym d ∙ p; less = (one_at 64 g (omega (arith, pow_whole (count_trailing_zeros 64 g))) h).1; fits = h }
+joined_some : (l : List ℕ) (g : ℕ) → 0 < g → 0 < fold bit_or g l
+joined_some [] g h = h
+joined_some (x ∷ l) g h = joined_some l (bit_or g x) (omega (arith, or_add_and g x, and_le_r g x))
 
-  pub joined_more : {all i : ℕ} → Joined l e all i → i < e → e ≤ length l → get_or l i 0 < 2 ^ 64 → Joined l e (bit_or all (get_or l i 0)) (i + 1)
-  joined_more {all} {i} j h k f =
-      let x = get_or l i 0 in
-      let fewer : min (count_trailing_zeros 64 x) (count_trailing_zeros 64 all) ≡ count_trailing_zeros 64 (bit_or all x) = omega (arith, twos_or 64 all x) in
-      record {
-        past = omega arith;
-        is =
-            rw (add-one i, take-suc l i 0 (omega arith))
-            (gcd_of_between (take i l) x (drop e l)
-            ∙ ap (gcd x) j.is
-            ∙ gcd_twos 64 x (count_trailing_zeros 64 all) (omega (arith, j.less))
-            ∙ ap (λ z. 2 ^ z) fewer);
-        less = omega (arith, j.less, twos_or 64 all x);
-        fits = or_lt 64 all x j.fits f;
-      }
-
-  module _ {all i : ℕ} (j : Joined l e all i) where
-    pub joined_some : 0 < all
-    joined_some =
-        ⊎_elim
-        (λ (z : all ≡ 0). absurd (omega (arith, j.less, ap (count_trailing_zeros 64) z, trailing_of_zero 64)))
-        (λ (d : all ≡ 0 → ⊥). omega arith)
-        (same all 0)
-
-    pub joined_all : {t : ℕ} → e ≤ i → Lowest all t → 2 ^ t ≡ gcd_of l
-    joined_all {t} k b =
-        let z : i ≡ e = omega (arith, j.past) in
-        let whole : gcd_of (take e l ++ drop e l) ≡ 2 ^ count_trailing_zeros 64 all = rw z at j.is in
-        ap (λ z. 2 ^ z) (lowest_twos all t joined_some j.fits b) ∙ sym whole ∙ ap gcd_of (take-append-drop e l)
+pub joined_lowest : (l : List ℕ) (g t : ℕ) → 0 < g → fold bit_or g l < 2 ^ 64 → g ≡ 2 ^ count_trailing_zeros 64 g
+    → (0 < fold bit_or g l → Lowest (fold bit_or g l) t) → (t < 64) × (2 ^ t ≡ gcd_of (l ++ g ∷ []))
+joined_lowest l g t h f p b =
+    let s = joined_some l g h in (
+      (b s).small,
+      ap (λ z. 2 ^ z) (lowest_twos _ t s f (b s)) ∙ sym (gcd_of_joined l g) ∙ ap (λ z. gcd_of (l ++ z ∷ [])) (sym p),
+    )

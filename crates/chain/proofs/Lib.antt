@@ -4,3 +4,4 @@ pub mod Unique
 pub mod Rising
 pub mod Lowest
 pub mod Divisors
+pub mod Faults

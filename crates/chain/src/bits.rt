@@ -17,7 +17,7 @@ pub fn alone(j: usize) -> u64
 pub fn count(set: u64) -> usize
     ensures { result ≡ ones set }
 {
-    u64::count_ones(set) as usize
+    set.count_ones() as usize
 }
 
 // The place of state j among those of a set: the count of ones below its bit.
@@ -34,23 +34,12 @@ pub fn place(set: u64, j: usize) -> usize
 pub fn lowest(set: u64) -> usize
     ensures { (0 < set → Lowest set result) × (set ≡ 0 → result ≡ most_states) }
 {
-    u64::trailing_zeros(set) as usize
+    set.trailing_zeros() as usize
 }
 
-// A set that is not empty, without its lowest state.
-pub(crate) fn rest(set: u64) -> u64
-    requires { 0 < set }
-    ensures { Others set result }
-{
-    set & (set - 1)
-}
-
-// The same of any set: the empty one stays.
+// A set without its lowest state; the empty one stays.
 pub fn others(set: u64) -> u64
     ensures { (0 < set → Others set result) × (set ≡ 0 → result ≡ 0) }
 {
-    if set == 0 {
-        return 0;
-    }
-    rest(set)
+    set & set.wrapping_sub(1)
 }

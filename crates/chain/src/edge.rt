@@ -5,6 +5,7 @@ ghost use Rattle.meaning.specs.Number.{decides};
 ghost use Rattle.meaning.specs.Chain.{edge_size, edge, edge_count, from, to, weight, edge_reward};
 
 use crate::Chain;
+use crate::table::at;
 
 pub const SIZE: usize = 4;
 
@@ -17,19 +18,11 @@ pub fn count(edges: &[u64]) -> usize
     edges.len() / SIZE
 }
 
-// The number at place k of edge e, 0 past the end of the list. The first test keeps the product from wrapping.
+// The number at place k of edge e, 0 past the end of the list. A place past all numbers of 64 bits is past the end too.
 fn part(edges: &[u64], e: usize, k: usize) -> u64
     ensures { result ≡ get_or edges.now (edge_size * e + k) 0 }
 {
-    if count(edges) < e {
-        return 0;
-    }
-    let begin = SIZE * e;
-    let left = edges.len() - begin;
-    if k < left {
-        return edges[begin + k];
-    }
-    0
+    at(edges, e.saturating_mul(SIZE).saturating_add(k))
 }
 
 pub fn from(edges: &[u64], e: usize) -> u64
@@ -64,15 +57,12 @@ pub fn put(edges: &mut [u64], e: usize, from: u64, to: u64, weight: u64, reward:
         return;
     }
     let begin = SIZE * e;
-    edges[begin] = from;
-    edges[begin + 1] = to;
-    edges[begin + 2] = weight;
-    edges[begin + 3] = reward;
+    edges[begin..begin + SIZE].copy_from_slice(&[from, to, weight, reward]);
 }
 
 // Numbers are left over past the last whole edge.
 pub fn ragged(edges: &[u64]) -> bool
     ensures { decides (length edges.now % edge_size ≡ 0 → ⊥) result }
 {
-    0 < edges.len() % SIZE
+    !edges.len().is_multiple_of(SIZE)
 }

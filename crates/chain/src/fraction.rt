@@ -1,28 +1,13 @@
 ghost use Rattle.std.specs.Prelude.{◌≡◌, ◌+◌, ◌-◌, ◌%◌, ◌<◌, ◌≤◌, min};
 ghost use Rattle.meaning.specs.Number.{gcd};
-ghost use Rattle.theory.specs.Numbers.Twos.{Twos};
 ghost use Rattle.chain.specs.Reduce.{Common, reduced};
-
-// The smaller of two numbers.
-fn least(x: u64, y: u64) -> u64
-    ensures { result ≡ min x y }
-{
-    if x < y { x } else { y }
-}
-
-// How far two numbers are apart.
-fn apart(x: u64, y: u64) -> u64
-    ensures { result ≡ x - y + (y - x) }
-{
-    if x < y { y - x } else { x - y }
-}
 
 // How far two odd numbers are apart, less its twos: these are where the two first differ.
 fn odd_apart(x: u64, y: u64) -> u64
     requires { (x % 2 ≡ 1) × (y % 2 ≡ 1) × (x ≡ y → ⊥) }
     ensures { (result % 2 ≡ 1) × (result ≤ x - y + (y - x)) × (gcd (min x y) result ≡ gcd x y) }
 {
-    apart(x, y) >> u64::trailing_zeros(x ^ y)
+    x.abs_diff(y) >> (x ^ y).trailing_zeros()
 }
 
 // The greatest common divisor of two odd numbers: it divides how far they are apart, and of that the odd part.
@@ -34,18 +19,10 @@ fn odd_gcd(a: u64, b: u64) -> u64
     let mut y = b;
     while x != y {
         let z = odd_apart(x, y);
-        x = least(x, y);
+        x = x.min(y);
         y = z;
     }
     x
-}
-
-// How many times a number can be halved.
-fn twos(x: u64) -> u64
-    requires { 0 < x }
-    ensures { Twos 64 x result }
-{
-    u64::trailing_zeros(x) as u64
 }
 
 // The greatest common divisor of two numbers above 0: the twos that both have stand apart.
@@ -53,9 +30,9 @@ fn whole_gcd(a: u64, b: u64) -> u64
     requires { (0 < a) × (0 < b) }
     ensures { result ≡ gcd a b }
 {
-    let s = twos(a);
-    let t = twos(b);
-    odd_gcd(a >> s, b >> t) << least(s, t)
+    let s = a.trailing_zeros();
+    let t = b.trailing_zeros();
+    odd_gcd(a >> s, b >> t) << s.min(t)
 }
 
 // The greatest common divisor; of 0 and 0 it is 0. One step of Euclid's rule brings a large number down to the other's size.

@@ -6,6 +6,8 @@ pub mod bits;
 pub mod divisor;
 pub mod edge;
 pub mod fraction;
+pub mod given;
+pub mod refusal;
 pub mod set;
 pub mod table;
 

@@ -8,8 +8,5 @@ use crate::Chain;
 pub fn holds(set: u64, i: usize) -> bool
     ensures { result ≡ eqb (bit set i) 1 }
 {
-    if Chain::STATES <= i {
-        return false;
-    }
-    (set >> i) % 2 == 1
+    i < Chain::STATES && (set >> i) % 2 == 1
 }

@@ -4,8 +4,5 @@ ghost use Rattle.std.specs.Prelude.{◌≡◌, get_or};
 pub fn at(table: &[u64], i: usize) -> u64
     ensures { result ≡ get_or table.now i 0 }
 {
-    if i < table.len() {
-        return table[i];
-    }
-    0
+    table.get(i).copied().unwrap_or(0)
 }

@@ -1,92 +1,55 @@
 -- What each reader promises determines its answer, case and all, and the tables afterwards.
-use Prim.Native.Nat.{ℕ, ◌<◌}
-use mathlib.Core.Path.{◌≡◌, ap, ap₂}
-use mathlib.Core.List.{List}
-use native.Mathlib.Omega.{arith}
+use Rattle.std.proofs.Common.{ℕ, ◌≡◌, List, Result, Ok, Err, ap, ap₂, arith}
 use Rattle.meaning.specs.Block.{Input}
-use Rattle.meaning.specs.File.{Tables, Reading as Answer, no_reading, ReadOutcome}
+use Rattle.meaning.specs.File.{Tables, Reading as Answer, ReadOutcome}
 use Rattle.meaning.specs.Salvage.{Salvage, SalvageOutcome}
-use Rattle.theory.specs.Files.FileOne.{file_numbers, read_one}
-use Rattle.theory.specs.Files.Opened.{front_file}
+use Rattle.theory.specs.Files.FileOne.{read_one}
 use Rattle.theory.specs.Files.SalvageOne.{salvage_read_one}
-use Rattle.chain.specs.declared.Chain.{Chain as Frame}
+use Rattle.chain.specs.declared.Chain.{Chain}
+use Rattle.chain.specs.declared.refusal.Refusal.{Refusal}
+use Rattle.chain.proofs.Faults.{above_0, one_refusal}
 use Rattle.chain.proofs.Unique.{framed}
-use Rattle.chainfile.specs.declared.Reading.{Reading}
-use Rattle.chainfile.specs.declared.Reading.TheVariants.{Chain, Refused}
+use Rattle.chainfile.specs.declared.Book.{Book}
 use Rattle.chainfile.specs.declared.Left.{Left}
 use Rattle.chainfile.specs.Tells.{OpenOutcome, told, told_left}
-use Rattle.theory.specs.Files.Right.{bounded}
 use Rattle.chainfile.proofs.Opening.{open_one}
 
--- A chain has states, and a refusal a number.
-proper : Reading → Type 0
-proper (Chain c edges) = 0 < c.states
-proper (Refused number place) = 0 < number
+-- An answer's numbers determine its case: a refusal has a number above 0.
+number : {a b : Answer} → a ≡ b → a.number ≡ b.number
+number e = ap (λ (a : Answer). a.number) e
 
-module _ {a b : Answer} (e : a ≡ b) where
-  number : a.number ≡ b.number
-  number = ap (λ (a : Answer). a.number) e
-
-  states : a.states ≡ b.states
-  states = ap (λ (a : Answer). a.states) e
-
-proper_refused : (r : Reading) {n p : ℕ} → 0 < n → told r ≡ no_reading n p → proper r
-unfolding proper
-proper_refused (Chain c edges) h e = absurd (omega (arith, number e))
-proper_refused (Refused n p) h e = omega (arith, number e)
-
-proper_read : (r : Reading) {a : Answer} → 0 < a.states → told r ≡ a → proper r
-unfolding proper
-proper_read (Chain c edges) h e = omega (arith, states e)
-proper_read (Refused n p) h e = absurd (omega (arith, states e))
-
-is_proper : (f : Input) (t after : Tables) (r : Reading) → ReadOutcome f t (told r) after → proper r
-is_proper f t after r (ReadOutcome.short s e d) = proper_refused r (omega arith) e
-is_proper f t after r (ReadOutcome.refused s n p w e d) = proper_refused r (omega (arith, file_numbers w)) e
-is_proper f t after r (ReadOutcome.accepted s w e d) = proper_read r (bounded f (w.blocks 0 (omega arith))).some_states e
-
-open_proper : (f : Input) (t after : Tables) (r : Reading) → OpenOutcome f t (told r) after → proper r
-open_proper f t after r (OpenOutcome.refused n p w e d) = proper_refused r (omega (arith, file_numbers w)) e
-open_proper f t after r (OpenOutcome.narrow w s e d) = proper_refused r (omega arith) e
-open_proper f t after r (OpenOutcome.accepted w s e d) = proper_read r (bounded f (w.blocks 0 (omega arith))).some_states e
-
--- An answer's numbers determine its case.
-told_one : (r r' : Reading) → proper r → proper r' → told r ≡ told r' → r ≡ r'
-unfolding proper
-told_one (Chain c x) (Chain d y) p q e =
-    ap₂ (λ (c : Frame) (x : ℕ). Chain c x)
-    (framed (states e) (ap (λ (a : Answer). a.start) e) (ap (λ (a : Answer). a.goals) e))
+book_one : (b d : Book) → told (Ok b) ≡ told (Ok d) → b ≡ d
+book_one b d e =
+    ap₂ (λ (c : Chain) (x : ℕ). record { chain = c; edges = x })
+    (framed (ap (λ (a : Answer). a.states) e) (ap (λ (a : Answer). a.start) e) (ap (λ (a : Answer). a.goals) e))
     (ap (λ (a : Answer). a.edges) e)
-told_one (Chain c x) (Refused n i) p q e = absurd (omega (arith, number e))
-told_one (Refused n i) (Chain d y) p q e = absurd (omega (arith, number e))
-told_one (Refused n i) (Refused m j) p q e = ap₂ (λ (n i : ℕ). Refused n i) (number e) (ap (λ (a : Answer). a.place) e)
 
-pub unique : (f : Input) (t after after' : Tables) (r r' : Reading) → ReadOutcome f t (told r) after → ReadOutcome f t (told r') after'
-    → (r ≡ r') × (after ≡ after')
-unique f t after after' r r' o o' =
-    let e = read_one o o' in
-    (told_one r r' (is_proper f t after r o) (is_proper f t after' r' o') e.0, e.1)
+pub told_one : (r r' : Result Book Refusal) → told r ≡ told r' → r ≡ r'
+told_one (Ok b) (Ok d) e = ap (λ (b : Book). Ok b) (book_one b d e)
+told_one (Ok b) (Err s) e = absurd (omega (arith, number e, above_0 s.fault))
+told_one (Err r) (Ok d) e = absurd (omega (arith, number e, above_0 r.fault))
+told_one (Err r) (Err s) e = ap (λ (r : Refusal). Err r) (one_refusal r s (number e) (ap (λ (a : Answer). a.place) e))
 
-pub open_unique : (f : Input) (t after after' : Tables) (r r' : Reading) → OpenOutcome f t (told r) after → OpenOutcome f t (told r') after'
+pub unique : (f : Input) (t after after' : Tables) (r r' : Result Book Refusal) → ReadOutcome f t (told r) after → ReadOutcome f t (told r') after'
     → (r ≡ r') × (after ≡ after')
-open_unique f t after after' r r' o o' =
-    let e = open_one o o' in
-    (told_one r r' (open_proper f t after r o) (open_proper f t after' r' o') e.0, e.1)
+unique f t after after' r r' o o' = let e = read_one o o' in (told_one r r' e.0, e.1)
+
+pub open_unique : (f : Input) (t after after' : Tables) (r r' : Result Book Refusal) → OpenOutcome f t (told r) after → OpenOutcome f t (told r') after'
+    → (r ≡ r') × (after ≡ after')
+open_unique f t after after' r r' o o' = let e = open_one o o' in (told_one r r' e.0, e.1)
 
 -- So does what the salvaging reader promises.
-left_proper : (f : Input) (t after : Tables) (r : Reading) (lost : List ℕ) → SalvageOutcome f t (record { reading = told r; lost = lost }) after → proper r
-left_proper f t after r lost (SalvageOutcome.short s e d) = proper_refused r (omega arith) (ap (λ (a : Salvage). a.reading) e)
-left_proper f t after r lost (SalvageOutcome.refused s n p w e d) =
-    proper_refused r (omega (arith, file_numbers (front_file w))) (ap (λ (a : Salvage). a.reading) e)
-left_proper f t after r lost (SalvageOutcome.opened s l h o e d) =
-    proper_read r (bounded f (o.front 0 (omega arith))).some_states (ap (λ (a : Salvage). a.reading) e)
+reading : {a b : Salvage} → a ≡ b → a.reading ≡ b.reading
+reading e = ap (λ (a : Salvage). a.reading) e
 
-pub left_unique : (f : Input) (t after after' : Tables) (r r' : Left) → SalvageOutcome f t (told_left r) after → SalvageOutcome f t (told_left r') after'
+left_one : (r r' : Result Left Refusal) → told_left r ≡ told_left r' → r ≡ r'
+left_one (Ok l) (Ok m) e =
+    ap₂ (λ (b : Book) (lost : List ℕ). Ok (record { book = b; lost = lost })) (book_one l.book m.book (reading e)) (ap (λ (a : Salvage). a.lost) e)
+left_one (Ok l) (Err s) e = absurd (omega (arith, number (reading e), above_0 s.fault))
+left_one (Err r) (Ok m) e = absurd (omega (arith, number (reading e), above_0 r.fault))
+left_one (Err r) (Err s) e =
+    ap (λ (r : Refusal). Err r) (one_refusal r s (number (reading e)) (ap (λ (a : Answer). a.place) (reading e)))
+
+pub left_unique : (f : Input) (t after after' : Tables) (r r' : Result Left Refusal) → SalvageOutcome f t (told_left r) after → SalvageOutcome f t (told_left r') after'
     → (r ≡ r') × (after ≡ after')
-left_unique f t after after' r r' o o' =
-    let e = salvage_read_one o o' in
-    let reading : r.reading ≡ r'.reading =
-    told_one r.reading r'.reading (left_proper f t after r.reading r.lost o) (left_proper f t after' r'.reading r'.lost o')
-    (ap (λ (a : Salvage). a.reading) e.0) in
-    let lost : r.lost ≡ r'.lost = ap (λ (a : Salvage). a.lost) e.0 in
-    (λ i. record { reading = reading i; lost = lost i }, e.1)
+left_unique f t after after' r r' o o' = let e = salvage_read_one o o' in (left_one r r' e.0, e.1)

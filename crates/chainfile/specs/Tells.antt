@@ -1,5 +1,5 @@
 -- What the answers tell.
-use Rattle.std.specs.Prelude.{ℕ, ◌+◌, ◌*◌, ◌≤◌, ◌<◌, ◌≡◌, ◌⊎◌, true, false, List, length}
+use Rattle.std.specs.Prelude.{ℕ, ◌+◌, ◌*◌, ◌≤◌, ◌<◌, ◌≡◌, ◌⊎◌, true, false, List, length, Result, Ok, Err}
 use Rattle.meaning.specs.Chain.{most_states, most_edges, edge_size, edge}
 use Rattle.meaning.specs.Block.{Input, byte, number_at, state_blocks, demanded, head_states, head_edges, flag_in, edge_reward_byte, weight_byte}
 use Rattle.meaning.specs.File.{
@@ -15,10 +15,11 @@ use Rattle.meaning.specs.File.{
   no_reading,
   reading,
 }
-use Rattle.meaning.specs.Salvage.{edge_kept, left_tables, Salvage, verdict, salvage}
+use Rattle.meaning.specs.Salvage.{edge_kept, left_tables, Salvage, no_salvage, verdict, salvage}
 use Rattle.chain.specs.Edge.{placed}
-use Rattle.chainfile.specs.declared.Reading.{Reading}
-use Rattle.chainfile.specs.declared.Reading.TheVariants.{Chain, Refused}
+use Rattle.chain.specs.Refusal.{number_of}
+use Rattle.chain.specs.declared.refusal.Refusal.{Refusal}
+use Rattle.chainfile.specs.declared.Book.{Book}
 use Rattle.chainfile.specs.declared.Left.{Left}
 
 -- A block is kept, which the number 0 says, or lost by the number.
@@ -52,13 +53,17 @@ tables denominators edges order rewards =
     record { denominators = denominators; edges = edges; order = order; rewards = rewards }
 
 -- The numbers of each answer.
-abbrev pub told : Reading → Answer
-told (Chain c edges) =
-    record { number = 0; place = 0; states = c.states; start = c.start; goals = c.goals; edges = edges }
-told (Refused number place) = no_reading number place
+abbrev pub told : Result Book Refusal → Answer
+told (Ok b) =
+    record { number = 0; place = 0; states = b.chain.states; start = b.chain.start; goals = b.chain.goals; edges = b.edges }
+told (Err r) = no_reading (number_of r.fault) r.place
 
-abbrev pub told_left : Left → Salvage
-told_left r = record { reading = told r.reading; lost = r.lost }
+abbrev pub left : Left → Salvage
+left l = record { reading = told (Ok l.book); lost = l.lost }
+
+abbrev pub told_left : Result Left Refusal → Salvage
+told_left (Ok l) = left l
+told_left (Err r) = no_salvage (number_of r.fault) r.place
 
 -- 2: one of these lengths is under what a chain of so many states and edges needs.
 abbrev pub ShortFor : ℕ → ℕ → ℕ → ℕ → ℕ → ℕ → Type 0

@@ -25,19 +25,7 @@ pub(crate) fn short_for(
     requires { count < 65536 }
     ensures { decides (ShortFor states count denominators edges order rewards) result }
 {
-    if denominators < states {
-        return true;
-    }
-    if edges < edge::SIZE * count {
-        return true;
-    }
-    if order < states {
-        return true;
-    }
-    if rewards < states {
-        return true;
-    }
-    false
+    denominators < states || edges < edge::SIZE * count || order < states || rewards < states
 }
 
 // 2: a table is shorter than the largest chain needs.
@@ -69,11 +57,8 @@ fn state_numbers(kept: &[u8], offset: usize, width: usize, table: &mut [u64])
     ensures { let f = input kept.now 0 in
         table.new ≡ filled (tab_from 0 (head_states f) (λ i. number_at f (state_at i + offset) width)) table.old }
 {
-    let count = head::states(kept);
-    let mut i = 0;
-    while i < count {
+    for i in 0..head::states(kept) {
         table[i] = octets::number(kept, record_at(1, i) + offset, width);
-        i += 1;
     }
 }
 
@@ -82,12 +67,9 @@ pub(crate) fn goals(kept: &[u8]) -> u64
     requires { Within (input kept.now 0) }
     ensures { result ≡ goals_in (input kept.now 0) }
 {
-    let count = head::states(kept);
     let mut goals = 0;
-    let mut i = 0;
-    while i < count {
+    for i in 0..head::states(kept) {
         goals += octets::byte(kept, record_at(1, i) + layout::FLAG) << i;
-        i += 1;
     }
     goals
 }
@@ -112,10 +94,9 @@ fn edge_record(kept: &[u8], first: usize, e: usize, table: &mut [u64], k: usize)
     let after = at + layout::RECORD;
     if after <= kept.len() {
         put_record(&kept[at..after], table, k);
-        return;
+    } else {
+        put_record(&kept[octets::end(kept, at)..], table, k);
     }
-    let low = octets::end(kept, at);
-    put_record(&kept[low..], table, k);
 }
 
 // An edge of a lost block is skipped. Answers the place of the next edge.
@@ -138,13 +119,10 @@ fn edge_numbers(kept: &[u8], lost: &[u64], table: &mut [u64]) -> usize
         let v = verdict lost.now in
         (table.new ≡ filled (kept_edges f v (head_edges f)) table.old) × (result ≡ kept_before f v (head_edges f)) }
 {
-    let count = head::edges(kept);
     let first = 1 + head::state_blocks(kept);
     let mut k = 0;
-    let mut e = 0;
-    while e < count {
+    for e in 0..head::edges(kept) {
         k = keep(kept, lost, first, e, table, k);
-        e += 1;
     }
     k
 }

@@ -4,14 +4,14 @@
 
 ghost use Rattle.std.specs.Prelude.{◌≡◌, ℕ};
 ghost use Rattle.meaning.specs.Block.{head_states, head_start};
-ghost use Rattle.meaning.specs.File.{Short, ReadOutcome, reading, goals_in};
-ghost use Rattle.meaning.specs.Salvage.{no_salvage, SalvageOutcome};
+ghost use Rattle.meaning.specs.File.{Short, ReadOutcome, goals_in};
+ghost use Rattle.meaning.specs.Salvage.{SalvageOutcome};
 ghost use Rattle.chainfile.specs.Input.{input};
-ghost use Rattle.chainfile.specs.Tells.{Within, OpenOutcome, LeftOver, told, told_left, tables};
+ghost use Rattle.chainfile.specs.Tells.{Within, OpenOutcome, LeftOver, told, left, told_left, tables};
 
 use blocks::head;
 use chain::Chain;
-use judge::Verdict;
+use chain::refusal::{Fault, Refusal};
 use octets::layout;
 
 mod fill;
@@ -21,17 +21,17 @@ mod lost;
 // The bytes of the longest file.
 pub const LONGEST: usize = layout::LONGEST;
 
+// The chain of a file but for its tables, and how many edges it has.
 #[derive(Clone, Copy)]
-pub enum Reading {
-    Chain { chain: Chain, edges: usize },
-    Refused { number: u32, place: usize },
+pub struct Book {
+    pub chain: Chain,
+    pub edges: usize,
 }
 
-// What the salvaging reader answers: with the chain the number of edges that are kept, and for each block the number by which it is lost, 0 where it is
-// kept.
+// What is left of a file: its chain with the number of edges that are kept, and for each block the number by which it is lost, 0 where it is kept.
 #[derive(Clone, Copy)]
 pub struct Left {
-    pub reading: Reading,
+    pub book: Book,
     pub lost: [u64; layout::BLOCKS],
 }
 
@@ -44,16 +44,6 @@ fn chain(kept: &[u8]) -> Chain
     Chain::new(head::states(kept), head::start(kept), fill::goals(kept))
 }
 
-// What an accepted file answers.
-fn answer(kept: &[u8]) -> Reading
-    requires { Within (input kept.now 0) }
-    ensures { told result ≡ reading (input kept.now 0) }
-{
-    let chain = chain(kept);
-    let edges = head::edges(kept);
-    Reading::Chain { chain, edges }
-}
-
 // Reads a chain file of which `kept` holds the first bytes and `more` counts the others, into tables that need hold no more than the file's own chain:
 // 2 comes last, since only an accepted head tells what that is. Only an accepted file fills the tables.
 pub fn open_file(
@@ -63,14 +53,12 @@ pub fn open_file(
     edges: &mut [u64],
     order: &mut [u64],
     rewards: &mut [u64],
-) -> Reading
+) -> Result<Book, Refusal>
     ensures { let before = tables denominators.old edges.old order.old rewards.old in
         let after = tables denominators.new edges.new order.new rewards.new in
         OpenOutcome (input kept.now more) before (told result) after }
 {
-    if let Verdict::Refused(number, place) = judge::judge(kept, more) {
-        return Reading::Refused { number, place };
-    }
+    judge::judge(kept, more)?;
     if fill::short_for(
         head::states(kept),
         head::edges(kept),
@@ -79,15 +67,14 @@ pub fn open_file(
         order.len(),
         rewards.len(),
     ) {
-        return Reading::Refused {
-            number: 2,
-            place: 0,
-        };
+        return Err(Refusal::from(Fault::Room));
     }
     // No block is lost: past the end of a table stands 0.
-    let lost = [0u64; 0];
-    fill::tables(kept, &lost, denominators, edges, order, rewards);
-    answer(kept)
+    fill::tables(kept, &[], denominators, edges, order, rewards);
+    Ok(Book {
+        chain: chain(kept),
+        edges: head::edges(kept),
+    })
 }
 
 // Reads it in the same way. Its 2 comes first and asks for the largest chain's tables, so that no caller's tables are too short for some files only.
@@ -98,28 +85,15 @@ pub fn read(
     edges: &mut [u64],
     order: &mut [u64],
     rewards: &mut [u64],
-) -> Reading
+) -> Result<Book, Refusal>
     ensures { let before = tables denominators.old edges.old order.old rewards.old in
         let after = tables denominators.new edges.new order.new rewards.new in
         ReadOutcome (input kept.now more) before (told result) after }
 {
     if fill::short(denominators.len(), edges.len(), order.len(), rewards.len()) {
-        return Reading::Refused {
-            number: 2,
-            place: 0,
-        };
+        return Err(Refusal::from(Fault::Room));
     }
     open_file(kept, more, denominators, edges, order, rewards)
-}
-
-// Nothing is left of a file that is refused.
-fn nothing(number: u32, place: usize) -> Left
-    ensures { told_left result ≡ no_salvage number place }
-{
-    Left {
-        reading: Reading::Refused { number, place },
-        lost: [0u64; layout::BLOCKS],
-    }
 }
 
 // Fills the tables with what is left of a file whose front is right.
@@ -134,16 +108,15 @@ fn leave(
     requires room { Short (tables denominators.old edges.old order.old rewards.old) → ⊥ }
     ensures { let before = tables denominators.old edges.old order.old rewards.old in
         let after = tables denominators.new edges.new order.new rewards.new in
-        ((more : ℕ) → LeftOver (input kept.now more) before (told_left result) after) }
+        ((more : ℕ) → LeftOver (input kept.now more) before (left result) after) }
 {
     let lost = lost::verdicts(kept);
-    let count = fill::tables(kept, &lost, denominators, edges, order, rewards);
-    let chain = chain(kept);
-    let reading = Reading::Chain {
-        chain,
-        edges: count,
+    let edges = fill::tables(kept, &lost, denominators, edges, order, rewards);
+    let book = Book {
+        chain: chain(kept),
+        edges,
     };
-    Left { reading, lost }
+    Left { book, lost }
 }
 
 // Reads what is left of a chain file in the same way: only its front has to be right.
@@ -154,16 +127,14 @@ pub fn salvage(
     edges: &mut [u64],
     order: &mut [u64],
     rewards: &mut [u64],
-) -> Left
+) -> Result<Left, Refusal>
     ensures { let before = tables denominators.old edges.old order.old rewards.old in
         let after = tables denominators.new edges.new order.new rewards.new in
         SalvageOutcome (input kept.now more) before (told_left result) after }
 {
     if fill::short(denominators.len(), edges.len(), order.len(), rewards.len()) {
-        return nothing(2, 0);
+        return Err(Refusal::from(Fault::Room));
     }
-    if let Verdict::Refused(number, place) = judge::front(kept, more) {
-        return nothing(number, place);
-    }
-    leave(kept, denominators, edges, order, rewards)
+    judge::front(kept, more)?;
+    Ok(leave(kept, denominators, edges, order, rewards))
 }

@@ -5,7 +5,6 @@ ghost use Rattle.meaning.specs.File.{most_blocks};
 ghost use Rattle.chainfile.specs.Input.{input};
 ghost use Rattle.chainfile.specs.Tells.{LostBy, Verdicts};
 
-use blocks::block::Block;
 use blocks::{block, head};
 use octets::layout;
 
@@ -14,8 +13,8 @@ fn by(kept: &[u8], b: usize) -> u64
     ensures { (more : ℕ) → LostBy (input kept.now more) b result }
 {
     match block::test(kept, b) {
-        Block::Right => 0,
-        Block::Wrong(number) => number as u64,
+        Ok(()) => 0,
+        Err(fault) => u64::from(fault.number()),
     }
 }
 
@@ -24,12 +23,9 @@ pub(crate) fn verdicts(kept: &[u8]) -> [u64; layout::BLOCKS]
     requires { demanded (input kept.now 0) ≤ most_blocks }
     ensures { (more : ℕ) → Verdicts (input kept.now more) result }
 {
-    let demanded = head::demanded(kept);
     let mut lost = [0u64; layout::BLOCKS];
-    let mut b = 1 + head::state_blocks(kept);
-    while b < demanded {
+    for b in 1 + head::state_blocks(kept)..head::demanded(kept) {
         lost[b] = by(kept, b);
-        b += 1;
     }
     lost
 }

@@ -3,7 +3,7 @@ use Prim.Native.Nat.{ℕ, suc, ◌+◌, ◌*◌, ◌^◌, ◌≤◌, ◌<◌}
 use native.Mathlib.Omega.{arith}
 use native.Mathlib.Nat.{pow-succ'}
 use native.Mathlib.Numerals.{add-one}
-use mathlib.Core.Path.{◌≡◌, refl, sym, ap, subst, ◌∙◌}
+use mathlib.Core.Path.{◌≡◌, refl, sym, ap, ◌∙◌}
 use mathlib.Core.Bool.{Bool, true, false}
 use mathlib.Core.Logic.{⊎_elim}
 use mathlib.Core.List.{List, [], ◌∷◌, ◌++◌}
@@ -20,15 +20,13 @@ use Rattle.theory.specs.Numbers.Sum.{below, same}
 use Rattle.theory.specs.Texts.ChainOne.{order_length}
 use Rattle.theory.specs.Texts.Turns.{to_state, to_edge, same_states, next_state, next_order, next_edge, next_none, more_states, more_order, more_edges}
 use Rattle.chain.specs.Edge.{placed}
-use Rattle.chaintext.specs.Lines.{IsState, state_read, StateRead, OrderFilled, order_read, OrderRead, EdgeFits, IsEdge, edge_read, EdgeRead}
+use Rattle.chaintext.specs.Lines.{IsState, StateRead, OrderFilled, OrderRead, EdgeFits, IsEdge, EdgeRead}
 use Rattle.chaintext.specs.Turns.{tables, held_lent, Cells, Ready, Stepped, TakenAs}
+use Rattle.std.proofs.Common.{Some, None}
 use Rattle.chaintext.specs.declared.lines.StateLine.{StateLine}
-use Rattle.chaintext.specs.declared.lines.StateLine.TheVariants.{State as IsStateLine, Nothing as NoState}
 use Rattle.chaintext.specs.declared.lines.EdgeLine.{EdgeLine}
-use Rattle.chaintext.specs.declared.lines.EdgeLine.TheVariants.{Edge as IsEdgeLine, Nothing as NoEdge}
 use Rattle.chaintext.specs.declared.turns.Turn.TheVariants.{State, Edge}
 use Rattle.chaintext.specs.declared.turns.Held.{Held}
-use Rattle.chaintext.specs.declared.turns.Taken.TheVariants.{Next, Wrong}
 use Rattle.chaintext.proofs.Goals.{unset, set_other, set_same, placed_length, placed_cell}
 use Rattle.chaintext.proofs.Turning.{held, count_is}
 use Rattle.chaintext.proofs.Cells.{set_cell, front_same, front_other, rest_cell}
@@ -74,48 +72,47 @@ module _ {line : List ℕ} {h : Held} {d es o rs : List ℕ} {i : ℕ} (r : Read
             ∙ ap (λ (z : List ℕ). to_state l i ++ (z ∷ [])) here;
       }
 
-  module _ {s : StateLine} (told : StateRead line i s) where
-    pub state_plain : {x y : ℕ} → s ≡ IsStateLine x y false
-        → TakenAs (State i) h (tables d es o rs) line (tables (set d i x) es o (set rs i y)) (Next (State (i + 1)) h)
+  pub state_wrong : StateRead line i None → TakenAs (State i) h (tables d es o rs) line (tables d es o rs) None
+  state_wrong told =
+      record {
+        told = λ b.
+            let m = b.0 in
+            told.told (denominator m.chain i) (get_or m.rewards i 0) (goal_at m i)
+            (record {
+              denominator_fits = b.2.denominators i;
+              reward_fits = b.2.rewards i;
+              line_is = next_state (held_lent h (tables d es o rs)) m line b.1 i b.3 inside;
+            });
+      }
+
+  module _ {s : StateLine} (told : StateRead line i (Some s)) where
+    pub state_plain : s.goal ≡ false
+        → TakenAs (State i) h (tables d es o rs) line (tables (set d i s.denominator) es o (set rs i s.reward)) (Some (State (i + 1), h))
     state_plain e =
         let g : h.goals < 2 ^ i = r.turn_fits_lem.1 in
         record {
-          told = added h.goals (subst (state_read line i) e told.told) (omega (arith, pow-succ' 2 i)) (λ j b. refl)
-              (ne_eqb (bit h.goals i) 1 (λ q. omega (arith, unset h.goals i g)));
+          told = added h.goals told.told (omega (arith, pow-succ' 2 i)) (λ j b. refl)
+              (ne_eqb (bit h.goals i) 1 (λ q. omega (arith, unset h.goals i g)) ∙ sym e);
         }
 
-    pub state_goal : {x y : ℕ} → s ≡ IsStateLine x y true
-        → TakenAs (State i) h (tables d es o rs) line (tables (set d i x) es o (set rs i y)) (Next (State (i + 1)) (held h.states h.edges h.start (h.goals + 2 ^ i)))
+    pub state_goal : s.goal ≡ true
+        → TakenAs (State i) h (tables d es o rs) line (tables (set d i s.denominator) es o (set rs i s.reward)) (Some (State (i + 1), held h.states h.edges h.start (h.goals + 2 ^ i)))
     state_goal e =
         let g : h.goals < 2 ^ i = r.turn_fits_lem.1 in
         record {
-          told = added (h.goals + 2 ^ i) (subst (state_read line i) e told.told) (omega (arith, pow-succ' 2 i)) (set_other h.goals i g)
-              (eq-eqb (bit (h.goals + 2 ^ i) i) 1 (set_same h.goals i g));
-        }
-
-    pub state_wrong : s ≡ NoState → TakenAs (State i) h (tables d es o rs) line (tables d es o rs) Wrong
-    state_wrong e =
-        record {
-          told = λ b.
-              let m = b.0 in
-              subst (state_read line i) e told.told (denominator m.chain i) (get_or m.rewards i 0) (goal_at m i)
-              (record {
-                denominator_fits = b.2.denominators i;
-                reward_fits = b.2.rewards i;
-                line_is = next_state (held_lent h (tables d es o rs)) m line b.1 i b.3 inside;
-              });
+          told = added (h.goals + 2 ^ i) told.told (omega (arith, pow-succ' 2 i)) (set_other h.goals i g)
+              (eq-eqb (bit (h.goals + 2 ^ i) i) 1 (set_same h.goals i g) ∙ sym e);
         }
 
 -- The line of the order.
 module _ {line : List ℕ} {h : Held} {d es o rs : List ℕ} (r : Ready (State h.states) h (tables d es o rs)) where
-  pub order_wrong : {o' : List ℕ} {b : Bool} → OrderRead line h.states o o' b → b ≡ false
-      → TakenAs (State h.states) h (tables d es o rs) line (tables d es o' rs) Wrong
-  order_wrong {o'} told e =
+  pub order_wrong : {o' : List ℕ} → OrderRead line h.states o o' None → TakenAs (State h.states) h (tables d es o rs) line (tables d es o' rs) None
+  order_wrong {o'} told =
       record {
         told = λ b.
             let m = b.0 in
             let n = same_states (held_lent h (tables d es o rs)) m line b.1 h.states b.3 in
-            subst (order_read line h.states o o') e told.told m.order
+            told.told m.order
             (record {
               long = order_length b.2 ∙ n;
               fits = b.2.order;
@@ -123,10 +120,9 @@ module _ {line : List ℕ} {h : Held} {d es o rs : List ℕ} (r : Ready (State h
             });
       }
 
-  pub order_taken : {o' : List ℕ} {b : Bool} → OrderRead line h.states o o' b → b ≡ true
-      → TakenAs (State h.states) h (tables d es o rs) line (tables d es o' rs) (Next (Edge 0) h)
-  order_taken {o'} told e =
-      let f : OrderFilled line h.states o o' = subst (order_read line h.states o o') e told.told in
+  pub order_taken : {o' : List ℕ} → OrderRead line h.states o o' (Some tt) → TakenAs (State h.states) h (tables d es o rs) line (tables d es o' rs) (Some (Edge 0, h))
+  order_taken {o'} told =
+      let f : OrderFilled line h.states o o' = told.told in
       let c = r.cells in
       let l = held_lent h (tables d es o rs) in
       let m = held_lent h (tables d es o' rs) in
@@ -165,28 +161,40 @@ fits_as e₁ e₂ e₃ e₄ f =
 
 -- The line of an edge.
 module _ {line : List ℕ} {h : Held} {d es o rs : List ℕ} {k : ℕ} (r : Ready (Edge k) h (tables d es o rs)) where
-  pub edge_none : h.edges ≤ k → TakenAs (Edge k) h (tables d es o rs) line (tables d es o rs) Wrong
+  pub edge_none : h.edges ≤ k → TakenAs (Edge k) h (tables d es o rs) line (tables d es o rs) None
   edge_none b =
       record {
         told = λ w. next_none (held_lent h (tables d es o rs)) w.0 line w.1 k w.3 (omega (arith, r.turn_fits_lem.0, count_is r));
       }
 
-  module _ (inside : k < h.edges) {e : EdgeLine} (told : EdgeRead line e) where
-    pub edge_wrong : e ≡ NoEdge → TakenAs (Edge k) h (tables d es o rs) line (tables d es o rs) Wrong
-    edge_wrong q =
+  module _ (inside : k < h.edges) where
+    pub edge_wrong : EdgeRead line None → TakenAs (Edge k) h (tables d es o rs) line (tables d es o rs) None
+    edge_wrong told =
         record {
           told = λ w.
               let p = w.2 in
-              subst (edge_read line) q told.told _ _ _ _
+              told.told _ _ _ _
               (record {
                 fits = record { source_fits = p.sources k; target_fits = p.targets k; weight_fits = p.weights k; reward_fits = p.edge_rewards k };
                 line_is = next_edge (held_lent h (tables d es o rs)) w.0 line w.1 k w.3 (omega (arith, count_is r));
               });
         }
 
-    module _ {x y z w : ℕ} (q : e ≡ IsEdgeLine x y z w) where
+    module _ {q : EdgeLine} (told : EdgeRead line (Some q)) where
+      abbrev x : ℕ
+      x = q.from
+
+      abbrev y : ℕ
+      y = q.to
+
+      abbrev z : ℕ
+      z = q.weight
+
+      abbrev w : ℕ
+      w = q.reward
+
       is : IsEdge line x y z w
-      is = subst (edge_read line) q told.told
+      is = told.told
 
       abbrev c : Cells (tables d es o rs)
       c = r.cells
@@ -262,7 +270,7 @@ module _ {line : List ℕ} {h : Held} {d es o rs : List ℕ} {k : ℕ} (r : Read
           ∙ other_cell j a b s u (omega (arith, r.few_edges)) (λ e. omega arith)
           ∙ sym (get_or-take (edge_size * h.edges) es b 0 (omega arith))
 
-      pub edge_taken : TakenAs (Edge k) h (tables d es o rs) line (tables d after o rs) (Next (Edge (k + 1)) h)
+      pub edge_taken : TakenAs (Edge k) h (tables d es o rs) line (tables d after o rs) (Some (Edge (k + 1), h))
       edge_taken =
           let l = held_lent h (tables d es o rs) in
           let m = held_lent h (tables d after o rs) in

@@ -9,10 +9,8 @@ use Rattle.meaning.specs.Report.{named_text}
 use Rattle.theory.specs.Texts.Lines.{space, nothing, regroup}
 use Rattle.chaintext.specs.Pieces.{NumberAt, NumberRead}
 use Rattle.chaintext.specs.Lines.{IsEdge, EdgeRead}
-use Rattle.chaintext.specs.declared.pieces.Numeral.{Numeral}
-use Rattle.chaintext.specs.declared.pieces.Numeral.TheVariants.{Nothing}
-use Rattle.chaintext.specs.declared.lines.EdgeLine.TheVariants.{Edge, Nothing as NoEdge}
-use Rattle.chaintext.proofs.Naming.{piece_one, piece_none}
+use Rattle.std.proofs.Common.{Some, None}
+use Rattle.chaintext.proofs.Naming.{piece_one}
 
 -- The pieces of the line.
 abbrev P₁ : ℕ → List ℕ
@@ -31,35 +29,35 @@ module _ {line : List ℕ} where
   first : {a b w r : ℕ} → IsEdge line a b w r → drop 0 line ≡ P₁ a ++ (P₂ b ++ (P₃ w ++ P₄ r))
   first {a} {b} {w} {r} i = i.line_is ∙ regroup (P₁ a) (P₂ b) (P₃ w) (P₄ r)
 
-  pub none₁ : {n : Numeral} → NumberRead line 0 (bytes_of "edge ") 255 n → n ≡ Nothing → EdgeRead line NoEdge
-  none₁ n e =
-      record { told = λ a b w r i. piece_none n e a (P₂ b ++ (P₃ w ++ P₄ r)) (omega (arith, i.fits.source_fits)) space (first i) }
+  pub none₁ : NumberRead line 0 (bytes_of "edge ") 255 None → EdgeRead line None
+  none₁ n =
+      record { told = λ a b w r i. n.told a (P₂ b ++ (P₃ w ++ P₄ r)) (omega (arith, i.fits.source_fits)) space (first i) }
 
   module _ {x₁ at₁ : ℕ} (n₁ : NumberAt line 0 (bytes_of "edge ") 255 x₁ at₁) where
     second : {a b w r : ℕ} → IsEdge line a b w r → drop at₁ line ≡ P₂ b ++ (P₃ w ++ P₄ r)
     second {a} {b} {w} {r} i = (piece_one n₁ a (P₂ b ++ (P₃ w ++ P₄ r)) space (first i)).1
 
-    pub none₂ : {n : Numeral} → NumberRead line at₁ (bytes_of " ") 255 n → n ≡ Nothing → EdgeRead line NoEdge
-    none₂ n e =
-        record { told = λ a b w r i. piece_none n e b (P₃ w ++ P₄ r) (omega (arith, i.fits.target_fits)) space (second i) }
+    pub none₂ : NumberRead line at₁ (bytes_of " ") 255 None → EdgeRead line None
+    none₂ n =
+        record { told = λ a b w r i. n.told b (P₃ w ++ P₄ r) (omega (arith, i.fits.target_fits)) space (second i) }
 
     module _ {x₂ at₂ : ℕ} (n₂ : NumberAt line at₁ (bytes_of " ") 255 x₂ at₂) where
       third : {a b w r : ℕ} → IsEdge line a b w r → drop at₂ line ≡ P₃ w ++ P₄ r
       third {a} {b} {w} {r} i = (piece_one n₂ b (P₃ w ++ P₄ r) space (second i)).1
 
-      pub none₃ : {n : Numeral} → NumberRead line at₂ (bytes_of " weight ") 4294967295 n → n ≡ Nothing → EdgeRead line NoEdge
-      none₃ n e = record { told = λ a b w r i. piece_none n e w (P₄ r) (omega (arith, i.fits.weight_fits)) space (third i) }
+      pub none₃ : NumberRead line at₂ (bytes_of " weight ") 4294967295 None → EdgeRead line None
+      none₃ n = record { told = λ a b w r i. n.told w (P₄ r) (omega (arith, i.fits.weight_fits)) space (third i) }
 
       module _ {x₃ at₃ : ℕ} (n₃ : NumberAt line at₂ (bytes_of " weight ") 4294967295 x₃ at₃) where
         fourth : {a b w r : ℕ} → IsEdge line a b w r → drop at₃ line ≡ P₄ r ++ []
         fourth {a} {b} {w} {r} i = (piece_one n₃ w (P₄ r) space (third i)).1 ∙ sym (append-nil (P₄ r))
 
-        pub none₄ : {n : Numeral} → NumberRead line at₃ (bytes_of " reward ") 65535 n → n ≡ Nothing → EdgeRead line NoEdge
-        none₄ n e = record { told = λ a b w r i. piece_none n e r [] i.fits.reward_fits nothing (fourth i) }
+        pub none₄ : NumberRead line at₃ (bytes_of " reward ") 65535 None → EdgeRead line None
+        none₄ n = record { told = λ a b w r i. n.told r [] i.fits.reward_fits nothing (fourth i) }
 
         module _ {x₄ at₄ : ℕ} (n₄ : NumberAt line at₃ (bytes_of " reward ") 65535 x₄ at₄) where
           -- Bytes are left over.
-          pub none₅ : at₄ < length line → EdgeRead line NoEdge
+          pub none₅ : at₄ < length line → EdgeRead line None
           none₅ h =
               record {
                 told = λ a b w r i.
@@ -68,7 +66,7 @@ module _ {line : List ℕ} where
                     omega (arith, length-drop at₄ line);
               }
 
-          pub whole : length line ≤ at₄ → EdgeRead line (Edge x₁ x₂ x₃ x₄)
+          pub whole : length line ≤ at₄ → EdgeRead line (Some (record { from = x₁; to = x₂; weight = x₃; reward = x₄ }))
           whole h =
               let end : drop at₃ line ≡ P₄ x₄ = n₄.stands.cut ∙ ap (λ z. P₄ x₄ ++ z) (drop_of_length-le line h) ∙ append-nil (P₄ x₄) in
               record {

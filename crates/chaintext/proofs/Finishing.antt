@@ -22,25 +22,12 @@ use Rattle.theory.specs.Texts.Turns.{states_line, edges_line, start_line, to_sta
 use Rattle.theory.specs.Texts.Ended.{lines_of, EachLine, each_none, each_last, lines_join, part, part_rest, part_ended, text_further, refused_at}
 use Rattle.chaintext.specs.Split.{LineEnd}
 use Rattle.chaintext.specs.Turns.{held_lent, Cells, Ready, so_far, taken, TakenAs}
-use Rattle.chaintext.specs.Read.{finished, Passed, passed_as, PassedAs, ReadAs}
+use Rattle.chaintext.specs.Read.{unfinished, finished, Passed, passed_as, PassedAs, ReadAs}
 use Rattle.chaintext.specs.declared.turns.Turn.{Turn}
 use Rattle.chaintext.specs.declared.turns.Turn.TheVariants.{States, Edges, Start, State, Edge}
 use Rattle.chaintext.specs.declared.turns.Held.{Held}
-use Rattle.chaintext.specs.declared.turns.Taken.{Taken}
-use Rattle.chaintext.specs.declared.turns.Taken.TheVariants.{Next, Wrong}
-use Rattle.chaintext.specs.declared.read.Reading.TheVariants.{Tables as Whole, Refused}
+use Rattle.std.proofs.Common.{Option, Some, None}
 use Rattle.chaintext.proofs.Turning.{held, count_is, storable}
-
--- What `finish` answers.
-module _ {turn : Turn} (h : Held) (n : ℕ) where
-  pub finish_more : {e : ℕ} → turn ≡ Edge e → e < h.edges → Refused (n + 1) ≡ finished turn h n
-  finish_more {e} q b = sym (ap (λ (z : Turn). finished z h n) q ∙ rw (lt-ltb e h.edges b))
-
-  pub finish_all : {e : ℕ} → turn ≡ Edge e → h.edges ≤ e → Whole h ≡ finished turn h n
-  finish_all {e} q b = sym (ap (λ (z : Turn). finished z h n) q ∙ rw (le-ltb e h.edges b))
-
-  pub finish_early : {turn' : Turn} → turn ≡ turn' → finished turn' h n ≡ finished turn h n
-  finish_early q = sym (ap (λ (z : Turn). finished z h n) q)
 
 -- A line that is passed over, or taken.
 said_passed : (line : List ℕ) → true ≡ passed line → said (line ∷ []) ≡ []
@@ -52,18 +39,18 @@ unfolding said
 said_kept line e = rw (← e)
 
 module _ {turn : Turn} {h : Held} {t : Tables} {line : List ℕ} where
-  pub step_passed : Ready turn h t → true ≡ passed line → PassedAs turn h t line t (Next turn h)
+  pub step_passed : Ready turn h t → true ≡ passed line → PassedAs turn h t line t (Some (turn, h))
   step_passed r e =
       let now = so_far turn (held_lent h t) in
       record { told = record { ready = r; lines = sym (ap (λ z. now ++ z) (said_passed line e) ∙ append-nil now) } }
 
-  pub step_taken : {t' : Tables} {a : Taken} → false ≡ passed line → TakenAs turn h t line t' a → PassedAs turn h t line t' a
+  pub step_taken : {t' : Tables} {a : Option (Turn × Held)} → false ≡ passed line → TakenAs turn h t line t' a → PassedAs turn h t line t' a
   step_taken {t'} {a} e s = record { told = go a s.told }
     where
-      go : (a : Taken) → taken turn h t line t' a → passed_as turn h t line t' a
-      go (Next turn' h') s =
+      go : (a : Option (Turn × Held)) → taken turn h t line t' a → passed_as turn h t line t' a
+      go (Some p) s =
           record { ready = s.ready; lines = s.lines ∙ ap (λ z. so_far turn (held_lent h t) ++ z) (sym (said_kept line e)) }
-      go Wrong s = λ b. s (subst (λ (z : List (List ℕ)). Begins (so_far turn (held_lent h t) ++ z)) (said_kept line e) b)
+      go None s = λ b. s (subst (λ (z : List (List ℕ)). Begins (so_far turn (held_lent h t) ++ z)) (said_kept line e) b)
 
 -- The lines that have come begin a chain's.
 begins_at : (turn : Turn) {h : Held} {t : Tables} → Ready turn h t → Begins (so_far turn (held_lent h t))
@@ -113,11 +100,14 @@ short_edges l m k h e =
 -- The end of the text.
 module _ {text : List ℕ} {lines : List (List ℕ)} (split : LinesOf text lines) where
   missing : (turn : Turn) {h : Held} {t : Tables} → Ready turn h t → said lines ≡ so_far turn (held_lent h t)
-      → ((m : Lent) → chain_lines m ≡ so_far turn (held_lent h t) → ⊥) → ReadAs text t (Refused (length lines + 1))
+      → ((m : Lent) → chain_lines m ≡ so_far turn (held_lent h t) → ⊥) → ReadAs text t (unfinished (length lines))
   missing turn {h} {t} r e f =
       record {
-        told = rw add-one
-            (line_missing lines split (subst Begins (sym e) (begins_at turn r)) (λ m p q. f m (q ∙ e)));
+        told = (
+          refl,
+          rw add-one
+              (line_missing lines split (subst Begins (sym e) (begins_at turn r)) (λ m p q. f m (q ∙ e))),
+        );
       }
 
   ends_at : (turn : Turn) {h : Held} {t : Tables} → Ready turn h t → said lines ≡ so_far turn (held_lent h t)
@@ -191,7 +181,7 @@ module _ {text : List ℕ} {number at : ℕ} {turn : Turn} {h : Held} {t : Table
       (subst (λ (z : List (List ℕ)). LinesOf (text_of p.lines ++ []) z) (append-nil p.lines) (lines_join p.each none)) in
       rw p.count (ends_at all turn p.ready p.come)
 
-  module _ {end : ℕ} (e : LineEnd text at end) (some : at < length text) {t' : Tables} {a : Taken} (s : PassedAs turn h t (part text at end) t' a) where
+  module _ {end : ℕ} (e : LineEnd text at end) (some : at < length text) {t' : Tables} {a : Option (Turn × Held)} (s : PassedAs turn h t (part text at end) t' a) where
     -- The lines from this one on.
     joined : {ms : List (List ℕ)} → LinesOf (drop at text) ms → LinesOf text (p.lines ++ ms)
     joined {ms} r = subst (λ (z : List ℕ). LinesOf z (p.lines ++ ms)) (sym p.cut) (lines_join p.each r)
@@ -209,25 +199,28 @@ module _ {text : List ℕ} {number at : ℕ} {turn : Turn} {h : Held} {t : Table
         subst (λ (z : List ℕ). LinesOf z (part text at end ∷ [])) (sym whole)
         (one_line (part text at end) (omega (arith, ap length whole, length-drop at text)) e.line)
 
-    wrong_in : (ms : List (List ℕ)) → LinesOf text (p.lines ++ (part text at end ∷ ms)) → a ≡ Wrong → ReadAs text t' (Refused (number + 1))
+    wrong_in : (ms : List (List ℕ)) → LinesOf text (p.lines ++ (part text at end ∷ ms)) → a ≡ None → ReadAs text t' (unfinished number)
     wrong_in ms r q =
         let z : number + 1 ≡ suc (length p.lines) = omega (arith, p.count) in
         record {
-          told = rw z
-              (refused_at p.lines ms (part text at end) r (subst Begins (sym p.come) (begins_at turn p.ready))
-              (λ b.
-              subst (passed_as turn h t (part text at end) t') q s.told
-              (subst (λ (y : List (List ℕ)). Begins (y ++ said (part text at end ∷ []))) p.come b)));
+          told = (
+            refl,
+            rw z
+                (refused_at p.lines ms (part text at end) r (subst Begins (sym p.come) (begins_at turn p.ready))
+                (λ b.
+                subst (passed_as turn h t (part text at end) t') q s.told
+                (subst (λ (y : List (List ℕ)). Begins (y ++ said (part text at end ∷ []))) p.come b))),
+          );
         }
 
-    pub progress_wrong : a ≡ Wrong → ReadAs text t' (Refused (number + 1))
+    pub progress_wrong : a ≡ None → ReadAs text t' (unfinished number)
     progress_wrong q =
         ⊎_elim
         (λ (b : end < length text). wrong_in _ (joined (here_ended b)) q)
         (λ (b : length text ≤ end). wrong_in _ (joined (here_last (omega (arith, e.inside)))) q)
         (below end (length text))
 
-    module _ {turn' : Turn} {h' : Held} (q : a ≡ Next turn' h') where
+    module _ {turn' : Turn} {h' : Held} (q : a ≡ Some (turn', h')) where
       next : Passed turn h t (part text at end) turn' h' t'
       next = subst (passed_as turn h t (part text at end) t') q s.told
 

@@ -3,11 +3,9 @@ use Prim.Native.Nat.{ℕ, ◌+◌, ◌*◌, ◌≤◌, ◌<◌}
 use native.Mathlib.Omega.{arith}
 use mathlib.Core.Path.{◌≡◌, refl, subst}
 use mathlib.Core.Logic.{⊎_elim, inl, inr}
-use mathlib.Core.Bool.{Bool, true, false}
+use mathlib.Core.Bool.{Bool, false}
 use mathlib.Core.List.{List}
 use lib.ListN.{length, get_or, replicate, length-replicate}
-use lib.Dec.{ltb}
-use borrow.Author.Tests.{lt-ltb, le-ltb}
 use Rattle.meaning.specs.Number.{decides}
 use Rattle.meaning.specs.Chain.{most_reward, edge_size}
 use Rattle.meaning.specs.Refusal.{Lent}
@@ -23,10 +21,11 @@ use Rattle.theory.specs.Numbers.Tab.{get_d_zeros}
 use Rattle.theory.specs.Texts.Made.{writes_made}
 use Rattle.octets.specs.Input.{input}
 use Rattle.chaintext.specs.Turns.{tables, held_lent, Cells}
-use Rattle.chaintext.specs.Read.{Held-says, read_as, ReadAs}
+use Rattle.chaintext.specs.Read.{ReadAs}
 use Rattle.chaintext.specs.declared.turns.Held.{Held}
-use Rattle.chaintext.specs.declared.read.Reading.{Reading}
-use Rattle.chaintext.specs.declared.read.Reading.TheVariants.{Tables as Whole, Refused}
+use Rattle.std.proofs.Common.{Ok, Err}
+use Rattle.chain.specs.Refusal.{number_of}
+use Rattle.chain.specs.declared.refusal.Refusal.{Refusal}
 
 -- Tables of zeros.
 zero_small : (n k b : ℕ) → 0 < b → get_or (replicate n 0) k 0 < b
@@ -73,50 +72,28 @@ storable_for h t work s =
       edge_rewards = s.edge_rewards;
     }
 
-module _ {text : List ℕ} {t : Tables} {r : Reading} (o : ReadAs text t r) where
-  pub held : {h : Held} → r ≡ Whole h → Held-says text t h
-  held e = subst (read_as text t) e o.told
-
-  pub made : {h : Held} {before after : List ℕ} {a : Writing} → r ≡ Whole h → (TextLong (whole_file text) → ⊥) → longest_file ≤ length before
+module _ {text : List ℕ} {t : Tables} where
+  pub made : {h : Held} {before after : List ℕ} {a : Writing} → ReadAs text t (Ok h) → (TextLong (whole_file text) → ⊥) → longest_file ≤ length before
       → WriteOutcome (lent_for h t before) a after → MakeOutcome (whole_file text) before a after
-  made {h} {before} e few room w =
-      let s = (held e).says in
+  made {h} {before} o few room w =
+      let s = o.told.says in
       writes_made room few (lent_for h t before)
       (record { lines = s.lines; split = s.split; storable = storable_for h t before s.storable; says = s.says })
       refl
       w
 
-  pub refused : {before : List ℕ} {place : ℕ} → r ≡ Refused place → (TextLong (whole_file text) → ⊥) → longest_file ≤ length before
-      → MakeOutcome (whole_file text) before (no_writing 40 place) before
-  refused {place = place} e few room = MakeOutcome.text_refused room few place (subst (read_as text t) e o.told) refl refl
+  pub refused : {r : Refusal} {before : List ℕ} → ReadAs text t (Err r) → (TextLong (whole_file text) → ⊥) → longest_file ≤ length before
+      → MakeOutcome (whole_file text) before (no_writing (number_of r.fault) r.place) before
+  refused {r} o few room = rw o.told.0 (MakeOutcome.text_refused room few r.place o.told.1 refl refl)
 
 -- A text with no more bytes than are read, all of which were kept.
 pub short_text_lem : (text : List ℕ) → length text ≤ most_text → TextLong (whole_file text) → ⊥
 short_text_lem text few (inl h) = omega arith
 short_text_lem text few (inr h) = omega arith
 
--- What the test of the length answers.
-pub long_text : (text : List ℕ) (more : ℕ) → most_text < length text → TextLong (input text more)
-long_text text more h = inl h
-
-pub decided_text : (text : List ℕ) (more : ℕ) → length text ≤ most_text → decides (TextLong (input text more)) (ltb 0 more)
-decided_text text more h =
-    ⊎_elim (λ (l : 0 < more). rw (lt-ltb 0 more l) (inr l)) (λ (l : more ≤ 0). rw (le-ltb 0 more l) (none l)) (below 0 more)
-  where
-    none : more ≤ 0 → TextLong (input text more) → ⊥
-    none l (inl k) = omega arith
-    none l (inr k) = omega arith
-
 module _ (f : Input) (r : Bool) (o : decides (TextLong f) r) where
-  pub long : r ≡ true → TextLong f
-  long e = subst (decides (TextLong f)) e o
-
   pub few : r ≡ false → TextLong f → ⊥
   few e = subst (decides (TextLong f)) e o
-
-pub few_bytes : (f : Input) → (TextLong f → ⊥) → length f.kept ≤ most_text
-few_bytes f few =
-    ⊎_elim (λ (h : most_text < length f.kept). absurd (few (inl h))) (λ h. h) (below most_text (length f.kept))
 
 -- What was not kept counts only where there is some.
 pub all_kept : (text : List ℕ) (more : ℕ) {before after : List ℕ} {a : Writing} → (TextLong (input text more) → ⊥) → MakeOutcome (input text 0) before a after

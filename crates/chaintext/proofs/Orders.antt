@@ -3,8 +3,7 @@ use Prim.Native.Nat.{ℕ, suc, ◌+◌, ◌≤◌, ◌<◌}
 use native.Mathlib.Omega.{arith}
 use native.Mathlib.Numerals.{add-one}
 use native.Mathlib.Nat.{eq-or-lt_of_le}
-use mathlib.Core.Path.{◌≡◌, refl, sym, ap, subst, ◌∙◌}
-use mathlib.Core.Bool.{true, false}
+use mathlib.Core.Path.{◌≡◌, refl, sym, ap, ◌∙◌}
 use mathlib.Core.Logic.{⊎_elim}
 use mathlib.Core.List.{List, ◌++◌, append_assoc, append-nil, append_cancel_left}
 use lib.ListN.{length, get_or, take, drop, set, length-drop, length-set, drop_of_length-le, get_or-eq_default}
@@ -14,14 +13,11 @@ use Rattle.meaning.specs.Report.{named_text}
 use Rattle.meaning.specs.ChainText.{spaced, order_line}
 use Rattle.theory.specs.Numbers.Sum.{below}
 use Rattle.theory.specs.Texts.Lines.{spaced_ended}
-use Rattle.chaintext.specs.Pieces.{NumberAt, NumberRead, found, WordRead}
+use Rattle.chaintext.specs.Pieces.{NumberAt, NumberRead, WordRead}
 use Rattle.chaintext.specs.Lines.{IsOrder, OrderRead}
-use Rattle.chaintext.specs.declared.pieces.Found.{Found}
-use Rattle.chaintext.specs.declared.pieces.Found.TheVariants.{At, Nothing as Unfound}
-use Rattle.chaintext.specs.declared.pieces.Numeral.{Numeral}
+use Rattle.std.proofs.Common.{Some, None}
 use Rattle.theory.specs.Texts.Lines.{spaced_more}
-use Rattle.chaintext.specs.declared.pieces.Numeral.TheVariants.{Nothing}
-use Rattle.chaintext.proofs.Naming.{piece_one, piece_none, word_at}
+use Rattle.chaintext.proofs.Naming.{piece_one}
 
 -- What is left of an order from p on.
 spaced_from : (o : List ℕ) (p : ℕ) → p < length o → spaced (drop p o) ≡ named_text (bytes_of " ") (get_or o p 0) ++ spaced (drop (suc p) o)
@@ -45,13 +41,10 @@ pub record OrderTo (line : List ℕ) (n : ℕ) (before after : List ℕ) (at p :
   pub only : (o : List ℕ) → IsOrder line n o → drop at line ≡ spaced (drop p o)
 
 module _ {line : List ℕ} {n : ℕ} {before : List ℕ} where
-  pub order_unfound : {after : List ℕ} {w : Found} → WordRead line 0 (bytes_of "order") w → w ≡ Unfound → OrderRead line n before after false
-  order_unfound f e = record { told = λ o i. subst (found line 0 (bytes_of "order")) e f.told (spaced o) i.line_is }
-
-  pub order_begun : {w : Found} {begin : ℕ} → WordRead line 0 (bytes_of "order") w → w ≡ At begin → OrderTo line n before before begin 0
+  pub order_begun : {begin : ℕ} → WordRead line 0 (bytes_of "order") (Some begin) → OrderTo line n before before begin 0
   unfolding spaced
-  order_begun {begin = begin} f e =
-      let s = word_at f e in
+  order_begun {begin} f =
+      let s = f.told in
       record {
         few = omega arith;
         inside = s.inside;
@@ -67,10 +60,10 @@ module _ {line : List ℕ} {n : ℕ} {before : List ℕ} where
     next : p < n → (o : List ℕ) → IsOrder line n o → drop at line ≡ named_text (bytes_of " ") (get_or o p 0) ++ spaced (drop (suc p) o)
     next h o i = r.only o i ∙ spaced_from o p (omega (arith, i.long))
 
-    pub order_stuck : {m : Numeral} → p < n → NumberRead line at (bytes_of " ") 255 m → m ≡ Nothing → OrderRead line n before after false
-    order_stuck h m e =
+    pub order_stuck : p < n → NumberRead line at (bytes_of " ") 255 None → OrderRead line n before after None
+    order_stuck h m =
         record {
-          told = λ o i. piece_none m e (get_or o p 0) (spaced (drop (suc p) o)) (omega (arith, i.fits p)) (spaced_ended (drop (suc p) o)) (next h o i);
+          told = λ o i. m.told (get_or o p 0) (spaced (drop (suc p) o)) (omega (arith, i.fits p)) (spaced_ended (drop (suc p) o)) (next h o i);
         }
 
     pub order_more : {x end : ℕ} → p < n → n ≤ length before → NumberAt line at (bytes_of " ") 255 x end
@@ -92,7 +85,7 @@ module _ {line : List ℕ} {n : ℕ} {before : List ℕ} where
               rw add-one (piece_one m (get_or o p 0) (spaced (drop (suc p) o)) (spaced_ended (drop (suc p) o)) (next h o i)).1;
         }
 
-    pub order_long : at < length line → n ≤ p → OrderRead line n before after false
+    pub order_long : at < length line → n ≤ p → OrderRead line n before after None
     unfolding spaced
     order_long h e =
         record {
@@ -101,7 +94,7 @@ module _ {line : List ℕ} {n : ℕ} {before : List ℕ} where
               omega (arith, length-drop at line);
         }
 
-    pub order_whole : length line ≤ at → n ≤ p → n ≤ length before → OrderRead line n before after true
+    pub order_whole : length line ≤ at → n ≤ p → n ≤ length before → OrderRead line n before after (Some tt)
     order_whole h e room =
         let all : p ≡ n = omega (arith, r.few) in
         record {

@@ -1,6 +1,7 @@
 -- A number is read digit by digit.
 use Prim.Native.Nat.{ℕ, suc, ◌+◌, ◌*◌, ◌-◌, ◌/◌, ◌%◌, ◌≤◌, ◌<◌}
 use native.Mathlib.Omega.{arith}
+use Rattle.std.proofs.Common.{max}
 use native.Mathlib.Numerals.{add-one}
 use mathlib.Core.Path.{◌≡◌, refl, sym, ap, subst, ◌∙◌}
 use mathlib.Core.Logic.{⊎_elim}
@@ -35,13 +36,10 @@ pub end_ended : (line : List ℕ) (i : ℕ) → length line ≤ i → IsDigit (g
 end_ended line i h d = let z = get_or-eq_default line 0 h in omega (arith, d.0)
 
 module _ {line : List ℕ} {place limit : ℕ} where
-  pub read_small : {i x : ℕ} → ReadTo line place limit i x → x ≤ limit
-  read_small begun = omega arith
-  read_small (going i x a b s e) = s
-
-  pub read_from : {i x : ℕ} → ReadTo line place limit i x → place ≤ i
-  read_from begun = omega arith
-  read_from (going i x a b s e) = omega arith
+  -- At the end of the line, or at a place past it.
+  pub read_end : {i x : ℕ} → ReadTo line place limit i x → length line ≤ i → i ≡ max (length line) place
+  read_end begun h = omega arith
+  read_end (going i x a b s e) h = omega arith
 
   -- The digits end.
   pub read_ends : {i x : ℕ} → ReadTo line place limit i x → (IsDigit (get_or line i 0) → ⊥) → numbered line place [] limit (ended place i x)

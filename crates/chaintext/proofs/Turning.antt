@@ -18,15 +18,12 @@ use Rattle.meaning.specs.ChainText.{Storable}
 use Rattle.theory.specs.Numbers.Sum.{below}
 use Rattle.theory.specs.Outcomes.Formed.{at_most, positive}
 use Rattle.theory.specs.Texts.Turns.{states_line, edges_line, next_states, next_edges, next_start}
-use Rattle.chaintext.specs.Lines.{IsCount, count_read, CountRead}
+use Rattle.chaintext.specs.Lines.{IsCount, CountRead}
 use Rattle.chaintext.specs.Turns.{held_lent, Cells, turn_fits, Ready, TakenAs}
-use Rattle.chaintext.specs.declared.lines.CountLine.{CountLine}
-use Rattle.chaintext.specs.declared.lines.CountLine.TheVariants.{Value, Nothing as NoCount}
 use Rattle.chaintext.specs.declared.turns.Turn.{Turn}
 use Rattle.chaintext.specs.declared.turns.Turn.TheVariants.{States, Edges, Start, State, Edge}
 use Rattle.chaintext.specs.declared.turns.Held.{Held}
-use Rattle.chaintext.specs.declared.turns.Taken.{Taken}
-use Rattle.chaintext.specs.declared.turns.Taken.TheVariants.{Next, Wrong}
+use Rattle.std.proofs.Common.{Option, Some, None}
 
 -- A cell of the front of a table is a cell of the table, or 0.
 cut_cell : (P : ℕ → Type 0) (n : ℕ) (l : List ℕ) (j : ℕ) → P (get_or l j 0) → P 0 → P (get_or (take n l) j 0)
@@ -99,10 +96,10 @@ held states edges start goals = record { states = states; edges = edges; start =
 
 -- The first three lines.
 module _ {line : List ℕ} {h : Held} {t : Tables} where
-  pub states_taken : {c : CountLine} {x : ℕ} → CountRead line (bytes_of "states ") 1 64 c → c ≡ Value x → Ready States h t
-      → TakenAs States h t line t (Next Edges (held x h.edges h.start h.goals))
-  states_taken {x = x} c e r =
-      let i : IsCount line (bytes_of "states ") 1 64 x = subst (count_read line (bytes_of "states ") 1 64) e c.told in
+  pub states_taken : {x : ℕ} → CountRead line (bytes_of "states ") 1 64 (Some x) → Ready States h t
+      → TakenAs States h t line t (Some (Edges, held x h.edges h.start h.goals))
+  states_taken {x} c r =
+      let i : IsCount line (bytes_of "states ") 1 64 x = c.told in
       record {
         told = record {
           ready = record {
@@ -118,18 +115,18 @@ module _ {line : List ℕ} {h : Held} {t : Tables} where
         };
       }
 
-  pub states_wrong : {c : CountLine} → CountRead line (bytes_of "states ") 1 64 c → c ≡ NoCount → TakenAs States h t line t Wrong
-  states_wrong c e =
+  pub states_wrong : CountRead line (bytes_of "states ") 1 64 None → TakenAs States h t line t None
+  states_wrong c =
       record {
         told = λ b.
-            subst (count_read line (bytes_of "states ") 1 64) e c.told b.0.chain.states
+            c.told b.0.chain.states
             (record { low = states_some b.2; high = states_few b.2; line_is = next_states (held_lent h t) b.0 line b.1 b.3 });
       }
 
-  pub edges_taken : {c : CountLine} {x : ℕ} → CountRead line (bytes_of "edges ") 1 4096 c → c ≡ Value x → Ready Edges h t
-      → TakenAs Edges h t line t (Next Start (held h.states x h.start h.goals))
-  edges_taken {x = x} c e r =
-      let i : IsCount line (bytes_of "edges ") 1 4096 x = subst (count_read line (bytes_of "edges ") 1 4096) e c.told in
+  pub edges_taken : {x : ℕ} → CountRead line (bytes_of "edges ") 1 4096 (Some x) → Ready Edges h t
+      → TakenAs Edges h t line t (Some (Start, held h.states x h.start h.goals))
+  edges_taken {x} c r =
+      let i : IsCount line (bytes_of "edges ") 1 4096 x = c.told in
       let ready : Ready Start (held h.states x h.start h.goals) t =
       record {
         cells = r.cells;
@@ -147,19 +144,19 @@ module _ {line : List ℕ} {h : Held} {t : Tables} where
         };
       }
 
-  pub edges_wrong : {c : CountLine} → CountRead line (bytes_of "edges ") 1 4096 c → c ≡ NoCount → TakenAs Edges h t line t Wrong
-  edges_wrong c e =
+  pub edges_wrong : CountRead line (bytes_of "edges ") 1 4096 None → TakenAs Edges h t line t None
+  edges_wrong c =
       record {
         told = λ b.
-            subst (count_read line (bytes_of "edges ") 1 4096) e c.told (edge_count b.0.chain.edges)
+            c.told (edge_count b.0.chain.edges)
             (record { low = edges_some b.2; high = edges_few b.2; line_is = next_edges (held_lent h t) b.0 line b.1 b.3 });
       }
 
-  pub start_taken : {c : CountLine} {x : ℕ} → CountRead line (bytes_of "start ") 0 255 c → c ≡ Value x → Ready Start h t
-      → TakenAs Start h t line t (Next (State 0) (held h.states h.edges x h.goals))
+  pub start_taken : {x : ℕ} → CountRead line (bytes_of "start ") 0 255 (Some x) → Ready Start h t
+      → TakenAs Start h t line t (Some ((State 0), held h.states h.edges x h.goals))
   unfolding tab_from
-  start_taken {x = x} c e r =
-      let i : IsCount line (bytes_of "start ") 0 255 x = subst (count_read line (bytes_of "start ") 0 255) e c.told in
+  start_taken {x} c r =
+      let i : IsCount line (bytes_of "start ") 0 255 x = c.told in
       record {
         told = record {
           ready = record {
@@ -175,16 +172,16 @@ module _ {line : List ℕ} {h : Held} {t : Tables} where
         };
       }
 
-  pub start_wrong : {c : CountLine} → CountRead line (bytes_of "start ") 0 255 c → c ≡ NoCount → TakenAs Start h t line t Wrong
-  start_wrong c e =
+  pub start_wrong : CountRead line (bytes_of "start ") 0 255 None → TakenAs Start h t line t None
+  start_wrong c =
       record {
         told = λ b.
-            subst (count_read line (bytes_of "start ") 0 255) e c.told b.0.chain.start
+            c.told b.0.chain.start
             (record { low = omega arith; high = omega (arith, b.2.start); line_is = next_start (held_lent h t) b.0 line b.1 b.3 });
       }
 
 -- The turn is known by another name.
-pub as_turn : {turn turn' : Turn} {h : Held} {t t' : Tables} {line : List ℕ} {a : Taken} → turn ≡ turn' → Ready turn h t
+pub as_turn : {turn turn' : Turn} {h : Held} {t t' : Tables} {line : List ℕ} {a : Option (Turn × Held)} → turn ≡ turn' → Ready turn h t
     → (Ready turn' h t → TakenAs turn' h t line t' a) → TakenAs turn h t line t' a
 as_turn {h = h} {t = t} {t' = t'} {line = line} {a = a} e r f =
     subst (λ (z : Turn). TakenAs z h t line t' a) (sym e) (f (subst (λ (z : Turn). Ready z h t) e r))

@@ -1,5 +1,5 @@
 -- The lines of a chain text in their turns.
-use Rattle.std.specs.Prelude.{ℕ, ◌*◌, ◌^◌, ◌≤◌, ◌<◌, ◌≡◌, List, [], ◌∷◌, ◌++◌, length, get_or, take}
+use Rattle.std.specs.Prelude.{ℕ, ◌*◌, ◌^◌, ◌≤◌, ◌<◌, ◌≡◌, List, [], ◌∷◌, ◌++◌, length, get_or, take, Option, Some, None}
 use Rattle.meaning.specs.Chain.{most_states, most_edges, most_reward, edge_size, from, to, weight, edge_reward}
 use Rattle.meaning.specs.Refusal.{Lent}
 use Rattle.meaning.specs.File.{Tables}
@@ -9,8 +9,6 @@ use Rattle.chaintext.specs.Lines.{EdgeFits}
 use Rattle.chaintext.specs.declared.turns.Turn.{Turn}
 use Rattle.chaintext.specs.declared.turns.Turn.TheVariants.{States, Edges, Start, State, Edge}
 use Rattle.chaintext.specs.declared.turns.Held.{Held}
-use Rattle.chaintext.specs.declared.turns.Taken.{Taken}
-use Rattle.chaintext.specs.declared.turns.Taken.TheVariants.{Next, Wrong}
 
 abbrev pub tables : List ℕ → List ℕ → List ℕ → List ℕ → Tables
 tables denominators edges order rewards = record { denominators = denominators; edges = edges; order = order; rewards = rewards }
@@ -73,9 +71,9 @@ pub record Stepped (turn : Turn) (h : Held) (t : Tables) (line : List ℕ) (turn
   pub ready : Ready turn' h' t'
   pub lines : so_far turn' (held_lent h' t') ≡ so_far turn (held_lent h t) ++ (line ∷ [])
 
-abbrev pub taken : Turn → Held → Tables → List ℕ → Tables → Taken → Type 0
-taken turn h t line t' (Next turn' h') = Stepped turn h t line turn' h' t'
-taken turn h t line t' Wrong = Begins (so_far turn (held_lent h t) ++ (line ∷ [])) → ⊥
+abbrev pub taken : Turn → Held → Tables → List ℕ → Tables → Option (Turn × Held) → Type 0
+taken turn h t line t' (Some p) = Stepped turn h t line p.0 p.1 t'
+taken turn h t line t' None = Begins (so_far turn (held_lent h t) ++ (line ∷ [])) → ⊥
 
-pub record TakenAs (turn : Turn) (h : Held) (t : Tables) (line : List ℕ) (t' : Tables) (r : Taken) : Type 0 where
+pub record TakenAs (turn : Turn) (h : Held) (t : Tables) (line : List ℕ) (t' : Tables) (r : Option (Turn × Held)) : Type 0 where
   pub told : taken turn h t line t' r

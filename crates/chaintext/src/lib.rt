@@ -8,9 +8,9 @@ ghost use Rattle.meaning.specs.Translate.{most_text, TextLong, MakeOutcome};
 ghost use Rattle.octets.specs.Input.{input};
 ghost use Rattle.chainwriter.specs.Tells.{told};
 
-use crate::read::Reading;
+use chain::given::Given;
+use chain::refusal::{Fault, Refusal};
 use chain::{Chain, edge};
-use chainwriter::Writing;
 
 mod lines;
 mod pieces;
@@ -28,14 +28,11 @@ pub const FILE_ROOM: usize = octets::layout::LONGEST;
 fn too_long(text: &[u8], more: u64) -> bool
     ensures { decides (TextLong (input text.now more)) result }
 {
-    if LONGEST < text.len() {
-        return true;
-    }
-    0 < more
+    LONGEST < text.len() || 0 < more
 }
 
 // Reads a text, and writes the file of the chain that it says.
-fn translate(text: &[u8], buffer: &mut [u8]) -> Writing
+fn translate(text: &[u8], buffer: &mut [u8]) -> Result<usize, Refusal>
     requires { (length text.now ≤ most_text) × (longest_file ≤ length buffer.old) }
     ensures { MakeOutcome (input text.now 0) buffer.old (told result) buffer.new }
 {
@@ -43,50 +40,36 @@ fn translate(text: &[u8], buffer: &mut [u8]) -> Writing
     let mut edges = [0u64; edge::MOST];
     let mut order = [0u64; Chain::STATES];
     let mut rewards = [0u64; Chain::STATES];
-    match read::read(
+    let held = read::read(
         text,
         &mut denominators,
         &mut edges,
         &mut order,
         &mut rewards,
-    ) {
-        Reading::Refused(place) => Writing::Refused { number: 40, place },
-        Reading::Tables(held) => {
-            let n = held.states;
-            let e = edge::SIZE * held.edges;
-            let chain = Chain {
-                states: n,
-                start: held.start,
-                goals: held.goals,
-            };
-            chainwriter::write(
-                chain,
-                &denominators[..n],
-                &edges[..e],
-                &order[..n],
-                &rewards[..n],
-                buffer,
-            )
-        }
-    }
+    )?;
+    let n = held.states;
+    let given = Given {
+        chain: Chain {
+            states: n,
+            start: held.start,
+            goals: held.goals,
+        },
+        denominators: &denominators[..n],
+        edges: &edges[..edge::SIZE * held.edges],
+    };
+    chainwriter::write(&given, &order[..n], &rewards[..n], buffer)
 }
 
 // Writes the chain file of the text of which `text` holds the first bytes and `more` counts the others, at the front of the buffer, and
 // answers its length. A refusal leaves the whole buffer.
-pub fn make(text: &[u8], more: u64, buffer: &mut [u8]) -> Writing
+pub fn make(text: &[u8], more: u64, buffer: &mut [u8]) -> Result<usize, Refusal>
     ensures { MakeOutcome (input text.now more) buffer.old (told result) buffer.new }
 {
     if buffer.len() < FILE_ROOM {
-        return Writing::Refused {
-            number: 2,
-            place: 0,
-        };
+        return Err(Refusal::from(Fault::Room));
     }
     if too_long(text, more) {
-        return Writing::Refused {
-            number: 41,
-            place: 0,
-        };
+        return Err(Refusal::from(Fault::TextLength));
     }
     translate(text, buffer)
 }

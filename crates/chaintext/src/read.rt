@@ -4,32 +4,18 @@ ghost use Rattle.theory.specs.Texts.Ended.{part};
 ghost use Rattle.chaintext.specs.Turns.{tables, Cells, Ready};
 ghost use Rattle.chaintext.specs.Read.{finished, PassedAs, ReadAs};
 
-use crate::turns::{Held, Taken, Turn};
+use crate::turns::{Held, Turn};
 use crate::{split, turns};
+use chain::refusal::{Fault, Refusal};
 
-// What a text says, beside the tables; or the number of the line by which it is refused.
-#[derive(Clone, Copy)]
-pub(crate) enum Reading {
-    Tables(Held),
-    Refused(usize),
-}
-
-// At the end of the text, after so many lines.
-fn finish(turn: Turn, held: Held, number: usize) -> Reading
+// At the end of the text, after so many lines: a line that is missing is the next.
+fn finish(turn: Turn, held: Held, number: usize) -> Result<Held, Refusal>
     requires { number ≤ 4294967295 }
     ensures { result ≡ finished turn held number }
 {
     match turn {
-        Turn::Edge(e) => {
-            if e < held.edges {
-                return Reading::Refused(number + 1);
-            }
-            Reading::Tables(held)
-        }
-        Turn::States => Reading::Refused(number + 1),
-        Turn::Edges => Reading::Refused(number + 1),
-        Turn::Start => Reading::Refused(number + 1),
-        Turn::State(_) => Reading::Refused(number + 1),
+        Turn::Edge(e) if held.edges <= e => Ok(held),
+        _ => Err(Refusal::at(Fault::Line, number + 1)),
     }
 }
 
@@ -42,26 +28,26 @@ fn step(
     edges: &mut [u64],
     order: &mut [u64],
     rewards: &mut [u64],
-) -> Taken
+) -> Option<(Turn, Held)>
     requires { Ready turn held (tables denominators.old edges.old order.old rewards.old) }
     ensures { let before = tables denominators.old edges.old order.old rewards.old in
         let after = tables denominators.new edges.new order.new rewards.new in
         PassedAs turn held before line.now after result }
 {
     if split::is_passed(line) {
-        return Taken::Next { turn, held };
+        return Some((turn, held));
     }
     turns::take(line, turn, held, denominators, edges, order, rewards)
 }
 
-// Reads a text into tables of the largest chain's size, whose numbers are in range.
+// Reads a text into tables of the largest chain's size, whose numbers are in range. Answers what it says beside them; a text is refused at a line.
 pub(crate) fn read(
     text: &[u8],
     denominators: &mut [u64],
     edges: &mut [u64],
     order: &mut [u64],
     rewards: &mut [u64],
-) -> Reading
+) -> Result<Held, Refusal>
     requires { (length text.now ≤ 4294967295) × Cells (tables denominators.old edges.old order.old rewards.old) }
     ensures { let after = tables denominators.new edges.new order.new rewards.new in
         ReadAs text.now after result }
@@ -77,16 +63,9 @@ pub(crate) fn read(
     let mut at = 0;
     while at < text.len() {
         let end = split::end(text, at);
-        let Taken::Next { turn: t, held: h } = step(
-            &text[at..end],
-            turn,
-            held,
-            denominators,
-            edges,
-            order,
-            rewards,
-        ) else {
-            return Reading::Refused(number + 1);
+        let line = &text[at..end];
+        let Some((t, h)) = step(line, turn, held, denominators, edges, order, rewards) else {
+            return Err(Refusal::at(Fault::Line, number + 1));
         };
         number += 1;
         if end == text.len() {

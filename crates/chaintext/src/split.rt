@@ -8,22 +8,14 @@ pub(crate) fn end(text: &[u8], at: usize) -> usize
     requires { at ≤ length text.now }
     ensures { LineEnd text.now at result }
 {
-    let mut i = at;
-    while i < text.len() {
-        if text[i] == b'\n' {
-            return i;
-        }
-        i += 1;
-    }
-    i
+    (at..text.len())
+        .find(|i| text[*i] == b'\n')
+        .unwrap_or(text.len())
 }
 
 // Empty lines and comments are passed over.
 pub(crate) fn is_passed(line: &[u8]) -> bool
     ensures { result ≡ passed line.now }
 {
-    if line.len() == 0 {
-        return true;
-    }
-    line[0] == b'#'
+    line.is_empty() || line[0] == b'#'
 }

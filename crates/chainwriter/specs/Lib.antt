@@ -1,3 +1,4 @@
 pub mod Made
 pub mod Packed
 pub mod Tells
+pub mod Source

@@ -7,34 +7,28 @@ ghost use Rattle.meaning.specs.Block.{blocks_of};
 ghost use Rattle.meaning.specs.Refusal.{Misshaped};
 ghost use Rattle.meaning.specs.Write.{filing, WriteOutcome};
 ghost use Rattle.meaning.specs.Number.{decides};
-ghost use Rattle.chain.specs.Lent.{lent};
+ghost use Rattle.chain.specs.Given.{with};
 ghost use Rattle.look.specs.Says.{Looks};
 ghost use Rattle.meaning.specs.File.{most_blocks};
 ghost use Rattle.chainwriter.specs.Tells.{told};
 
+use crate::lent::Source;
 use blocks::head;
-use chain::{Chain, edge};
-use look::scan::Place;
-use look::{Finding, rewards, scan, shape};
+use chain::edge;
+use chain::given::Given;
+use chain::refusal::{Fault, Refusal, refuse};
+use look::{rewards, scan, shape};
 use octets::layout;
 
+mod lent;
 mod make;
 mod pack;
-
-#[derive(Clone, Copy)]
-pub enum Writing {
-    Length(usize),
-    Refused { number: u32, place: usize },
-}
 
 // 1: a file has an edge, and the tables fit one another.
 fn misshaped(n: usize, denominators: usize, edges: &[u64], order: usize, rewards: usize) -> bool
     ensures { decides (Misshaped filing n denominators (length edges.now) order rewards) result }
 {
-    if edge::count(edges) == 0 {
-        return true;
-    }
-    shape::misshaped(n, denominators, edges, order, rewards)
+    edge::count(edges) == 0 || shape::misshaped(n, denominators, edges, order, rewards)
 }
 
 // How many blocks a file of so many states and edges has.
@@ -46,67 +40,32 @@ fn total(states: usize, edges: usize) -> usize
 }
 
 // The looking of the writer, whose buffer has room for so many bytes: 1 to 11.
-fn look(
-    c: Chain,
-    denominators: &[u64],
-    edges: &[u64],
-    order: &[u64],
-    rewards: &[u64],
-    room: usize,
-) -> Finding
-    ensures { let l = lent c denominators.now edges.now order.now rewards.now in
-        ((w : List ℕ) → length w ≡ room → Looks filing (l w) result) }
+fn look(g: &Given, order: &[u64], rewards: &[u64], room: usize) -> Result<(), Refusal>
+    ensures { (w : List ℕ) → length w ≡ room → Looks filing (with g.now order.now rewards.now w) result }
 {
-    let n = c.states;
-    if misshaped(n, denominators.len(), edges, order.len(), rewards.len()) {
-        return Finding::Refused {
-            number: 1,
-            place: 0,
-        };
+    let n = g.chain.states;
+    if misshaped(n, g.denominators.len(), g.edges, order.len(), rewards.len()) {
+        return Err(Refusal::from(Fault::Length));
     }
-    if room < layout::BLOCK * total(n, edge::count(edges)) {
-        return Finding::Refused {
-            number: 2,
-            place: 0,
-        };
+    if room < layout::BLOCK * total(n, edge::count(g.edges)) {
+        return Err(Refusal::from(Fault::Room));
     }
-    if let Finding::Refused { number, place } = look::bare(c, denominators, edges) {
-        return Finding::Refused { number, place };
-    }
-    if let Place::At(place) = scan::order(n, order) {
-        let number = 10;
-        return Finding::Refused { number, place };
-    }
-    if let Place::At(place) = rewards::too_large(n, rewards, edges) {
-        let number = 11;
-        return Finding::Refused { number, place };
-    }
-    Finding::Clear
+    look::bare(g)?;
+    refuse(Fault::Order, scan::order(n, order))?;
+    refuse(Fault::Reward, rewards::too_large(n, rewards, g.edges))
 }
 
 // Writes the chain file of what is lent at the front of the buffer, and answers its length. A refusal leaves the whole buffer.
-pub fn write(
-    c: Chain,
-    denominators: &[u64],
-    edges: &[u64],
-    order: &[u64],
-    rewards: &[u64],
-    buffer: &mut [u8],
-) -> Writing
-    ensures { let l = lent c denominators.now edges.now order.now rewards.now in
-        WriteOutcome (l buffer.old) (told result) buffer.new }
+pub fn write(g: &Given, order: &[u64], rewards: &[u64], buffer: &mut [u8]) -> Result<usize, Refusal>
+    ensures { WriteOutcome (with g.now order.now rewards.now buffer.old) (told result) buffer.new }
 {
-    if let Finding::Refused { number, place } = look(
-        c,
-        denominators,
-        edges,
+    look(g, order, rewards, buffer.len())?;
+    let total = total(g.chain.states, edge::count(g.edges));
+    let source = Source {
+        given: *g,
         order,
         rewards,
-        buffer.len(),
-    ) {
-        return Writing::Refused { number, place };
-    }
-    let total = total(c.states, edge::count(edges));
-    make::blocks(c, denominators, edges, order, rewards, buffer, total);
-    Writing::Length(layout::BLOCK * total)
+    };
+    make::blocks(&source, buffer, total);
+    Ok(layout::BLOCK * total)
 }

@@ -1,15 +1,16 @@
 // The blocks of a chain file, written one after the other. The head goes first: each further block asks it for its kind and its count.
-ghost use Rattle.std.specs.Prelude.{[], ◌≡◌, ◌+◌, ◌*◌, ◌≤◌, ◌<◌, length};
+ghost use Rattle.std.specs.Prelude.{◌≡◌, ◌+◌, ◌*◌, ◌≤◌, ◌<◌, length};
 ghost use Rattle.meaning.specs.Block.{block_size, block_at, full_block};
 ghost use Rattle.meaning.specs.File.{kind_of, count_of, most_blocks};
-ghost use Rattle.chain.specs.Lent.{lent};
 ghost use Rattle.octets.specs.Input.{input};
-ghost use Rattle.chainwriter.specs.Packed.{Fitting, begin_of};
+ghost use Rattle.blocks.specs.Kinds.{byte_of};
+ghost use Rattle.chainwriter.specs.Source.{source};
+ghost use Rattle.chainwriter.specs.Packed.{begin_of};
 ghost use Rattle.chainwriter.specs.Made.{Fronted, Slots, Checked, Made, Filed};
 
+use crate::lent::{Content, Source};
 use crate::pack;
-use blocks::{block, head};
-use chain::Chain;
+use blocks::{Kind, block, head};
 use octets::{layout, put_number};
 
 // Which record of its kind is the first of block b.
@@ -19,18 +20,16 @@ fn begin(kept: &[u8], b: usize) -> usize
 {
     let first = 1 + head::state_blocks(kept);
     if b < first {
-        if b == 0 {
-            return 0;
-        }
-        return layout::FULL * (b - 1);
+        layout::FULL * b.saturating_sub(1)
+    } else {
+        layout::FULL * (b - first)
     }
-    layout::FULL * (b - first)
 }
 
 // What stands before the records.
-fn front(buffer: &mut [u8], b: usize, kind: u64, count: usize)
-    requires { (kind < 256) × (b < most_blocks) × (count ≤ full_block) × (block_at b + block_size ≤ length buffer.old) }
-    ensures { Fronted buffer.old b kind count buffer.new }
+fn front(buffer: &mut [u8], b: usize, kind: Kind, count: usize)
+    requires { (b < most_blocks) × (count ≤ full_block) × (block_at b + block_size ≤ length buffer.old) }
+    ensures { Fronted buffer.old b (byte_of kind) count buffer.new }
 {
     put_number(
         buffer,
@@ -41,39 +40,14 @@ fn front(buffer: &mut [u8], b: usize, kind: u64, count: usize)
 }
 
 // The records, and zeros past the last.
-fn records(
-    c: Chain,
-    denominators: &[u64],
-    edges: &[u64],
-    order: &[u64],
-    rewards: &[u64],
-    buffer: &mut [u8],
-    b: usize,
-    kind: u64,
-    count: usize,
-    begin: usize,
-)
-    requires fitting { Fitting (lent c denominators.now edges.now order.now rewards.now []) }
-    requires few_blocks { (b < most_blocks) × (begin ≤ full_block * most_blocks) × (block_at b + block_size ≤ length buffer.old) }
-    ensures { let l = lent c denominators.now edges.now order.now rewards.now [] in
-        Slots l kind count begin buffer.old b full_block buffer.new }
+fn records(s: &Source, buffer: &mut [u8], b: usize, content: Content)
+    requires { (b < most_blocks) × (content.begin ≤ full_block * most_blocks) × (block_at b + block_size ≤ length buffer.old) }
+    ensures { Slots (source s.now) (byte_of content.kind) content.count content.begin buffer.old b full_block buffer.new }
 {
     let at = layout::BLOCK * b + layout::RECORDS;
-    let mut i = 0;
-    while i < layout::FULL {
-        let x = pack::slot(
-            c,
-            denominators,
-            edges,
-            order,
-            rewards,
-            kind,
-            count,
-            begin,
-            i,
-        );
+    for i in 0..layout::FULL {
+        let x = pack::slot(s, content, i);
         put_number(buffer, at + layout::RECORD * i, layout::RECORD, x);
-        i += 1;
     }
 }
 
@@ -92,57 +66,24 @@ fn check(buffer: &mut [u8], b: usize)
     );
 }
 
-fn block(
-    c: Chain,
-    denominators: &[u64],
-    edges: &[u64],
-    order: &[u64],
-    rewards: &[u64],
-    buffer: &mut [u8],
-    b: usize,
-)
-    requires fitting { Fitting (lent c denominators.now edges.now order.now rewards.now []) }
-    requires few_blocks { (b < most_blocks) × (block_at b + block_size ≤ length buffer.old) }
-    ensures { let l = lent c denominators.now edges.now order.now rewards.now [] in
-        Made l buffer.old b buffer.new }
+fn block(s: &Source, buffer: &mut [u8], b: usize)
+    requires { (b < most_blocks) × (block_at b + block_size ≤ length buffer.old) }
+    ensures { Made (source s.now) buffer.old b buffer.new }
 {
     let kind = block::kind(buffer, b);
     let count = block::count(buffer, b);
     let begin = begin(buffer, b);
     front(buffer, b, kind, count);
-    records(
-        c,
-        denominators,
-        edges,
-        order,
-        rewards,
-        buffer,
-        b,
-        kind,
-        count,
-        begin,
-    );
+    records(s, buffer, b, Content { kind, count, begin });
     check(buffer, b);
 }
 
 // The first `total` blocks.
-pub(crate) fn blocks(
-    c: Chain,
-    denominators: &[u64],
-    edges: &[u64],
-    order: &[u64],
-    rewards: &[u64],
-    buffer: &mut [u8],
-    total: usize,
-)
-    requires fitting { Fitting (lent c denominators.now edges.now order.now rewards.now []) }
-    requires few_blocks { (total ≤ most_blocks) × (block_at total ≤ length buffer.old) }
-    ensures { let l = lent c denominators.now edges.now order.now rewards.now [] in
-        Filed l buffer.old total buffer.new }
+pub(crate) fn blocks(s: &Source, buffer: &mut [u8], total: usize)
+    requires { (total ≤ most_blocks) × (block_at total ≤ length buffer.old) }
+    ensures { Filed (source s.now) buffer.old total buffer.new }
 {
-    let mut b = 0;
-    while b < total {
-        block(c, denominators, edges, order, rewards, buffer, b);
-        b += 1;
+    for b in 0..total {
+        block(s, buffer, b);
     }
 }

@@ -1,13 +1,16 @@
 // A record of a chain file, and what stands before the records of a block, each as one number whose bytes they are.
-ghost use Rattle.std.specs.Prelude.{◌≡◌, [], ◌+◌, ◌*◌, ◌^◌, ◌≤◌, ◌<◌};
+ghost use Rattle.std.specs.Prelude.{◌≡◌, ◌+◌, ◌*◌, ◌^◌, ◌≤◌, ◌<◌};
 ghost use Rattle.meaning.specs.Number.{bit};
 ghost use Rattle.meaning.specs.Block.{record_size, full_block};
-ghost use Rattle.chain.specs.Lent.{lent};
-ghost use Rattle.chainwriter.specs.Packed.{Fitting, head_record, state_record, edge_record, record_of, slot_of, front_of, check_of};
+ghost use Rattle.chainwriter.specs.Packed.{head_record, state_record, edge_record, record_of, slot_of, front_of, check_of};
 ghost use Rattle.meaning.specs.File.{most_blocks};
+ghost use Rattle.blocks.specs.Kinds.{byte_of};
+ghost use Rattle.chainwriter.specs.Source.{source};
 
+use crate::lent::{Content, Source};
+use blocks::Kind;
 use chain::table::at;
-use chain::{Chain, edge, set};
+use chain::{edge, set};
 use octets::layout;
 
 // x where it lies from byte `offset` on.
@@ -30,10 +33,7 @@ fn head(states: usize, start: usize, edges: usize) -> u64
 fn flag(goals: u64, i: usize) -> u64
     ensures { result ≡ bit goals i }
 {
-    if set::holds(goals, i) {
-        return 1;
-    }
-    0
+    u64::from(set::holds(goals, i))
 }
 
 fn state(denominator: u64, reward: u64, flag: u64, order: u64) -> u64
@@ -57,67 +57,48 @@ fn edge(from: u64, to: u64, weight: u64, reward: u64) -> u64
 }
 
 // Record k of a kind.
-fn record(
-    c: Chain,
-    denominators: &[u64],
-    edges: &[u64],
-    order: &[u64],
-    rewards: &[u64],
-    kind: u64,
-    k: usize,
-) -> u64
-    requires { Fitting (lent c denominators.now edges.now order.now rewards.now []) }
-    ensures { let l = lent c denominators.now edges.now order.now rewards.now [] in
-        result ≡ record_of l kind k }
+#[tactic(auto, unfolding(crate::specs::Packed::record_of))]
+fn record(s: &Source, kind: Kind, k: usize) -> u64
+    ensures { result ≡ record_of (source s.now) (byte_of kind) k }
 {
-    if kind == layout::HEAD {
-        return head(c.states, c.start, edge::count(edges));
+    let chain = s.given.chain;
+    let edges = s.given.edges;
+    match kind {
+        Kind::Head => head(chain.states, chain.start, edge::count(edges)),
+        Kind::State => state(
+            at(s.given.denominators, k),
+            at(s.rewards, k),
+            flag(chain.goals, k),
+            at(s.order, k),
+        ),
+        Kind::Edge => edge(
+            edge::from(edges, k),
+            edge::to(edges, k),
+            edge::weight(edges, k),
+            edge::reward(edges, k),
+        ),
     }
-    if kind == layout::STATE {
-        return state(
-            at(denominators, k),
-            at(rewards, k),
-            flag(c.goals, k),
-            at(order, k),
-        );
-    }
-    edge(
-        edge::from(edges, k),
-        edge::to(edges, k),
-        edge::weight(edges, k),
-        edge::reward(edges, k),
-    )
 }
 
-// Record i of a block that holds `count` records of its kind, the first of them record `begin`; past them nothing.
-pub(crate) fn slot(
-    c: Chain,
-    denominators: &[u64],
-    edges: &[u64],
-    order: &[u64],
-    rewards: &[u64],
-    kind: u64,
-    count: usize,
-    begin: usize,
-    i: usize,
-) -> u64
-    requires fitting { Fitting (lent c denominators.now edges.now order.now rewards.now []) }
-    requires place { (begin ≤ full_block * most_blocks) × (i < full_block) }
-    ensures { let l = lent c denominators.now edges.now order.now rewards.now [] in
-        result ≡ slot_of l kind count begin i }
+// Record i of a block; past its content nothing.
+#[tactic(auto, unfolding(crate::specs::Packed::slot_of))]
+pub(crate) fn slot(s: &Source, content: Content, i: usize) -> u64
+    requires { (content.begin ≤ full_block * most_blocks) × (i < full_block) }
+    ensures { result ≡ slot_of (source s.now) (byte_of content.kind) content.count content.begin i }
 {
-    if i < count {
-        return record(c, denominators, edges, order, rewards, kind, begin + i);
+    if i < content.count {
+        record(s, content.kind, content.begin + i)
+    } else {
+        0
     }
-    0
 }
 
 // What stands before the records of block b.
-pub(crate) fn front(kind: u64, b: usize, count: usize) -> u64
-    requires { (kind < 256) × (b < most_blocks) × (count ≤ full_block) }
-    ensures { result ≡ front_of kind b count }
+pub(crate) fn front(kind: Kind, b: usize, count: usize) -> u64
+    requires { (b < most_blocks) × (count ≤ full_block) }
+    ensures { result ≡ front_of (byte_of kind) b count }
 {
-    lifted(kind, layout::KIND)
+    lifted(kind as u64, layout::KIND)
         + lifted(layout::SECOND, layout::VERSION)
         + lifted(b as u64, layout::BLOCK_NUMBER)
         + lifted(count as u64, layout::COUNT)

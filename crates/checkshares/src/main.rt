@@ -3,10 +3,8 @@
 #![tactic(auto)]
 
 use chain::Chain;
-use input::Reading;
 use lines::check;
 use octets::layout;
-use report::Printed;
 use std::fs::Files;
 use std::io::Write;
 
@@ -17,15 +15,15 @@ const MOST: usize = layout::QUAD * (Chain::STATES + 1) + 1;
 fn judge(rt: &impl Files, out: &mut impl Write, people: &mut impl Write, file: &[u8], more: u64) {
     let mut table = [0u8; MOST];
     let sent = match input::read_file(rt, b"shares", &mut table) {
-        Reading::Came(sent) => sent,
-        Reading::Failed(why) => {
+        Ok(sent) => sent,
+        Err(why) => {
             output::fail(people, b"checkshares: shares", why);
             return;
         }
     };
     let length = sent.length;
     let mut buffer = [0u8; lines::CHECK_ROOM];
-    if let Printed::Length(n) = check(file, more, &table[..length], &mut buffer) {
+    if let Ok(n) = check(file, more, &table[..length], &mut buffer) {
         output::print(out, people, &buffer[..n], b"checkshares: standard output");
     }
 }
@@ -41,8 +39,8 @@ fn main(rt: HostRuntime) {
     }
     let mut kept = [0u8; chainfile::LONGEST];
     let came = match input::read(&mut rt.stdin(), &mut kept) {
-        Reading::Came(came) => came,
-        Reading::Failed(why) => {
+        Ok(came) => came,
+        Err(why) => {
             output::fail(&mut rt.stderr(), b"checkshares: standard input", why);
             return;
         }

@@ -4,24 +4,12 @@ use mathlib.Core.Path.{◌≡◌, refl, sym, ap, subst, ◌∙◌}
 use mathlib.Core.Bool.{Bool, true, false}
 use mathlib.Core.List.{List, [], ◌∷◌, ◌++◌, append-nil, append_assoc}
 use native.Mathlib.Omega.{arith}
-use lib.ListN.{length, set, take, length-set, length-append}
-use lib.Seq.{take-suc-set, take_all}
+use lib.ListN.{length, take, length-append}
+use lib.Seq.{take_all}
 use Rattle.meaning.specs.Number.{choose}
 use Rattle.meaning.specs.Choice.{passed_over}
 use Rattle.theory.specs.Outcomes.TurnsCounted.{passed_grows}
 use Rattle.choice.specs.Rest.{has, Put}
-
-pub put_none : (set i p : ℕ) (order : List ℕ) → has set i ≡ true → Put set i p order p order
-put_none set i p order e = record { size = refl; next = rw e; front = rw e }
-
-pub put_one : (s i p : ℕ) (order : List ℕ) → has s i ≡ false → p < length order → Put s i p order (p + 1) (set order p i)
-put_one s i p order e h =
-    let q : p + 1 ≡ suc p = omega arith in
-    record {
-      size = length-set order p i;
-      next = rw e q;
-      front = rw e (ap (λ r. take r (set order p i)) q ∙ take-suc-set order p i h);
-    }
 
 -- The states below i that are passed over stand behind the first m places, up to place p.
 pub record Filling (go : ℕ → Bool) (m i : ℕ) (before : List ℕ) (p : ℕ) (o : List ℕ) : Type 0 where

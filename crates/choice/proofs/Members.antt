@@ -1,37 +1,52 @@
 -- Sets of states written as numbers: what is in them once something is added or taken out.
-use Prim.Native.Nat.{ℕ, ◌+◌, ◌^◌, ◌<◌}
+use Prim.Native.Nat.{ℕ, zero, suc, ◌+◌, ◌-◌, ◌/◌, ◌^◌, ◌<◌}
 use mathlib.Core.Path.{◌≡◌, sym, ap, subst, ◌∙◌}
 use mathlib.Core.Logic.{◌↔◌, ◌⊎◌, inl, inr, ⊎_elim}
-use mathlib.Core.Bool.{true, false}
+use mathlib.Core.Bool.{true}
 use mathlib.Core.List.{List}
 use native.Mathlib.Omega.{arith}
-use lib.Bits.{bit_and, bit_or, bit_xor}
+use Rattle.std.proofs.Math.Nat.{pow-succ'}
+use Rattle.std.proofs.Math.Pow.{pow-lt}
+use lib.Bits.{bit_and, bit_or}
 use lib.Dec.{eqb}
 use lib.ListN.{length, get_or, set, length-set, replicate, length-replicate}
 use lib.Seq.{get_or-set_same, get_or-set_other}
-use borrow.Author.Tests.{eqb-true, eqb-false}
+use borrow.Author.Tests.{eqb-true}
 use Rattle.meaning.specs.Number.{bit}
 use Rattle.meaning.specs.Chain.{from, to}
 use Rattle.meaning.specs.Step.{Sets}
-use Rattle.theory.specs.Numbers.Bits.{nothing_in, in_first, in_either, in_one}
+use Rattle.theory.specs.Numbers.Bits.{nothing_in, bit_zero, bit_suc, bit_small, bit_below, in_both, in_either, in_one}
 use Rattle.theory.specs.Numbers.Sum.{same, last_or_below}
 use Rattle.theory.specs.Numbers.Tab.{get_d_zeros}
 use Rattle.theory.specs.Stages.Weighs.{Into, state, goal, trap, Brings, Brought}
 use Rattle.survey.specs.Sets.{Exactly}
 use Rattle.choice.specs.Columns.{column_count, In, Among, Without, Joined, Carried, Gathered, PassedOn}
 
-pub without_set : (set i : ℕ) → Exactly (Without set i) (bit_xor set (bit_and set (2 ^ i)))
-without_set set i q = (
-  λ b. let w = (in_first set (2 ^ i) q).0 b in (w.0, λ e. w.1 ((in_one i q).1 e)),
-  λ w. (in_first set (2 ^ i) q).1 (w.0, λ b. w.1 ((in_one i q).0 b)),
-)
+-- The bits of a complement of n bits.
+bit_less : (n a i : ℕ) → a < 2 ^ n → i < n → bit (2 ^ n - 1 - a) i + bit a i ≡ 1
+bit_less zero a i h l = absurd (omega arith)
+bit_less (suc n) a zero h l =
+    omega (arith, pow-succ' 2 n, bit_zero (2 ^ suc n - 1 - a), bit_zero a)
+bit_less (suc n) a (suc i) h l =
+    let half : (2 ^ suc n - 1 - a) / 2 ≡ 2 ^ n - 1 - a / 2 = omega (arith, pow-succ' 2 n) in
+    rw (bit_suc (2 ^ suc n - 1 - a) i, bit_suc a i, half)
+    (bit_less n (a / 2) i (omega (arith, pow-succ' 2 n)) (omega arith))
 
--- Where i is in the set, and where it is not.
-pub among_all : (set i members : ℕ) → eqb (bit set i) 1 ≡ true → Exactly (Among set i members) members
-among_all set i members e q = (λ b. (eqb-true (bit set i) 1 e, b), λ w. w.1)
+-- What is in a set of 64 states and not in another.
+pub in_less : (a b i : ℕ) → a < 2 ^ 64 → b < 2 ^ 64 → (bit (bit_and a (18446744073709551615 - b)) i ≡ 1) ↔ ((bit a i ≡ 1) × (bit b i ≡ 1 → ⊥))
+in_less a b i h k =
+    let law = in_both a (18446744073709551615 - b) i in
+    let other : bit a i ≡ 1 → bit (18446744073709551615 - b) i + bit b i ≡ 1 = λ x. bit_less 64 b i k (bit_below a 64 i h x) in (
+      λ x. let w = law.0 x in (w.0, λ y. let z = other w.0 in omega (arith, z, w.1, y)),
+      λ w. law.1 (w.0, let z = other w.0 in let d = w.1 in omega (arith, z, d, bit_small b i)),
+    )
 
-pub among_none : (set i members : ℕ) → eqb (bit set i) 1 ≡ false → Exactly (Among set i members) 0
-among_none set i members e q = (λ b. absurd (nothing_in q b), λ w. absurd (eqb-false (bit set i) 1 e w.0))
+pub without_set : (set i : ℕ) → set < 2 ^ 64 → i < 64 → Exactly (Without set i) (bit_and set (18446744073709551615 - 2 ^ i))
+without_set set i h k q =
+    let law = in_less set (2 ^ i) q h (pow-lt k) in (
+      λ b. let w = law.0 b in (w.0, λ e. w.1 ((in_one i q).1 e)),
+      λ w. law.1 (w.0, λ b. w.1 ((in_one i q).0 b)),
+    )
 
 -- A column once s is removed.
 pub passed_with : (column from s r : ℕ) → eqb (bit column s) 1 ≡ true → Exactly (Without (bit_or column from) s) r → Exactly (PassedOn column from s) r
@@ -40,12 +55,6 @@ passed_with column from s r e law q = (
       let w = (law q).0 b in
       record { other = w.1; weighs = ⊎_elim inl (λ (x : bit from q ≡ 1). inr (eqb-true (bit column s) 1 e, x)) ((in_either column from q).0 w.0) },
   λ w. (law q).1 ((in_either column from q).1 (⊎_elim inl (λ (x : (bit column s ≡ 1) × (bit from q ≡ 1)). inr x.1) w.weighs), w.other),
-)
-
-pub passed_none : (column from s : ℕ) → eqb (bit column s) 1 ≡ false → Exactly (PassedOn column from s) column
-passed_none column from s e q = (
-  λ b. record { other = λ f. eqb-false (bit column s) 1 e (sym (ap (bit column) f) ∙ b); weighs = inl b },
-  λ w. ⊎_elim (λ x. x) (λ (x : (bit column s ≡ 1) × (bit from q ≡ 1)). absurd (eqb-false (bit column s) 1 e x.0)) w.weighs,
 )
 
 -- Members are added to one column.
@@ -83,7 +92,7 @@ module _ (n goals : ℕ) (edges : List ℕ) (k : Sets) (e : ℕ) (inside : to ed
   abbrev t : ℕ
   t = to edges e
 
-  module _ (source good live won : ℕ) (one : Exactly (Among k.live i (2 ^ i)) source) (g : Exactly (Among k.good t source) good) (l : Exactly (Among k.live t source) live) (w : Exactly (Among goals t source) won) where
+  module _ (source good live won : ℕ) (one : Exactly (Among k.live i (2 ^ i)) source) (g : Exactly (Among k.good t source) good) (l : Exactly (Among k.live t source) live) (w : Exactly (Among goals t source) won) (small : source < 2 ^ 64) (small' : good < 2 ^ 64) where
     -- The source is a live i.
     source_is : (q : ℕ) → bit source q ≡ 1 → (i ≡ q) × (bit k.live q ≡ 1)
     source_is q b = let a = (one q).0 b in let e = (in_one i q).0 a.1 in (sym e, ap (bit k.live) e ∙ a.0)
@@ -92,7 +101,10 @@ module _ (n goals : ℕ) (edges : List ℕ) (k : Sets) (e : ℕ) (inside : to ed
     is_source q e b = (one q).1 (ap (bit k.live) e ∙ b, (in_one i q).1 (sym e))
 
     abbrev lost : ℕ
-    lost = bit_xor source (bit_and source good)
+    lost = bit_and source (18446744073709551615 - good)
+
+    lost_is : (q : ℕ) → (bit lost q ≡ 1) ↔ ((bit source q ≡ 1) × (bit good q ≡ 1 → ⊥))
+    lost_is q = in_less source good q small small'
 
     brings : (q j : ℕ) → bit source q ≡ 1 → Into n goals k t j → Brings n goals edges k q j e
     brings q j b into = let a = source_is q b in record { source = a.0; live = a.1; into = into }
@@ -114,14 +126,14 @@ module _ (n goals : ℕ) (edges : List ℕ) (k : Sets) (e : ℕ) (inside : to ed
             (λ (y : (j ≡ n) × (bit won q ≡ 1)). let a = (w q).0 y.1 in inr (brings q j a.1 (goal y.0 a.0)))
             ((j₂.law q j).0 x))
             (λ (x : (j ≡ n + 1) × (bit lost q ≡ 1)).
-            let a = (in_first source good q).0 x.1 in
+            let a = (lost_is q).0 x.1 in
             inr (brings q j a.0 (trap x.0 (λ b. a.1 ((g q).1 (b, a.0))))))
             ((j₃.law q j).0 b)
 
         into : (q j : ℕ) → bit source q ≡ 1 → Into n goals k t j → In c₃ j q
         into q j b (state e a) = (j₃.law q j).1 (inl ((j₂.law q j).1 (inl ((j₁.law q j).1 (inr (e, (l q).1 (a, b)))))))
         into q j b (goal e a) = (j₃.law q j).1 (inl ((j₂.law q j).1 (inr (e, (w q).1 (a, b)))))
-        into q j b (trap e a) = (j₃.law q j).1 (inr (e, (in_first source good q).1 (b, λ z. a ((g q).0 z).0)))
+        into q j b (trap e a) = (j₃.law q j).1 (inr (e, (lost_is q).1 (b, λ z. a ((g q).0 z).0)))
 
         back : (q j : ℕ) → In c₀ j q ⊎ Brings n goals edges k q j e → In c₃ j q
         back q j (inl b) = (j₃.law q j).1 (inl ((j₂.law q j).1 (inl ((j₁.law q j).1 (inl b)))))

@@ -20,7 +20,7 @@ use Rattle.theory.specs.Outcomes.StepsStates.{goes_law}
 use Rattle.theory.specs.Outcomes.TurnsCounted.{turns_all}
 use Rattle.theory.specs.Outcomes.ChoiceExists.{chosen_whole, whole_products}
 use Rattle.theory.specs.Stages.Weighs.{Brought}
-use Rattle.chain.specs.declared.Chain.{Chain as Given}
+use Rattle.chain.specs.declared.Chain.{Chain as Frame}
 use Rattle.chain.specs.Lent.{lent}
 use Rattle.survey.specs.Sets.{chain_of, sets_of, Exactly}
 use Rattle.survey.specs.declared.Sets.{Sets as Found}
@@ -31,7 +31,7 @@ use Rattle.choice.specs.Ordered.{Surveyed, Ordered}
 use Rattle.choice.specs.declared.turns.Tally.{Tally}
 use Rattle.choice.proofs.Weights.{weighed_first}
 
-module _ (c : Given) (d edges : List ℕ) (sets : Found) (order : List ℕ) (s : Surveyed c d edges sets order) where
+module _ (c : Frame) (d edges : List ℕ) (sets : Found) (order : List ℕ) (s : Surveyed c d edges sets order) where
   abbrev l : Lent
   l = lent c d edges [] [] []
 

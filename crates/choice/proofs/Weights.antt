@@ -1,16 +1,16 @@
 -- The sets of the columns against the table: the products that are told of them, the first rows, and a removal.
 use Prim.Native.Nat.{ℕ, ◌+◌, ◌*◌, ◌-◌, ◌^◌, ◌≤◌, ◌<◌}
-use mathlib.Core.Path.{◌≡◌, refl, sym, ap, ap₂, subst, ◌∙◌}
+use mathlib.Core.Path.{◌≡◌, refl, sym, ap, ap₂, ◌∙◌}
 use mathlib.Core.Logic.{◌↔◌, inl, inr, ⊎_elim}
-use mathlib.Core.List.{List, []}
+use mathlib.Core.List.{List, [], ◌∷◌}
+use Rattle.std.proofs.Common.{Bool, true, false, zero, suc, cond, add_assoc, add-zero, zero-add, one-add}
+use Rattle.std.specs.List.{filter, range_with_len}
 use native.Mathlib.Omega.{arith}
-use native.Mathlib.Nat.{eq-or-lt_of_le}
 use lib.Count.{ones}
 use lib.Dec.{eqb}
-use lib.ListN.{length, get_or, set, length-set}
-use lib.Seq.{get_or-set_same, get_or-set_other}
+use lib.ListN.{length, get_or, set}
 use borrow.Author.Tests.{eq-eqb, ne_eqb}
-use Rattle.meaning.specs.Number.{sum_to, choose, present, bit}
+use Rattle.meaning.specs.Number.{sum_to, only, choose, present, bit}
 use Rattle.meaning.specs.Chain.{most_states, Chain, edge_count, from}
 use Rattle.meaning.specs.Row.{cell, unknown_column, exact}
 use Rattle.meaning.specs.Step.{Table, row, Sets, outside, removed, after}
@@ -21,9 +21,9 @@ use Rattle.theory.specs.Chains.Fine.{Fine}
 use Rattle.theory.specs.Chains.Counted.{count_ones}
 use Rattle.theory.specs.Stages.Weighs.{Wide, Brought, first_weighs, removed_weighs}
 use Rattle.survey.specs.Sets.{Exactly}
-use Rattle.choice.specs.Columns.{In, Weighed, Without, Gathered, columns_in, rows_in, PassedOn, Stays, Emptied}
+use Rattle.choice.specs.Columns.{In, Weighed, Without, Gathered, counts, columns_in, rows_in, PassedOn, Emptied}
 use Rattle.choice.specs.Turns.{product_in}
-use Rattle.theory.specs.Numbers.Bits.{nothing_in}
+use Rattle.theory.specs.Numbers.Bits.{bit_small}
 
 -- A count is a sum of ones.
 count_sum : {P : ℕ → Type 0} (f : ℕ → ℕ) {n m : ℕ} → ((i : ℕ) → P i → f i ≡ 1) → ((i : ℕ) → (P i → ⊥) → f i ≡ 0) → Count P n m → sum_to f n ≡ m
@@ -43,6 +43,37 @@ ones_but set r s law h =
         (λ (e : i ≡ s). rw (eq-eqb i s e))
         (λ (e : i ≡ s → ⊥). rw (ne_eqb i s e) (let z : bit set i ≡ 1 → ⊥ = λ b. d (b, e) in omega arith))
         (same i s)
+
+-- How many numbers below n pass a test, counted one by one.
+count_from : (p : ℕ → Bool) (a n : ℕ) → length (filter p (range_with_len a n)) ≡ sum_to (λ j. only (p (a + j)) 1) n
+unfolding sum_to
+count_from p a zero = refl
+count_from p a (suc n) =
+    let front : sum_to (λ j. only (p (a + j)) 1) (1 + n) ≡ only (p (a + 0)) 1 + sum_to (λ j. only (p (a + (1 + j))) 1) n =
+    omega (arith, sum_join (λ j. only (p (a + j)) 1) 1 n) in
+    let same : sum_to (λ j. only (p (a + 1 + j)) 1) n ≡ sum_to (λ j. only (p (a + (1 + j))) 1) n =
+    sum_ext _ _ n (λ j _. ap (λ i. only (p i) 1) (add_assoc a 1 j)) in
+    let one : length (filter p (range_with_len a (suc n))) ≡ only (p a) 1 + length (filter p (range_with_len (a + 1) n)) =
+    elim (p a) as (λ b. length (cond b (a ∷ filter p (range_with_len (a + 1) n)) (filter p (range_with_len (a + 1) n))) ≡ only b 1 + length (filter p (range_with_len (a + 1) n))) [ true ↦ omega arith | false ↦ omega arith ] in
+    let first : only (p (a + 0)) 1 ≡ only (p a) 1 = ap (λ i. only (p i) 1) (add-zero a) in
+    let step : sum_to (λ j. only (p (a + j)) 1) (suc n) ≡ sum_to (λ j. only (p (a + j)) 1) (1 + n) = ap (sum_to (λ j. only (p (a + j)) 1)) (sym (one-add n)) in
+    omega (arith, one, count_from p (a + 1) n, same, front, first, step)
+
+-- A number below 2 is 1 or 0.
+only_bit : (x : ℕ) → x < 2 → only (eqb x 1) 1 ≡ x
+only_bit zero h = refl
+only_bit (suc zero) h = refl
+only_bit (suc (suc x)) h = absurd (omega arith)
+
+counts_small : (columns : List ℕ) (s j : ℕ) → counts columns s j < 2
+counts_small columns s j =
+    elim (eqb j s) as (λ b. choose b 0 (bit (get_or columns j 0) s) < 2) [ true ↦ omega arith | false ↦ bit_small (get_or columns j 0) s ]
+
+-- So many columns the row of s leads to: those in whose set it is, but its own.
+pub columns_counted : (n s : ℕ) (columns : List ℕ) → length (filter (λ j. eqb (counts columns s j) 1) (range_with_len 0 (n + 2))) ≡ columns_in n columns s
+columns_counted n s columns =
+    count_from (λ j. eqb (counts columns s j) 1) 0 (n + 2)
+    ∙ sum_ext _ _ (n + 2) (λ j _. ap (λ i. only (eqb (counts columns s i) 1) 1) (zero-add j) ∙ only_bit (counts columns s j) (counts_small columns s j))
 
 -- A bit and a weight that say the same count the same.
 bit_present : (set i x : ℕ) → (bit set i ≡ 1) ↔ (0 < x) → bit set i ≡ present x
@@ -140,52 +171,3 @@ pub record Passing (m from s : ℕ) (columns new : List ℕ) : Type 0 where
   pub size : length new ≡ length columns
   pub done : (j : ℕ) → j < m → Exactly (PassedOn (get_or columns j 0) from s) (get_or new j 0)
   pub still : (j : ℕ) → m ≤ j → get_or new j 0 ≡ get_or columns j 0
-
-pub passing_none : (from s : ℕ) (columns : List ℕ) → Passing 0 from s columns columns
-passing_none from s columns = record { size = refl; done = λ j h. absurd (omega arith); still = λ j _. refl }
-
-pub passing_more : {m from s : ℕ} {columns new : List ℕ} (x : ℕ) → m < length columns → Passing m from s columns new → Exactly (PassedOn (get_or new m 0) from s) x
-    → Passing (m + 1) from s columns (set new m x)
-passing_more {m} {from} {s} {columns} {new} x h p law =
-    record {
-      size = length-set new m x ∙ p.size;
-      done = λ j l.
-          ⊎_elim
-          (λ (e : j ≡ m).
-          subst (Exactly (PassedOn (get_or columns j 0) from s)) (sym (ap (λ j. get_or (set new m x) j 0) e ∙ get_or-set_same new m x 0 (omega (arith, h, p.size))))
-          (subst (λ z. Exactly (PassedOn z from s) x) (p.still m (omega arith) ∙ ap (λ j. get_or columns j 0) (sym e)) law))
-          (λ (l : j < m). subst (Exactly (PassedOn (get_or columns j 0) from s)) (sym (get_or-set_other new m j x 0 (omega arith))) (p.done j l))
-          (eq-or-lt_of_le {n = j} {m = m} (omega arith));
-      still = λ j l. get_or-set_other new m j x 0 (omega arith) ∙ p.still j (omega arith);
-    }
-
--- Then the column of s itself is emptied.
-pub emptied : {m from s : ℕ} (n : ℕ) {columns new : List ℕ} → Passing m from s columns new → Exactly (Without (get_or columns s 0) s) from → unknown_column n ≤ m
-    → s < length columns → Emptied n s columns (set new s 0)
-emptied {m} {from} {s} n {columns} {new} p others h k =
-    record { size = length-set new s 0 ∙ p.size; law = λ i j l. (there i j l, back i j l) }
-  where
-    own : get_or (set new s 0) s 0 ≡ 0
-    own = get_or-set_same new s 0 0 (omega (arith, k, p.size))
-
-    there : (i j : ℕ) → j < unknown_column n → In (set new s 0) j i → Stays s columns i j
-    there i j l b =
-        ⊎_elim
-        (λ (e : j ≡ s). absurd (nothing_in i (ap (λ z. bit z i) (sym (ap (λ j. get_or (set new s 0) j 0) e ∙ own)) ∙ b)))
-        (λ (d : j ≡ s → ⊥).
-        let x = (p.done j (omega arith) i).0 (ap (λ z. bit z i) (sym (get_or-set_other new s j 0 0 d)) ∙ b) in
-        record {
-          other_row = x.other;
-          other_column = d;
-          weighs = ⊎_elim inl (λ (y : (bit (get_or columns j 0) s ≡ 1) × (bit from i ≡ 1)). inr (((others i).0 y.1).0, y.0)) x.weighs;
-        })
-        (same j s)
-
-    back : (i j : ℕ) → j < unknown_column n → Stays s columns i j → In (set new s 0) j i
-    back i j l x =
-        ap (λ z. bit z i) (get_or-set_other new s j 0 0 x.other_column)
-        ∙ (p.done j (omega arith) i).1
-        (record {
-          other = x.other_row;
-          weighs = ⊎_elim inl (λ (y : In columns s i × In columns j s). inr (y.1, (others i).1 (y.0, x.other_row))) x.weighs;
-        })

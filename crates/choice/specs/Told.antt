@@ -1,20 +1,13 @@
 -- The numbers for each case of a choice, and what is promised of it.
-use Rattle.std.specs.Prelude.{ℕ, ◌<◌, List}
+use Rattle.std.specs.Prelude.{ℕ, List, Result, Ok, Err}
 use Rattle.meaning.specs.Refusal.{Lent}
 use Rattle.meaning.specs.Choice.{Choice as Numbers, no_choice, choice, ChoiceOutcome}
-use Rattle.choice.specs.declared.Choice.{Choice}
-use Rattle.choice.specs.declared.Choice.TheVariants.{Sum, Refused}
+use Rattle.chain.specs.Refusal.{number_of}
+use Rattle.chain.specs.declared.refusal.Refusal.{Refusal}
 
-abbrev pub told : Choice → Numbers
-told (Sum sum) = choice sum
-told (Refused number place) = no_choice number place
+abbrev pub told : Result ℕ Refusal → Numbers
+told (Ok sum) = choice sum
+told (Err r) = no_choice (number_of r.fault) r.place
 
--- A refusal's number is above 0.
-abbrev pub Proper : Choice → Type 0
-Proper (Sum sum) = Unit {0}
-Proper (Refused number place) = 0 < number
-
--- The outcome. A refusal has a number, so that the sum 0 is said by Sum alone.
-pub record Chooses (l : Lent) (before : List ℕ) (r : Choice) (after : List ℕ) : Type 0 where
-  pub outcome : ChoiceOutcome l before (told r) after
-  pub proper : Proper r
+abbrev pub Chooses : Lent → List ℕ → Result ℕ Refusal → List ℕ → Type 0
+Chooses l before r after = ChoiceOutcome l before (told r) after

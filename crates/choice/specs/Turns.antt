@@ -1,5 +1,5 @@
 -- What a turn picks, and what the turns leave.
-use Rattle.std.specs.Prelude.{ℕ, ◌*◌, ◌≤◌, ◌<◌, ◌≡◌, ◌↔◌, true, List, [], length}
+use Rattle.std.specs.Prelude.{ℕ, ◌*◌, ◌≤◌, ◌<◌, ◌≡◌, ◌↔◌, true, Option, None, Some, List, [], length}
 use Rattle.meaning.specs.Number.{bit}
 use Rattle.meaning.specs.Chain.{most_states, Chain}
 use Rattle.meaning.specs.Step.{Sets, Right, goes}
@@ -19,22 +19,20 @@ Held set i = bit set i ≡ 1
 abbrev pub product_in : ℕ → List ℕ → ℕ → ℕ
 product_in n columns s = rows_in columns s * columns_in n columns s
 
--- No product is more than that, and another number is.
+-- No product is more than that.
 abbrev pub most_product : ℕ
 most_product = most_states * column_count
 
-abbrev pub no_product : ℕ
-no_product = 4294967296
-
--- Of the states below m that have the property none is picked, since there is none; or the first of the least, with its value.
-pub data Best (F : ℕ → Type 0) (value : ℕ → ℕ) (m : ℕ) (pick : Pick) : Type 0 where
-  none : ((i : ℕ) → i < m → F i → ⊥) → pick.product ≡ no_product → Best F value m pick
-  some : FirstLeast F value m pick.state → pick.product ≡ value pick.state → pick.product ≤ most_product → Best F value m pick
-
+-- Of the states below n that have the property the first of the least is picked, with its value.
 pub record Picked (F : ℕ → Type 0) (value : ℕ → ℕ) (n : ℕ) (pick : Pick) : Type 0 where
   pub first : FirstLeast F value n pick.state
   pub is : pick.product ≡ value pick.state
   pub few : pick.product ≤ most_product
+
+-- It is, or none is picked, since none has the property.
+abbrev pub Best : (ℕ → Type 0) → (ℕ → ℕ) → ℕ → Option Pick → Type 0
+Best F value m None = (i : ℕ) → i < m → F i → ⊥
+Best F value m (Some pick) = Picked F value m pick
 
 -- Products can be told of the columns.
 pub record Pickable (n : ℕ) (columns : List ℕ) : Type 0 where

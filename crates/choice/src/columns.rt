@@ -1,6 +1,6 @@
 // The columns of the rows as sets: for each column, Goal and Trap too, the states whose rows have a weight in it. Weights themselves are not
 // asked for: which rows have one is known without them.
-ghost use Rattle.std.specs.Prelude.{◌≡◌, ℕ, ◌+◌, ◌*◌, ◌≤◌, ◌<◌, length};
+ghost use Rattle.std.specs.Prelude.{◌≡◌, ℕ, ◌+◌, ◌*◌, ◌≤◌, ◌<◌, eqb, length};
 ghost use Rattle.meaning.specs.Chain.{most_states, edge_count};
 ghost use Rattle.meaning.specs.Refusal.{EndFault};
 ghost use Rattle.theory.specs.Stages.Weighs.{Brings, Brought};
@@ -21,10 +21,7 @@ pub(crate) const COLUMNS: usize = Chain::STATES + ENDS;
 fn among(set: u64, i: usize, members: u64) -> u64
     ensures { Exactly (Among set i members) result }
 {
-    if holds(set, i) {
-        return members;
-    }
-    0
+    if holds(set, i) { members } else { 0 }
 }
 
 // The set without the state i.
@@ -32,8 +29,7 @@ pub(crate) fn without(set: u64, i: usize) -> u64
     requires { i < most_states }
     ensures { Exactly (Without set i) result }
 {
-    let one = 1 << i;
-    set ^ (set & one)
+    set & !(1 << i)
 }
 
 // Adds the members to column j.
@@ -41,7 +37,7 @@ fn join(columns: &mut [u64], j: usize, members: u64)
     requires { j < length columns.old }
     ensures { Joined columns.old j members columns.new }
 {
-    columns[j] = columns[j] | members;
+    columns[j] |= members;
 }
 
 // Adds the source of edge e, where that is live, to the column of its target.
@@ -58,7 +54,7 @@ fn carry(columns: &mut [u64], c: Chain, sets: Sets, edges: &[u64], e: usize)
     let good = among(sets.good, t, from);
     join(columns, t, among(sets.live, t, from));
     join(columns, n, among(c.goals, t, from));
-    join(columns, n + 1, from ^ (from & good));
+    join(columns, n + 1, from & !good);
 }
 
 // The columns of the first rows, in one pass over the edges.
@@ -68,12 +64,9 @@ pub(crate) fn first(c: Chain, sets: Sets, edges: &[u64]) -> [u64; COLUMNS]
     ensures { let es = edges.now in
         Gathered c.states (Brought c.states c.goals es (sets_of sets) (edge_count es)) result }
 {
-    let count = edge::count(edges);
     let mut columns = [0u64; COLUMNS];
-    let mut e = 0;
-    while e < count {
+    for e in 0..edge::count(edges) {
         carry(&mut columns, c, sets, edges, e);
-        e += 1;
     }
     columns
 }
@@ -83,21 +76,15 @@ fn rows_to(columns: &[u64], s: usize) -> u64
     requires { (length columns.now ≡ column_count) × (s < most_states) }
     ensures { (result ≡ rows_in columns.now s) × (result ≤ most_states) }
 {
-    u64::count_ones(without(columns[s], s)) as u64
+    u64::from(without(columns[s], s).count_ones())
 }
 
-// 1 where the row of s has a weight in column j, which is not its own.
-fn leads(columns: &[u64], j: usize, s: usize) -> u64
+// Whether the row of s has a weight in column j, which is not its own.
+fn leads(columns: &[u64], j: usize, s: usize) -> bool
     requires { j < length columns.now }
-    ensures { (result ≡ counts columns.now s j) × (result ≤ 1) }
+    ensures { result ≡ eqb (counts columns.now s j) 1 }
 {
-    if j == s {
-        return 0;
-    }
-    if holds(columns[j], s) {
-        return 1;
-    }
-    0
+    j != s && holds(columns[j], s)
 }
 
 // In how many columns but its own the row of s has a weight, Goal and Trap counted.
@@ -105,14 +92,7 @@ fn columns_of(columns: &[u64], n: usize, s: usize) -> u64
     requires { (length columns.now ≡ column_count) × (n ≤ most_states) }
     ensures { (result ≡ columns_in n columns.now s) × (result ≤ column_count) }
 {
-    let m = n + ENDS;
-    let mut sum = 0;
-    let mut j = 0;
-    while j < m {
-        sum += leads(columns, j, s);
-        j += 1;
-    }
-    sum
+    (0..n + ENDS).filter(|j| leads(columns, *j, s)).count() as u64
 }
 
 pub(crate) fn product(columns: &[u64], n: usize, s: usize) -> u64
@@ -130,9 +110,10 @@ fn passed_on(column: u64, from: u64, s: usize) -> u64
     ensures { Exactly (PassedOn column from s) result }
 {
     if holds(column, s) {
-        return without(column | from, s);
+        without(column | from, s)
+    } else {
+        column
     }
-    column
 }
 
 // Removes the state s from every row.
@@ -141,11 +122,8 @@ pub(crate) fn remove(columns: &mut [u64], n: usize, s: usize)
     ensures { Emptied n s columns.old columns.new }
 {
     let from = without(columns[s], s);
-    let all = n + ENDS;
-    let mut j = 0;
-    while j < all {
-        columns[j] = passed_on(columns[j], from, s);
-        j += 1;
+    for column in &mut columns[..n + ENDS] {
+        *column = passed_on(*column, from, s);
     }
     columns[s] = 0;
 }

@@ -24,9 +24,7 @@ pub(crate) fn put_rest(order: &mut [u64], m: usize, n: usize, going: u64)
     ensures { order.new ≡ take m order.old ++ passed_over (has going) n }
 {
     let mut p = m;
-    let mut i = 0;
-    while i < n {
+    for i in 0..n {
         p = put(order, p, i, going);
-        i += 1;
     }
 }

@@ -16,23 +16,20 @@ pub(crate) struct Pick {
     pub(crate) product: u64,
 }
 
-// More than any product.
-const NO_PRODUCT: u64 = 4294967296;
-
 // The pick so far, or state i where it is left and has a lower product: on a tie the lower number stays.
-fn better(columns: &[u64], n: usize, left: u64, i: usize, pick: Pick) -> Pick
+fn better(columns: &[u64], n: usize, left: u64, i: usize, best: Option<Pick>) -> Option<Pick>
     requires pickable { Pickable n columns.now × (i < n) }
-    requires best { Best (Held left) (product_in n columns.now) i pick }
+    requires best { Best (Held left) (product_in n columns.now) i best }
     ensures { Best (Held left) (product_in n columns.now) (i + 1) result }
 {
     if !holds(left, i) {
-        return pick;
+        return best;
     }
     let product = columns::product(columns, n, i);
-    if product < pick.product {
-        return Pick { state: i, product };
+    match best {
+        Some(pick) if pick.product <= product => best,
+        _ => Some(Pick { state: i, product }),
     }
-    pick
 }
 
 // The state whose turn it is.
@@ -40,16 +37,11 @@ fn next(columns: &[u64], n: usize, left: u64) -> Pick
     requires { Pickable n columns.now × (0 < left) × ((i : ℕ) → Held left i → i < n) }
     ensures { Picked (Held left) (product_in n columns.now) n result }
 {
-    let mut pick = Pick {
-        state: 0,
-        product: NO_PRODUCT,
-    };
-    let mut i = 0;
-    while i < n {
-        pick = better(columns, n, left, i, pick);
-        i += 1;
+    let mut best = None;
+    for i in 0..n {
+        best = better(columns, n, left, i, best);
     }
-    pick
+    best.unwrap()
 }
 
 // How many turns there were, and the sum of their products.

@@ -3,18 +3,20 @@ use Prim.Native.Nat.{ℕ, zero, suc, ◌≤◌, ◌<◌}
 use mathlib.Core.Path.{◌≡◌, refl, sym, ap, ap₂, subst, ◌∙◌}
 use mathlib.Core.List.{List, ◌∷◌}
 use native.Mathlib.Omega.{arith}
+use Rattle.std.proofs.Common.{Option, Some, None}
 use lib.ListN.{length, take, replicate, length-take, length-replicate}
 use Rattle.meaning.specs.Number.{tab_from}
 use Rattle.meaning.specs.Chain.{Chain, row_sum}
 use Rattle.meaning.specs.Outcome.{Answer, refusal, fraction}
 use Rattle.meaning.specs.Buffer.{Writing}
 use Rattle.meaning.specs.Write.{FileOf, WriteOutcome}
-use Rattle.meaning.specs.Copies.{Plan, Sensible, copies_states, copies_edges, copies_order, copies_lent, copies_for, PlanRefused, PlanFiled, CopiesOutcome, large, planned}
+use Rattle.meaning.specs.Copies.{Plan, Sensible, copies_states, copies_edges, copies_order, copies_lent, copies_for, PlanRefused, PlanFiled, CopiesOutcome, PlaceFault, large, planned}
 use Rattle.theory.specs.Files.Written.{file_of_size}
 use Rattle.theory.specs.Files.CallFile.{Exactly, answers, refuses}
 use Rattle.theory.specs.Plans.Filed.{copies_room, copies_filed, plan_filed}
 use Rattle.egorstream.specs.Told.{lent}
 use Rattle.copies.specs.Grown.{Grown}
+use Rattle.copies.specs.Told.{LeastWrong, least_wrong}
 
 -- The front of a table is as long as it is said to be.
 pub front_length : {before new after : List ℕ} {next : ℕ} → Grown before 0 new after next → next ≡ length (take next after)
@@ -93,3 +95,11 @@ module _ {j : Plan} (sensible : Sensible j) where
   pub asked_answered : {returned p q : ℕ} → Exactly (copies_lent j) returned p q → returned ≡ 0 → CopiesOutcome j (fraction p q)
   asked_answered {p = p} {q} (answers z f h) none = planned sensible f p q h refl
   asked_answered (refuses z f) none = absurd (omega arith)
+
+-- What a look for a wrong weight tells.
+module _ (j : Plan) {r : Option ℕ} (f : least_wrong j r) where
+  pub some : {p : ℕ} → r ≡ Some p → LeastWrong j p
+  some e = subst (λ (x : Option ℕ). least_wrong j x) e f
+
+  pub none : r ≡ None → (p : ℕ) → PlaceFault j p → ⊥
+  none e = subst (λ (x : Option ℕ). least_wrong j x) e f

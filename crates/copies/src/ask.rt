@@ -30,22 +30,12 @@ fn refused(number: u32, place: u32) -> Planned
     }
 }
 
-fn wide(x: u8) -> u64
-    ensures { (result ≡ x) × (result < 256) }
-{
-    x as u64
-}
-
 // The number in the four bytes of an answer from `at` on.
 fn number(answer: &[u8], at: usize) -> u64
     requires { at + 4 ≤ length answer.now }
     ensures { result ≡ number_at (whole_file answer.now) at 4 }
 {
-    let first = wide(answer[at]);
-    let second = wide(answer[at + 1]);
-    let third = wide(answer[at + 2]);
-    let fourth = wide(answer[at + 3]);
-    first + 256 * second + 65536 * third + 16777216 * fourth
+    u64::from(u32::from_le_bytes([answer[at], answer[at + 1], answer[at + 2], answer[at + 3]]))
 }
 
 // The chance that no copy is left before the finish. Of a plan's file nothing but 12 is refused, and of that the entry gives no place.

@@ -3,9 +3,10 @@ ghost use Rattle.std.specs.Prelude.{◌+◌, ◌*◌, ◌-◌, ◌≤◌, length
 ghost use Rattle.meaning.specs.Chain.{edge_size, plain_edge};
 ghost use Rattle.meaning.specs.Copies.{most_copies, most_weight, plan_of, Sensible, each, losses, finishes, copies_edges};
 ghost use Rattle.copies.specs.Grown.{Grown};
+ghost use Rattle.copies.specs.Told.{told_plan};
 
 use crate::list;
-use crate::plan::COPIES;
+use crate::plan::{COPIES, Plan};
 use egorstream::EDGE_SIZE;
 
 // The numbers of the longest list: a loss and a finish for each number of copies, a rebuild for each but the last, and two loops.
@@ -28,9 +29,8 @@ fn losses(edges: &mut [u64], at: usize, copies: u64, loss: u64) -> usize
     ensures { Grown edges.old at (losses (plan_of copies loss 0 0)) edges.new result }
 {
     let mut next = at;
-    let mut k = 0;
-    while k < copies {
-        k += 1;
+    for i in 0..copies {
+        let k = i + 1;
         next = put(edges, next, k, k - 1, k * loss);
     }
     next
@@ -42,9 +42,8 @@ fn rebuilds(edges: &mut [u64], at: usize, most: u64, rebuild: u64) -> usize
     ensures { Grown edges.old at (each (λ k. plain_edge k (k + 1) rebuild) most) edges.new result }
 {
     let mut next = at;
-    let mut k = 0;
-    while k < most {
-        k += 1;
+    for i in 0..most {
+        let k = i + 1;
         next = put(edges, next, k, k + 1, rebuild);
     }
     next
@@ -56,23 +55,23 @@ fn finishes(edges: &mut [u64], at: usize, copies: u64, finish: u64) -> usize
     ensures { Grown edges.old at (finishes (plan_of copies 0 0 finish)) edges.new result }
 {
     let mut next = at;
-    let mut k = 0;
-    while k < copies {
-        k += 1;
+    for i in 0..copies {
+        let k = i + 1;
         next = put(edges, next, k, copies + 1, finish);
     }
     next
 }
 
 // All of them, and the loops of no copy left and of the finished job.
-pub(crate) fn edges(table: &mut [u64], copies: u64, loss: u64, rebuild: u64, finish: u64) -> usize
-    requires { Sensible (plan_of copies loss rebuild finish) × (edge_size * (3 * most_copies + 1) ≤ length table.old) }
-    ensures { Grown table.old 0 (copies_edges (plan_of copies loss rebuild finish)) table.new result }
+pub(crate) fn edges(table: &mut [u64], plan: Plan) -> usize
+    requires { Sensible (told_plan plan) × (edge_size * (3 * most_copies + 1) ≤ length table.old) }
+    ensures { Grown table.old 0 (copies_edges (told_plan plan)) table.new result }
 {
+    let copies = plan.copies;
     let finished = copies + 1;
-    let second = losses(table, 0, copies, loss);
-    let third = rebuilds(table, second, copies - 1, rebuild);
-    let fourth = finishes(table, third, copies, finish);
+    let second = losses(table, 0, copies, plan.loss);
+    let third = rebuilds(table, second, copies - 1, plan.rebuild);
+    let fourth = finishes(table, third, copies, plan.finish);
     let last = put(table, fourth, 0, 0, 1);
     put(table, last, finished, finished, 1)
 }

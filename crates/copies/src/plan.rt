@@ -1,15 +1,12 @@
 // A plan: which copies and weights it may have.
 ghost use Rattle.meaning.specs.Refusal.{Beyond};
-ghost use Rattle.copies.specs.Told.{told_plan, LeastWrong};
+ghost use Rattle.copies.specs.Told.{told_plan, least_wrong};
 ghost use Rattle.meaning.specs.Number.{decides};
 
 // The most copies, and the greatest weight.
 pub(crate) const COPIES: u64 = 32;
 
 pub(crate) const WEIGHT: u64 = 1000000;
-
-// How many weights there are.
-pub(crate) const WEIGHTS: u32 = 3;
 
 // How many copies, and the weights of a loss, a rebuild and the finish.
 #[derive(Clone, Copy)]
@@ -24,27 +21,21 @@ pub struct Plan {
 pub(crate) fn beyond(limit: u64, x: u64) -> bool
     ensures { decides (Beyond limit x) result }
 {
-    if x == 0 {
-        return true;
-    }
-    if limit < x {
-        return true;
-    }
-    false
+    x == 0 || limit < x
 }
 
-// The least place of a wrong weight, or 3 where none is wrong.
-pub(crate) fn wrong(plan: Plan) -> u32
-    ensures { LeastWrong (told_plan plan) result }
+// The least place of a wrong weight.
+pub(crate) fn wrong(plan: Plan) -> Option<usize>
+    ensures { least_wrong (told_plan plan) result }
 {
     if beyond(WEIGHT, plan.loss) {
-        return 0;
+        return Some(0);
     }
     if beyond(WEIGHT, plan.rebuild) {
-        return 1;
+        return Some(1);
     }
     if beyond(WEIGHT, plan.finish) {
-        return 2;
+        return Some(2);
     }
-    WEIGHTS
+    None
 }

@@ -25,14 +25,8 @@ fn tables(plan: Plan, buffer: &mut [u8]) -> Written
     let mut order = [0u64; states::MOST];
     let rewards = [0u64; states::MOST];
     let states = plan.copies as usize + 2;
-    states::denominators(
-        &mut denominators,
-        plan.copies,
-        plan.loss,
-        plan.rebuild,
-        plan.finish,
-    );
-    let end = edges::edges(&mut list, plan.copies, plan.loss, plan.rebuild, plan.finish);
+    states::denominators(&mut denominators, plan);
+    let end = edges::edges(&mut list, plan);
     states::rising(&mut order, states);
     egorstream_write(
         plan.copies + 2,
@@ -62,12 +56,12 @@ pub fn file(plan: Plan, buffer: &mut [u8]) -> Written
     ensures { PlanFiled (told_plan plan) buffer.old (told result) buffer.new }
 {
     let many = plan::beyond(plan::COPIES, plan.copies);
-    let place = plan::wrong(plan);
+    let wrong = plan::wrong(plan);
     if many {
         return refused(30, 0);
     }
-    if place < plan::WEIGHTS {
-        return refused(31, place);
+    if let Some(place) = wrong {
+        return refused(31, place as u32);
     }
     tables(plan, buffer)
 }

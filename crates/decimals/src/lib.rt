@@ -27,15 +27,14 @@ const ONE: Figure = Figure { digits: 1, tens: 0 };
 fn far(x: u64, twos: u64) -> bool
     ensures { decides (Far x twos) result }
 {
-    if x <= NUMBER { TWOS < twos } else { true }
+    NUMBER < x || TWOS < twos
 }
 
 // How many binary digits a number has beyond 60.
 fn extra(t: u64) -> u64
     ensures { (result ≡ digits t - 60) × (result ≤ 4) }
 {
-    let zeros = u64::leading_zeros(t) as u64;
-    if zeros < 4 { 4 - zeros } else { 0 }
+    4u64.saturating_sub(u64::from(t.leading_zeros()))
 }
 
 // p / 2 ^ k, rounded down.
@@ -64,7 +63,7 @@ fn six_digits(p: u64, twos: u64) -> Figure
     }
     Figure {
         digits: whole as u32,
-        tens: tens,
+        tens,
     }
 }
 
@@ -73,17 +72,17 @@ fn more(f: Figure) -> Figure
     ensures { told result ≡ raised (told f) }
 {
     if f.digits < 999999 {
-        return Figure {
+        Figure {
             digits: f.digits + 1,
-            tens: f.tens,
-        };
-    }
-    if f.tens <= 6 {
-        return ONE;
-    }
-    Figure {
-        digits: 100000,
-        tens: f.tens - 1,
+            ..f
+        }
+    } else if f.tens <= 6 {
+        ONE
+    } else {
+        Figure {
+            digits: 100000,
+            tens: f.tens - 1,
+        }
     }
 }
 
@@ -91,10 +90,7 @@ fn more(f: Figure) -> Figure
 pub fn lower(p: u64, twos: u64) -> Figure
     ensures { told result ≡ lower_figure p twos }
 {
-    if p == 0 {
-        return NOUGHT;
-    }
-    if far(p, twos) {
+    if p == 0 || far(p, twos) {
         return NOUGHT;
     }
     if over(p, twos) != 0 {

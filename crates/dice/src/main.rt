@@ -1,9 +1,11 @@
 // The dice chain of Knuth and Yao: prints the chance of each face.
 #![tactic(auto)]
 
+use chain::given::Given;
 use chain::{Chain, edge};
 use engines::entry::chance;
-use report::{Printed, face};
+use figures::Answer;
+use report::face;
 use std::io::Write;
 
 // States 0 to 6 toss a coin, and states 7 to 12 are the faces.
@@ -28,17 +30,8 @@ const COUNT: usize = EDGES.len() / 3;
 // The edges as an entry takes them: each with the reward 0.
 fn widened() -> [u64; edge::SIZE * COUNT] {
     let mut edges = [0u64; edge::SIZE * COUNT];
-    let mut e = 0;
-    while e < COUNT {
-        edge::put(
-            &mut edges,
-            e,
-            EDGES[3 * e],
-            EDGES[3 * e + 1],
-            EDGES[3 * e + 2],
-            0,
-        );
-        e += 1;
+    for (e, ends) in EDGES.chunks_exact(3).enumerate() {
+        edge::put(&mut edges, e, ends[0], ends[1], ends[2], 0);
     }
     edges
 }
@@ -47,15 +40,14 @@ fn widened() -> [u64; edge::SIZE * COUNT] {
 fn print(out: &mut impl Write, people: &mut impl Write, number: u64, goals: u64) -> bool {
     let edges = widened();
     let mut work = [0u64; Chain::WORK];
-    let found = chance(
-        Chain::new(STATES, 0, goals),
-        &DENOMINATORS,
-        &edges,
-        &ORDER,
-        &mut work,
-    );
+    let given = Given {
+        chain: Chain::new(STATES, 0, goals),
+        denominators: &DENOMINATORS,
+        edges: &edges,
+    };
+    let found = chance(&given, &ORDER, &mut work);
     let mut buffer = [0u8; report::FACE_ROOM];
-    if let Printed::Length(n) = face(number, found, &mut buffer) {
+    if let Ok(n) = face(number, Answer::from(found), &mut buffer) {
         return output::print(out, people, &buffer[..n], b"dice: standard output");
     }
     false
@@ -63,13 +55,10 @@ fn print(out: &mut impl Write, people: &mut impl Write, number: u64, goals: u64)
 
 // The lines, up to one that could not be written.
 fn print_faces(out: &mut impl Write, people: &mut impl Write) {
-    let mut number = 1;
-    while number <= FACES {
-        let whole = print(out, people, number, 1 << (FIRST + number - 1));
-        if !whole {
+    for number in 1..=FACES {
+        if !print(out, people, number, 1 << (FIRST + number - 1)) {
             return;
         }
-        number += 1;
     }
 }
 

@@ -11,10 +11,11 @@ use Rattle.meaning.specs.Miss.{MissOutcome}
 use Rattle.meaning.specs.FileNear.{From, FileNear}
 use Rattle.theory.proofs.Outcomes.NearSizes.{near_small, miss_small}
 use Rattle.theory.proofs.Files.NearFile.{file_near_one, file_near_place}
-use Rattle.near.specs.Answer.{told_between, told_near, told_miss, Proper}
+use Rattle.near.specs.Answer.{told_between, told_near, told_miss}
 use Rattle.near.specs.declared.answer.Figures.{Figures}
-use Rattle.near.specs.declared.answer.Nearly.{Nearly}
-use Rattle.near.specs.declared.answer.Nearly.TheVariants.{Found, Refused}
+use Rattle.std.proofs.Common.{Result, Ok, Err}
+use Rattle.chain.specs.Refusal.{number_of}
+use Rattle.chain.specs.declared.refusal.Refusal.{Refusal}
 use Rattle.egorstream.specs.Near.{Small, Surrounds, Tells, Replies, Nears}
 use Rattle.egorstream.specs.declared.nearly.Around.{Around}
 use Rattle.egorstream.specs.declared.nearly.Nearness.{Nearness}
@@ -34,27 +35,27 @@ file_twos : {f : Input} {from : From} {a b : Near} → FileNear f from a b → (
 file_twos (FileNear.file_refused n p r e d) = (rw e (omega arith), rw d (omega arith))
 file_twos (FileNear.asked h w v o m) = (near_twos o, miss_twos m)
 
-pub small : {f : Input} {from : From} (n : Nearly) → FileNear f from (told_near n) (told_miss n) × Proper n → Small n
-small (Found g) z = file_twos z.0
-small (Refused number place) z = file_near_place z.0
+pub small : {f : Input} {from : From} (n : Result Figures Refusal) → FileNear f from (told_near n) (told_miss n) → Small n
+small (Ok g) z = file_twos z
+small (Err r) z = file_near_place z
 
-pub nears : {f : Input} {from : From} (n : Nearly) {r : Nearness} → FileNear f from (told_near n) (told_miss n) × Proper n → Replies n r → Nears f from r
-nears n z t = record { chance = told_near n; missing = told_miss n; outcome = z.0; tells = t }
+pub nears : {f : Input} {from : From} (n : Result Figures Refusal) {r : Nearness} → FileNear f from (told_near n) (told_miss n) → Replies n r → Nears f from r
+nears n z t = record { chance = told_near n; missing = told_miss n; outcome = z; tells = t }
 
 -- What is replied, by what was found.
-pub replied_found : (n : Nearly) {g : Figures} (r : Nearness) → n ≡ Found g → r.number ≡ 0 → r.place ≡ 0 → Surrounds (told_between g.chance) r.near
+pub replied_found : (n : Result Figures Refusal) {g : Figures} (r : Nearness) → n ≡ Ok g → r.number ≡ 0 → r.place ≡ 0 → Surrounds (told_between g.chance) r.near
     → Surrounds (told_between g.miss) r.miss → Replies n r
 replied_found n r e number place x y =
-    subst (λ (n : Nearly). Replies n r) (sym e) (record { number = number; place = place; near = x; miss = y })
+    subst (λ (n : Result Figures Refusal). Replies n r) (sym e) (record { number = number; place = place; near = x; miss = y })
 
 -- A refusal's number and place are no part of its noughts.
 noughts : (number place : ℕ) {s : Around} → Surrounds (near 0 0 0 0 0) s → Surrounds (near number place 0 0 0) s
 noughts number place x = record { lower = x.lower; upper = x.upper; twos = x.twos; below = x.below; above = x.above }
 
-pub replied_refused : (n : Nearly) {number place : ℕ} (r : Nearness) → n ≡ Refused number place → r.number ≡ number → r.place ≡ place
+pub replied_refused : (n : Result Figures Refusal) {x : Refusal} (r : Nearness) → n ≡ Err x → r.number ≡ number_of x.fault → r.place ≡ x.place
     → Surrounds (near 0 0 0 0 0) r.near → Surrounds (near 0 0 0 0 0) r.miss → Replies n r
-replied_refused n {number} {place} r e k p x y =
-    subst (λ (n : Nearly). Replies n r) (sym e) (record { number = k; place = p; near = noughts number place x; miss = noughts number place y })
+replied_refused n {x = f} r e k p x y =
+    subst (λ (n : Result Figures Refusal). Replies n r) (sym e) (record { number = k; place = p; near = noughts (number_of f.fault) f.place x; miss = noughts (number_of f.fault) f.place y })
 
 -- The numbers determine the figures.
 around_one : {a : Near} {s s' : Around} → Surrounds a s → Surrounds a s' → s ≡ s'

@@ -1,57 +1,50 @@
--- From what is chosen for a file's chain to what the face for C answers, and that this is one.
+-- What is chosen for a file's chain has a place that is small, and is one.
 use Prim.Native.Nat.{ℕ, ◌+◌, ◌≤◌}
-use mathlib.Core.Path.{◌≡◌, refl, sym, ap, ap₂, subst, ◌∙◌}
+use mathlib.Core.Path.{◌≡◌, sym, ap, ap₂, subst, ◌∙◌}
 use mathlib.Core.List.{List, []}
 use native.Mathlib.Omega.{arith}
+use Rattle.std.proofs.Common.{Result, Err}
 use Rattle.meaning.specs.Chain.{most_states, most_edges}
-use Rattle.meaning.specs.Refusal.{Lent, chain_alone}
+use Rattle.meaning.specs.Refusal.{Lent}
 use Rattle.meaning.specs.Block.{Input}
-use Rattle.meaning.specs.File.{FileRefused}
 use Rattle.meaning.specs.Choice.{Choice as Numbers, no_choice, ChoiceOutcome, list_wrong, refused, chosen, FileChoice, file_refused, asked}
 use Rattle.theory.specs.Outcomes.Places.{refused_places}
 use Rattle.theory.specs.Outcomes.Choice.{choice_one}
 use Rattle.theory.specs.Files.FileOne.{file_one, accepted_unrefused}
 use Rattle.theory.specs.Files.StepsOne.{file_place}
-use Rattle.chain.specs.declared.Chain.{Chain}
-use Rattle.chain.specs.Lent.{lent}
-use Rattle.choice.specs.declared.Choice.{Choice}
-use Rattle.choice.specs.declared.Choice.TheVariants.{Sum, Refused}
+use Rattle.chain.specs.declared.refusal.Refusal.{Refusal}
+use Rattle.chain.specs.Given.{with}
 use Rattle.choice.specs.Told.{told, Chooses}
-use Rattle.opening.specs.Book.{Holds}
-use Rattle.egorstream.specs.Order.{NearPlace, ChosenOf, told_order}
+use Rattle.opening.specs.Asked.{Shown}
+use Rattle.opening.specs.declared.book.Opened.{Opened}
+use Rattle.figures.proofs.Outcomes.{bare}
+use Rattle.egorstream.specs.Order.{told_order, Chosen}
 use Rattle.egorstream.specs.declared.order.Ordered.{Ordered}
 
--- A refusal's place is small.
-near_place : {l : Lent} {before after : List ℕ} (r : Choice) → Chooses l before r after → NearPlace r
-near_place (Sum sum) x = tt
-near_place (Refused n p) x = at x.outcome
-  where
-    place_of : {a b : Numbers} → a ≡ b → a.place ≡ b.place
-    place_of e = ap (λ (a : Numbers). a.place) e
+place_of : {a b : Numbers} → a ≡ b → a.place ≡ b.place
+place_of e = ap (λ (a : Numbers). a.place) e
 
-    at : {l : Lent} {before after : List ℕ} → ChoiceOutcome l before (told (Refused n p)) after → p ≤ most_states + most_edges
-    at (list_wrong d e s) = omega (arith, place_of e)
-    at (refused h k q z e s) = omega (arith, place_of e, refused_places k q z)
-    at (chosen h f k t m y e) = omega (arith, place_of e)
+chain_place : {l : Lent} {before after : List ℕ} (r : Refusal) → ChoiceOutcome l before (told (Err r)) after → r.place ≤ most_states + most_edges
+chain_place r (list_wrong d e s) = omega (arith, place_of e)
+chain_place r (refused h k q z e s) = omega (arith, place_of e, refused_places k q z)
+chain_place r (chosen h f k t m y e) = omega (arith, place_of e)
 
-pub refuses : {f : Input} {n p : ℕ} {list : List ℕ} → FileRefused f n p → ChosenOf f list (Refused n p) list
-refuses z = record { outcome = file_refused _ _ z refl refl; near = file_place z }
+pub place_small : {f : Input} {before after : List ℕ} (r : Refusal) → FileChoice f before (told (Err r)) after → r.place ≤ most_states + most_edges
+place_small r (file_refused n p w e s) = omega (arith, place_of e, file_place w)
+place_small r (asked t o) = chain_place r o
 
--- The chain and tables are those of the file.
-pub chooses : {f : Input} {c : Chain} {d g o w before after : List ℕ} (q : Choice) → Holds f c d g o w → Chooses (lent c d g [] [] []) before q after
-    → ChosenOf f before q after
-chooses {f} {c} {d} {g} {before = before} {after} q h x =
-    record {
-      outcome =
-          asked h.accepted
-          (subst (λ (l : Lent). ChoiceOutcome l before (told q) after) (λ i. chain_alone (ap (λ (l : Lent). l.chain) h.paid i)) x.outcome);
-      near = near_place q x;
-    }
+-- What is chosen for an opened file's chain is chosen for the file.
+pub of_parts : {f : Input} {before after : List ℕ} (p : Opened) (r : Result ℕ Refusal) → Chooses (with p.given [] [] []) before r after → Shown f p
+    → FileChoice f before (told r) after
+of_parts {f} {before} {after} p r o s =
+    asked s.holds.accepted (subst (λ (l : Lent). ChoiceOutcome l before (told r) after) (bare s.holds) o)
 
--- The face answers it.
-pub replied : {f : Input} {before after : List ℕ} {q : Choice} (r : Ordered) → ChosenOf f before q after → told_order r ≡ told q
-    → FileChoice f before (told_order r) after
-replied {f} {before} {after} r x e = subst (λ (a : Numbers). FileChoice f before a after) (sym e) x.outcome
+pub of_file : {f : Input} {before after : List ℕ} (p : Opened) (r : Result ℕ Refusal) → Chosen p before r after → Shown f p → FileChoice f before (told r) after
+of_file {f} p r x s = x.of_file f s
+
+-- The numbers of an answer, by its case.
+pub said : {f : Input} {before after : List ℕ} {r r' : Result ℕ Refusal} → r ≡ r' → FileChoice f before (told r) after → FileChoice f before (told r') after
+said {f} {before} {after} e o = subst (λ (r : Result ℕ Refusal). FileChoice f before (told r) after) e o
 
 file_choice_one : {f : Input} {before after after' : List ℕ} {a a' : Numbers} → FileChoice f before a after → FileChoice f before a' after'
     → (a ≡ a') × (after ≡ after')

@@ -6,14 +6,14 @@ use Rattle.meaning.specs.Block.{Input}
 use Rattle.meaning.specs.Within.{FileWithin}
 use Rattle.theory.specs.Rounds.Texts.{file_within_one, file_within_place}
 use Rattle.equations.specs.Told.{told as parts_told}
-use Rattle.equations.specs.declared.Parts.{Parts}
-use Rattle.figures.specs.Within.{FileWithins}
+use Rattle.std.proofs.Common.{Result}
+use Rattle.chain.specs.declared.refusal.Refusal.{Refusal}
 use Rattle.egorstream.specs.Reach.{told}
 use Rattle.egorstream.specs.declared.within.Reached.{Reached}
 
-module _ {f : Input} {k : ℕ} {r p : Parts} (w : FileWithins f k r) (e : r ≡ p) where
+module _ {f : Input} {k : ℕ} {r p : Result ℕ Refusal} (w : FileWithin f k (parts_told r)) (e : r ≡ p) where
   pub reached : FileWithin f k (parts_told p)
-  reached = subst (λ (p : Parts). FileWithin f k (parts_told p)) e w.outcome
+  reached = subst (λ (p : Result ℕ Refusal). FileWithin f k (parts_told p)) e w
 
   pub place_small : (parts_told p).place ≤ most_states + most_edges
   place_small = file_within_place reached

@@ -1,6 +1,6 @@
 -- From what is answered of files and texts to the faces for C; and what these promise determines their answers.
 use Prim.Native.Nat.{ℕ, ◌^◌, ◌≤◌, ◌<◌}
-use mathlib.Core.Path.{◌≡◌, ap, subst}
+use mathlib.Core.Path.{◌≡◌, ap}
 use mathlib.Core.Logic.{⊎_elim, inl}
 use mathlib.Core.List.{List}
 use native.Mathlib.Omega.{arith}
@@ -14,9 +14,9 @@ use Rattle.theory.specs.Files.StepsOne.{file_place}
 use Rattle.theory.specs.Texts.Short.{refused_place}
 use Rattle.theory.specs.Texts.Made.{make_one, texted_one}
 use Rattle.report.specs.Stands.{told as printed}
-use Rattle.report.specs.declared.Printed.{Printed}
+use Rattle.std.proofs.Common.{Result, Ok, Err, IfErr}
+use Rattle.chain.specs.declared.refusal.Refusal.{Refusal}
 use Rattle.chainwriter.specs.Tells.{told as answered}
-use Rattle.chainwriter.specs.declared.Writing.{Writing as Answer}
 use Rattle.egorstream.specs.declared.write.Written.{Written}
 use Rattle.egorstream.specs.Told.{told}
 
@@ -40,14 +40,14 @@ made_place {f} (MakeOutcome.text_refused h t p r e d) = omega (arith, place_of e
 made_place (MakeOutcome.chain_refused h t l s w k p r e d) = omega (arith, place_of e, refused_places k p r)
 made_place (MakeOutcome.made h t l s w g file x e d) = omega (arith, place_of e)
 
--- The numbers of an answer, by its case.
-pub texted_as : {f : Input} {before after : List ℕ} (r : Printed) {a : Writing} → TextedOutcome f before (printed r) after → printed r ≡ a
-    → TextedOutcome f before a after
-texted_as {f} {before} {after} r o e = subst (λ (a : Writing). TextedOutcome f before a after) e o
+-- So has that of any answer.
+pub texted_fits : {f : Input} {before after : List ℕ} (r : Result ℕ Refusal) → TextedOutcome f before (printed r) after → IfErr r (λ x. x.place < 2 ^ 32)
+texted_fits (Ok n) o = tt
+texted_fits (Err x) o = texted_place o
 
-pub made_as : {f : Input} {before after : List ℕ} (r : Answer) {a : Writing} → MakeOutcome f before (answered r) after → answered r ≡ a
-    → MakeOutcome f before a after
-made_as {f} {before} {after} r o e = subst (λ (a : Writing). MakeOutcome f before a after) e o
+pub made_fits : {f : Input} {before after : List ℕ} (r : Result ℕ Refusal) → MakeOutcome f before (answered r) after → IfErr r (λ x. x.place < 2 ^ 32)
+made_fits (Ok n) o = tt
+made_fits (Err x) o = made_place o
 
 written_one : (r r' : Written) → told r ≡ told r' → r ≡ r'
 written_one r r' e = λ i. record { number = (e i).number; place = (e i).place; length = (e i).written }

@@ -3,6 +3,7 @@ use Prim.Native.Nat.{ℕ, ◌+◌, ◌≤◌}
 use mathlib.Core.Path.{◌≡◌, ap, subst}
 use mathlib.Core.List.{List}
 use native.Mathlib.Omega.{arith}
+use Rattle.std.proofs.Common.{Result, Ok, Err, IfErr, ◌<◌, ◌^◌}
 use Rattle.meaning.specs.Chain.{most_states, most_edges}
 use Rattle.meaning.specs.Refusal.{Lent}
 use Rattle.meaning.specs.Buffer.{Writing, no_writing}
@@ -12,7 +13,7 @@ use Rattle.theory.specs.Files.Written.{file_of_size, write_one}
 use Rattle.chain.specs.declared.Chain.{Chain}
 use Rattle.chain.specs.Lent.{lent as framed}
 use Rattle.chainwriter.specs.Tells.{told as answered}
-use Rattle.chainwriter.specs.declared.Writing.{Writing as Answer}
+use Rattle.chain.specs.declared.refusal.Refusal.{Refusal}
 use Rattle.egorstream.specs.declared.write.Written.{Written}
 use Rattle.egorstream.specs.Told.{lent, told}
 
@@ -22,14 +23,17 @@ place_small (refused k p r e d) =
     let z = ap (λ (a : Writing). a.place) e in let n = refused_places k p r in omega (arith, n.2)
 place_small (written w f x e d) = let z = ap (λ (a : Writing). a.written) e in absurd (omega (arith, file_of_size x))
 
+pub place_fits : {l : Lent} {after : List ℕ} (r : Result ℕ Refusal) → WriteOutcome l (answered r) after → IfErr r (λ x. x.place < 2 ^ 32)
+place_fits (Ok n) o = tt
+place_fits (Err x) o = omega (arith, place_small o)
+
 -- The chain is made of the numbers that were given.
-pub faced : {c : Chain} {states start goals : ℕ} {denominators edges order rewards before after : List ℕ} (r : Answer) {a : Writing}
+pub faced : {c : Chain} {states start goals : ℕ} {denominators edges order rewards before after : List ℕ} {a : Writing}
     → (c.states ≡ states) × (c.start ≡ start) × (c.goals ≡ goals)
-    → WriteOutcome (framed c denominators edges order rewards before) (answered r) after → answered r ≡ a
+    → WriteOutcome (framed c denominators edges order rewards before) a after
     → WriteOutcome (lent states start goals denominators edges order rewards before) a after
-faced {c} {denominators = denominators} {edges} {order} {rewards} {before} {after} r {a} n o e =
-    subst (λ (l : Lent). WriteOutcome l a after) (λ i. lent (n.0 i) (n.1 i) (n.2 i) denominators edges order rewards before)
-    (subst (λ (a : Writing). WriteOutcome (framed c denominators edges order rewards before) a after) e o)
+faced {denominators = denominators} {edges} {order} {rewards} {before} {after} {a} n o =
+    subst (λ (l : Lent). WriteOutcome l a after) (λ i. lent (n.0 i) (n.1 i) (n.2 i) denominators edges order rewards before) o
 
 -- What the face promises determines its answer and the buffer afterwards.
 pub written_unique : {l : Lent} {after after' : List ℕ} (r r' : Written) → WriteOutcome l (told r) after → WriteOutcome l (told r') after'

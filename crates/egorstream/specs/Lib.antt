@@ -5,3 +5,4 @@ pub mod Reach
 pub mod Check
 pub mod Near
 pub mod Limits
+pub mod Answered

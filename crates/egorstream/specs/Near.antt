@@ -1,5 +1,5 @@
 -- What the face of near chances for C answers.
-use Rattle.std.specs.Prelude.{◌+◌, ◌≤◌, ◌<◌, ◌^◌, ◌≡◌}
+use Rattle.std.specs.Prelude.{◌+◌, ◌≤◌, ◌<◌, ◌^◌, ◌≡◌, Result, Ok, Err}
 use Rattle.meaning.specs.Chain.{most_states, most_edges}
 use Rattle.meaning.specs.Block.{Input}
 use Rattle.meaning.specs.Near.{Near}
@@ -7,8 +7,8 @@ use Rattle.meaning.specs.NearText.{figure, lower_figure, upper_figure}
 use Rattle.meaning.specs.FileNear.{From, FileNear}
 use Rattle.near.specs.Answer.{told_near, told_miss}
 use Rattle.near.specs.declared.answer.Between.{Between}
-use Rattle.near.specs.declared.answer.Nearly.{Nearly}
-use Rattle.near.specs.declared.answer.Nearly.TheVariants.{Found, Refused}
+use Rattle.near.specs.declared.answer.Figures.{Figures}
+use Rattle.chain.specs.declared.refusal.Refusal.{Refusal}
 use Rattle.egorstream.specs.declared.nearly.Around.{Around}
 use Rattle.egorstream.specs.declared.nearly.Nearness.{Nearness}
 
@@ -16,9 +16,9 @@ use Rattle.egorstream.specs.declared.nearly.Nearness.{Nearness}
 abbrev pub SmallTwos : Between → Type 0
 SmallTwos b = b.twos < 2 ^ 32
 
-abbrev pub Small : Nearly → Type 0
-Small (Found f) = SmallTwos f.chance × SmallTwos f.miss
-Small (Refused number place) = place ≤ most_states + most_edges
+abbrev pub Small : Result Figures Refusal → Type 0
+Small (Ok f) = SmallTwos f.chance × SmallTwos f.miss
+Small (Err r) = r.place ≤ most_states + most_edges
 
 -- The numbers of an answer, and its printed figures.
 pub record Surrounds (a : Near) (s : Around) : Type 0 where
@@ -35,7 +35,7 @@ pub record Tells (chance missing : Near) (r : Nearness) : Type 0 where
   pub near : Surrounds chance r.near
   pub miss : Surrounds missing r.miss
 
-abbrev pub Replies : Nearly → Nearness → Type 0
+abbrev pub Replies : Result Figures Refusal → Nearness → Type 0
 Replies n r = Tells (told_near n) (told_miss n) r
 
 -- What it promises of a file.

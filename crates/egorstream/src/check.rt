@@ -18,19 +18,19 @@ pub fn egorstream_check(file: &[u8], shares: &[u8]) -> Checked
     ensures { Checks (whole_file file.now) shares.now result }
 {
     match figures::check(file, 0, shares) {
-        Verdict::Refused { number, place } => Checked {
-            number,
-            place: place as u32,
+        Err(r) => Checked {
+            number: r.fault.number(),
+            place: r.place as u32,
             right: 0,
             state: 0,
         },
-        Verdict::Yes => Checked {
+        Ok(Verdict::Yes) => Checked {
             number: 0,
             place: 0,
             right: 1,
             state: 0,
         },
-        Verdict::No(state) => Checked {
+        Ok(Verdict::No(state)) => Checked {
             number: 0,
             place: 0,
             right: 0,

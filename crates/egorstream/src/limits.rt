@@ -32,14 +32,14 @@ pub fn egorstream_limit(file: &[u8], digits: u64, tens: u64) -> Limited
     ensures { Limits (whole_file file.now) (limit digits tens) result }
 {
     match limitfile::judge(file, 0, Limit { digits, tens }) {
-        limitfile::Limited::Judged { verdict, chance: _ } => Limited {
+        Ok(judged) => Limited {
             number: 0,
             place: 0,
-            verdict: verdict_number(verdict),
+            verdict: verdict_number(judged.verdict),
         },
-        limitfile::Limited::Refused { number, place } => Limited {
-            number,
-            place: place as u32,
+        Err(r) => Limited {
+            number: r.fault.number(),
+            place: r.place as u32,
             verdict: 0,
         },
     }

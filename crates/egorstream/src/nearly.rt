@@ -4,8 +4,8 @@ ghost use Rattle.meaning.specs.FileNear.{own, state as number};
 ghost use Rattle.near.specs.Answer.{told_between};
 ghost use Rattle.egorstream.specs.Near.{Small, SmallTwos, Surrounds, Replies, Nears};
 
-use near::answer::{Between, Nearly};
-use nearfile::From;
+use chain::refusal::Refusal;
+use near::answer::{Between, Figures};
 
 // Two numbers over one power of two, and each of them in six decimal digits: digits over 10 ^ tens, rounded down and up.
 #[repr(C)]
@@ -47,30 +47,26 @@ fn shown(b: Between) -> Around
     }
 }
 
-fn reply(n: Nearly) -> Nearness
+fn reply(n: Result<Figures, Refusal>) -> Nearness
     requires { Small n }
     ensures { Replies n result }
 {
     match n {
-        Nearly::Found(found) => {
-            let chance = found.chance;
-            let miss = found.miss;
-            Nearness {
-                number: 0,
-                place: 0,
-                near: shown(chance),
-                miss: shown(miss),
-            }
-        }
-        Nearly::Refused { number, place } => {
+        Ok(found) => Nearness {
+            number: 0,
+            place: 0,
+            near: shown(found.chance),
+            miss: shown(found.miss),
+        },
+        Err(r) => {
             let none = Between {
                 lower: 0,
                 upper: 0,
                 twos: 0,
             };
             Nearness {
-                number,
-                place: place as u32,
+                number: r.fault.number(),
+                place: r.place as u32,
                 near: shown(none),
                 miss: shown(none),
             }
@@ -82,12 +78,12 @@ fn reply(n: Nearly) -> Nearness
 pub fn egorstream_near(file: &[u8]) -> Nearness
     ensures { Nears (whole_file file.now) own result }
 {
-    reply(nearfile::near(file, 0, From::Start))
+    reply(nearfile::near(file, 0, None))
 }
 
 // From a state that takes the place of the file's start.
 pub fn egorstream_near_from(file: &[u8], state: u64) -> Nearness
     ensures { Nears (whole_file file.now) (number state) result }
 {
-    reply(nearfile::near(file, 0, From::State(state)))
+    reply(nearfile::near(file, 0, Some(state)))
 }

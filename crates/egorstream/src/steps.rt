@@ -6,7 +6,7 @@ ghost use Rattle.figures.specs.Traced.{FileTraced};
 ghost use Rattle.steplist.specs.Told.{told};
 ghost use Rattle.egorstream.specs.Steps.{SmallPlace, Replies, answer_of};
 
-use engines::answer::{Chance, Trace};
+use engines::answer::Trace;
 use steplist::StepRecord;
 use steplist::list::fill;
 
@@ -33,18 +33,17 @@ fn reply(t: Trace) -> Stepped
 {
     let numbers = t.numbers;
     let count = numbers[0];
-    let chance = t.chance;
-    match chance {
-        Chance::Is(f) => Stepped {
+    match t.chance {
+        Ok(f) => Stepped {
             number: 0,
             place: 0,
             count,
             numerator: f.numerator,
             denominator: f.denominator,
         },
-        Chance::Refused { number, place } => Stepped {
-            number,
-            place: place as u32,
+        Err(r) => Stepped {
+            number: r.fault.number(),
+            place: r.place as u32,
             count,
             numerator: 0,
             denominator: 0,

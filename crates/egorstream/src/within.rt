@@ -3,8 +3,6 @@ ghost use Rattle.meaning.specs.Block.{whole_file};
 ghost use Rattle.meaning.specs.Within.{FileWithin};
 ghost use Rattle.egorstream.specs.Reach.{told};
 
-use equations::Parts;
-
 // A refusal's number and place, or 0 and the parts.
 #[repr(C)]
 #[derive(Clone, Copy)]
@@ -18,12 +16,12 @@ pub fn egorstream_within(file: &[u8], steps: u64) -> Reached
     ensures { FileWithin (whole_file file.now) steps (told result) }
 {
     match figures::within(file, 0, steps) {
-        Parts::Refused { number, place } => Reached {
-            number,
-            place: place as u32,
+        Err(r) => Reached {
+            number: r.fault.number(),
+            place: r.place as u32,
             parts: 0,
         },
-        Parts::Held(parts) => Reached {
+        Ok(parts) => Reached {
             number: 0,
             place: 0,
             parts,

@@ -9,8 +9,7 @@ use Rattle.meaning.specs.Row.{rounding}
 use Rattle.meaning.specs.Step.{Sets}
 use Rattle.meaning.specs.Refusal.{Lent, eliminating, paid}
 use Rattle.meaning.specs.Survey.{Misses}
-use Rattle.survey.specs.Looking.{looked}
-use Rattle.survey.specs.declared.looking.Looked.{Looked}
+use Rattle.survey.specs.Looking.{Looked, looked}
 use Rattle.elimination.specs.Engine.{rounds, is_paid, is_short, asks, read_by}
 use Rattle.elimination.specs.First.{Makeable}
 use Rattle.elimination.specs.Pay.{pays}

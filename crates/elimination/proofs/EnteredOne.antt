@@ -1,6 +1,6 @@
 -- What an engine comes to is one.
 use Prim.Native.Nat.{ℕ}
-use mathlib.Core.Path.{◌≡◌, refl, sym, subst, ◌∙◌}
+use mathlib.Core.Path.{◌≡◌, refl, sym, ap, subst, ◌∙◌}
 use mathlib.Core.Bool.{Bool, true, false}
 use mathlib.Core.List.{List}
 use mathlib.Core.Logic.{inl}
@@ -19,8 +19,10 @@ use Rattle.elimination.specs.Entered.{pay_of, Comes, Entered}
 use Rattle.elimination.specs.Run.{Ended, Read, won, lost, live, runs}
 use Rattle.elimination.specs.declared.engine.Engine.{Engine}
 use Rattle.elimination.specs.declared.engine.Engine.TheVariants.{Chance, Reward, Bounds, Left}
-use Rattle.elimination.specs.declared.course.Course.{Course}
-use Rattle.elimination.specs.declared.course.Course.TheVariants.{Ends, Stops}
+use Rattle.std.specs.Prelude.{Result, Ok, Err}
+use Rattle.chain.specs.declared.refusal.Refusal.{Refusal}
+use Rattle.chain.proofs.Faults.{one_refusal}
+use Rattle.elimination.specs.declared.course.Ends.{Ends}
 
 -- A goal is an end.
 won_leads : (short : Bool) (l : Lent) → Goal l.chain l.chain.start → PathTo l.chain.edges (End short l.chain) l.chain.start
@@ -29,7 +31,7 @@ won_leads true l h = PathTo.here _ (inl h)
 
 -- What is read off is one.
 module _ (pay : ℕ → ℕ) (short b : Bool) (l : Lent) where
-  read_one : {g u e d g' u' e' d' : ℕ} → Read pay short b l g u e d → Read pay short b l g' u' e' d' → Ends g u e d ≡ Ends g' u' e' d'
+  read_one : {e e' : Ends} → Read pay short b l e → Read pay short b l e' → e ≡ e'
   read_one (won h q) (won h' q') = q ∙ sym q'
   read_one (won h q) (lost h' q') = absurd (h' (won_leads short l h))
   read_one (won h q) (live k' right' alive' z') = absurd (alive'.unwon h)
@@ -38,17 +40,17 @@ module _ (pay : ℕ → ℕ) (short b : Bool) (l : Lent) where
   read_one (lost h q) (live k' right' alive' z') = absurd (h alive'.leads)
   read_one (live k right alive z) (won h' q') = absurd (alive.unwon h')
   read_one (live k right alive z) (lost h' q') = absurd (h' alive.leads)
-  read_one {g' = g'} {u'} {e'} {d'} (live k right alive z) (live k' right' alive' z') =
-      let y : Ended pay short b l k g' u' e' d' = subst (λ k. Ended pay short b l k g' u' e' d') (right_one right' right) z' in
+  read_one {e' = e'} (live k right alive z) (live k' right' alive' z') =
+      let y : Ended pay short b l k e' = subst (λ k. Ended pay short b l k e') (right_one right' right) z' in
       z.read ∙ sym y.read
 
 -- Where something can be read off nothing stopped the engine.
-pub read_unstopped : (pay : ℕ → ℕ) (l : Lent) {g u e d : ℕ} → Read pay false exact l g u e d → (number place : ℕ) → Stopped pay exact l number place → ⊥
+pub read_unstopped : (pay : ℕ → ℕ) (l : Lent) {e : Ends} → Read pay false exact l e → (number place : ℕ) → Stopped pay exact l number place → ⊥
 read_unstopped pay l (won h q) number place s = s.alive.unwon h
 read_unstopped pay l (lost h q) number place s = h s.alive.leads
 read_unstopped pay l (live k right alive z) number place s = passed_unstopped l k right pay exact z.passed number place s
 
-unstopped : (g : Engine) (l : Lent) {goal u e d number place : ℕ} → Read (pay_of g l) (is_short g) (rounds g) l goal u e d
+unstopped : (g : Engine) (l : Lent) {e : Ends} {number place : ℕ} → Read (pay_of g l) (is_short g) (rounds g) l e
     → Stopped (pay_of g l) (rounds g) l number place → ⊥
 unstopped Chance l z s = read_unstopped (pay_of Chance l) l z _ _ s
 unstopped Reward l z s = read_unstopped (pay_of Reward l) l z _ _ s
@@ -56,21 +58,21 @@ unstopped Bounds l z s = rounding_unstopped s
 unstopped Left l z s = rounding_unstopped s
 
 module _ (g : Engine) (l : Lent) where
-  runs_one : (r r' : Course) → runs (pay_of g l) (is_short g) (rounds g) l r → runs (pay_of g l) (is_short g) (rounds g) l r' → r ≡ r'
-  runs_one (Ends a u e d) (Ends a' u' e' d') z z' = read_one (pay_of g l) (is_short g) (rounds g) l z z'
-  runs_one (Ends a u e d) (Stops n p) z s = absurd (unstopped g l z s)
-  runs_one (Stops n p) (Ends a u e d) s z = absurd (unstopped g l z s)
-  runs_one (Stops n p) (Stops n' p') s s' = let e = stopped_one n p n' p' s s' in λ i. Stops (e.0 i) (e.1 i)
+  runs_one : (r r' : Result Ends Refusal) → runs (pay_of g l) (is_short g) (rounds g) l r → runs (pay_of g l) (is_short g) (rounds g) l r' → r ≡ r'
+  runs_one (Ok e) (Ok e') z z' = ap (λ (e : Ends). Ok e) (read_one (pay_of g l) (is_short g) (rounds g) l z z')
+  runs_one (Ok e) (Err r) z s = absurd (unstopped g l z s)
+  runs_one (Err r) (Ok e) s z = absurd (unstopped g l z s)
+  runs_one (Err r) (Err r') s s' = let e = stopped_one _ _ _ _ s s' in ap (λ (r : Refusal). Err r) (one_refusal r r' e.0 e.1)
 
-  comes_one : {k k' : Sets} {log log' : List ℕ} (r r' : Course) → Comes g l k log r → Comes g l k' log' r' → r ≡ r'
+  comes_one : {k k' : Sets} {log log' : List ℕ} (r r' : Result Ends Refusal) → Comes g l k log r → Comes g l k' log' r' → r ≡ r'
   comes_one _ _ (Comes.missed e m) (Comes.missed e' m') = refl
   comes_one _ r' (Comes.missed e m) (Comes.ran sure z h) = absurd (sure e m)
   comes_one r _ (Comes.ran sure z h) (Comes.missed e m) = absurd (sure e m)
   comes_one r r' (Comes.ran sure z h) (Comes.ran sure' z' h') = runs_one r r' z z'
 
-  pub entered_unique : (x : Entry) {w w' log log' : List ℕ} (r r' : Course) → Entered x g l w log r → Entered x g l w' log' r' → (r ≡ r') × (w ≡ w')
-  entered_unique x _ _ (Entered.refused n p z s h) (Entered.refused n' p' z' s' h') =
-      let e = refused_one z z' in (λ i. Stops (e.0 i) (e.1 i), s ∙ sym s')
-  entered_unique x _ r' (Entered.refused n p z s h) (Entered.came formed s' k right c) = absurd (refused_unformed z formed)
-  entered_unique x r _ (Entered.came formed s k right c) (Entered.refused n p z s' h) = absurd (refused_unformed z formed)
+  pub entered_unique : (x : Entry) {w w' log log' : List ℕ} (r r' : Result Ends Refusal) → Entered x g l w log r → Entered x g l w' log' r' → (r ≡ r') × (w ≡ w')
+  entered_unique x _ _ (Entered.refused r z s h) (Entered.refused r' z' s' h') =
+      let e = refused_one z z' in (ap (λ (r : Refusal). Err r) (one_refusal r r' e.0 e.1), s ∙ sym s')
+  entered_unique x _ r' (Entered.refused _ z s h) (Entered.came formed s' k right c) = absurd (refused_unformed z formed)
+  entered_unique x r _ (Entered.came formed s k right c) (Entered.refused _ z s' h) = absurd (refused_unformed z formed)
   entered_unique x r r' (Entered.came formed s k right c) (Entered.came formed' s' k' right' c') = (comes_one r r' c c', s ∙ sym s')

@@ -16,8 +16,9 @@ use Rattle.elimination.specs.Engine.{rounds, is_paid, is_short}
 use Rattle.elimination.specs.Entered.{pay_of, Comes, missed, ran}
 use Rattle.elimination.specs.Run.{Begun, won, lost, live, runs}
 use Rattle.elimination.specs.declared.engine.Engine.{Engine}
-use Rattle.elimination.specs.declared.course.Course.{Course}
-use Rattle.elimination.specs.declared.course.Course.TheVariants.{Ends, Stops as Stopping}
+use Rattle.std.specs.Prelude.{Result, Ok, Err}
+use Rattle.chain.specs.declared.refusal.Refusal.{Refusal}
+use Rattle.elimination.specs.declared.course.Ends.{Ends}
 use Rattle.elimination.proofs.FirstRows.{first_given}
 use Rattle.elimination.proofs.Engines.{short_rounds, rounds_unpaid}
 
@@ -69,17 +70,17 @@ module _ (w : List ℕ) (list : ℕ) (pay : ℕ → ℕ) (b : Bool) (l : Lent) w
   stops_beside (before_steps u) = before_steps u
   stops_beside (in_step p h c u) = in_step p h c u
 
-  runs_beside : (short : Bool) (r : Course) → runs pay short b l r → runs pay short b (beside w list l) r
-  runs_beside short (Ends g u e d) (won h q) = won h q
-  runs_beside short (Ends g u e d) (lost h q) = lost h q
-  runs_beside short (Ends g u e d) (live k right alive z) = live k right alive (record { passed = z.passed; read = z.read })
-  runs_beside short (Stopping number place) z = record { sets = z.sets; right = z.right; alive = z.alive; stops = stops_beside z.stops }
+  runs_beside : (short : Bool) (r : Result Ends Refusal) → runs pay short b l r → runs pay short b (beside w list l) r
+  runs_beside short (Ok e) (won h q) = won h q
+  runs_beside short (Ok e) (lost h q) = lost h q
+  runs_beside short (Ok e) (live k right alive z) = live k right alive (record { passed = z.passed; read = z.read })
+  runs_beside short (Err r) z = record { sets = z.sets; right = z.right; alive = z.alive; stops = stops_beside z.stops }
 
-pub comes_beside : {g : Engine} {l : Lent} {k : Sets} {log : List ℕ} (w : List ℕ) (list : ℕ) (r : Course) → Comes g l k log r → Comes g (beside w list l) k log r
+pub comes_beside : {g : Engine} {l : Lent} {k : Sets} {log : List ℕ} (w : List ℕ) (list : ℕ) (r : Result Ends Refusal) → Comes g l k log r → Comes g (beside w list l) k log r
 comes_beside w list _ (missed e m) = missed e m
 comes_beside {g} {l} w list r (ran sure z h) = ran sure (runs_beside w list (pay_of g l) (rounds g) l (is_short g) r z) h
 
 -- Where no log is asked for nothing is told of it.
-pub comes_unlogged : {g : Engine} {l : Lent} {k : Sets} {log : List ℕ} {r : Course} → Comes g l k log r → Comes g l k [] r
+pub comes_unlogged : {g : Engine} {l : Lent} {k : Sets} {log : List ℕ} {r : Result Ends Refusal} → Comes g l k log r → Comes g l k [] r
 comes_unlogged (missed e m) = missed e m
 comes_unlogged (ran sure z h) = ran sure z (inl refl)

@@ -27,6 +27,8 @@ use Rattle.theory.specs.Outcomes.Formed.{few_states, few_edges, start_in, some_g
 use Rattle.theory.specs.Outcomes.Whole.{goal_end}
 use Rattle.elimination.specs.Packed.{weights_at}
 use Rattle.elimination.specs.Pay.{pays}
+use Rattle.std.specs.Prelude.{Option}
+use Rattle.elimination.proofs.Removal.{match_more}
 use Rattle.elimination.specs.Table.{part_at, row_at, Renewed}
 use Rattle.elimination.specs.Gather.{column_of, share, lack, Added, Held, Gatherable, Completable}
 use Rattle.elimination.specs.First.{Packable, finished, finished_at, Finishable, Makeable}
@@ -232,23 +234,23 @@ module _ (c : Chain) (k : Sets) (b p short : Bool) (rewards work : List ℕ) (a 
     first_is : (i : ℕ) → i < n → finished_at b n k.live earnings v i ≡ row (first b c k pay u) i
     first_is i h = first_at i h ∙ sym (first_row_from b c k pay u i h)
 
-    pub first_made : {made : List ℕ} {answer : Bool} → Renewed b (finished_at b n k.live earnings v) n v made answer
+    pub first_made : {A : Type 0} {made : List ℕ} (answer : Option A) → Renewed b (finished_at b n k.live earnings v) n v made answer
         → Made b n (first b c k pay u) work made answer
     unfolding first
-    first_made {made} y =
+    first_made {made = made} answer y =
         let t = kept_more z.kept y.kept in
         record {
           kept = t;
-          reached = λ e.
+          is =
+              match_more answer (λ l. (l.0, (l.1.0, (l.1.1.0, rw (first_is l.1.0 l.1.1.0) at l.1.1.1))))
+              (λ _ r.
               record {
                 kept = t;
-                same = tab_ext n (row_at n made) _ (λ i h. y.all e i h ∙ first_at i h);
-                packed = y.packed e;
-                fit = λ i h. rw (first_is i h) at (y.fit e i h);
-              };
-          unfit = λ e.
-              let l = y.large e in
-              (l.0, (l.1.0, (l.1.1.0, rw (first_is l.1.0 l.1.1.0) at l.1.1.1)));
+                same = tab_ext n (row_at n made) _ (λ i h. r.all i h ∙ first_at i h);
+                packed = r.packed;
+                fit = λ i h. rw (first_is i h) at (r.fit i h);
+              })
+              y.is;
         }
 
 -- A goal set that is not empty, and holds states alone, holds one.

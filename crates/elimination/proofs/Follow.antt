@@ -8,7 +8,7 @@ use borrow.Author.Tests.{lt-ltb, le-ltb}
 use Rattle.meaning.specs.Number.{bit}
 use Rattle.meaning.specs.Chain.{most_states, End, FromStart, LiveTo}
 use Rattle.meaning.specs.Step.{Table, row, Sets, RightTo, goes, unknown, first, after}
-use Rattle.meaning.specs.Row.{Row, rounding}
+use Rattle.meaning.specs.Row.{rounding}
 use Rattle.meaning.specs.Steps.{records_along}
 use Rattle.meaning.specs.Refusal.{Lent, work_size}
 use Rattle.meaning.specs.Stop.{turn, Unfit, Stops, Stopped}
@@ -19,12 +19,13 @@ use Rattle.theory.specs.Outcomes.StepsStates.{none_goes}
 use Rattle.elimination.specs.Log.{Logged}
 use Rattle.elimination.specs.Table.{row_at, table_of, Kept}
 use Rattle.elimination.specs.Turn.{Reached}
-use Rattle.elimination.specs.Order.{UnstoppedWalk, Finished, walked, walked_to, records_walked}
-use Rattle.elimination.specs.Run.{end_of, table_from, won, lost, live, runs, finished_in, records_run}
-use Rattle.elimination.specs.declared.course.Course.{Course}
-use Rattle.elimination.specs.declared.course.Course.TheVariants.{Ends, Stops as Stopping}
-use Rattle.elimination.specs.declared.walk.Walk.{Walk}
-use Rattle.elimination.specs.declared.walk.Walk.TheVariants.{Done, NoFit}
+use Rattle.elimination.specs.Order.{UnstoppedWalk, walked, records_walked}
+use Rattle.elimination.specs.Run.{ends, end_of, table_from, Read, lost, live, finished_in, records_run}
+use Rattle.chain.specs.Refusal.{number_of}
+use Rattle.chain.specs.declared.refusal.Fault.TheVariants.{NoFit}
+use Rattle.chain.specs.declared.refusal.Refusal.{Refusal}
+use Rattle.elimination.specs.declared.course.Ends.{Ends}
+use Rattle.std.specs.Prelude.{Result, Ok, Err, ⊤}
 use Rattle.elimination.proofs.Removal.{row_is}
 
 -- A row of a table that was reached.
@@ -32,16 +33,9 @@ pub reached_row : {b : Bool} {n : ℕ} {t : Table} {w v : List ℕ} → Reached 
 reached_row {n = n} {v = v} z i h = sym (row_is n v i h) ∙ ap (λ (t : Table). row t i) z.same
 
 -- Whatever ends the walk, the numbers past the table stay.
-pub walk_kept : (b : Bool) (n : ℕ) (go : ℕ → Bool) (o v u : List ℕ) (r : Walk) → walked b n go o v u r → Kept n v u
-walk_kept b n go o v u Done z = z.reached.kept
-walk_kept b n go o v u (NoFit p) z = z.kept
-
-pub walk_done : (b : Bool) (n : ℕ) (go : ℕ → Bool) (o v u : List ℕ) (r : Walk) → walked b n go o v u r → r ≡ Done
-    → Finished b n (after b n go o (table_of n v)) v u
-walk_done b n go o v u r z e = subst (walked b n go o v u) e z
-
-pub walk_inside : (b : Bool) (n : ℕ) (go : ℕ → Bool) (o v u : List ℕ) (r : Walk) → walked b n go o v u r → {p : ℕ} → r ≡ NoFit p → p < n
-walk_inside b n go o v u r z e = (subst (walked b n go o v u) e z).inside
+pub walk_kept : (b : Bool) (n : ℕ) (go : ℕ → Bool) (o v u : List ℕ) (r : Result ⊤ Refusal) → walked b n go o v u r → Kept n v u
+walk_kept b n go o v u (Ok _) z = z.reached.kept
+walk_kept b n go o v u (Err r) z = z.1.kept
 
 -- What stops the elimination. Nothing does where rows may fall short, since they are rounded there.
 module _ (pay : ℕ → ℕ) (b : Bool) (l : Lent) (k : Sets) where
@@ -59,11 +53,8 @@ module _ (pay : ℕ → ℕ) (b : Bool) (l : Lent) (k : Sets) where
 
 module _ (pay : ℕ → ℕ) (short b : Bool) (l : Lent) (k : Sets) (right : RightTo l.chain (End short l.chain) k) where
   -- How the start stands: it is a goal, has no path to an end, or is live.
-  pub runs_won : bit l.chain.goals l.chain.start ≡ 1 → {c : Course} → c ≡ Ends 1 0 0 1 → runs pay short b l c
-  runs_won h q = subst (runs pay short b l) (sym q) (won h refl)
-
-  pub runs_lost : (bit k.good l.chain.start ≡ 1 → ⊥) → {c : Course} → c ≡ Ends 0 0 0 1 → runs pay short b l c
-  runs_lost h q = subst (runs pay short b l) (sym q) (lost (λ g. h ((right.good l.chain.start).1 g)) refl)
+  pub reads_lost : (bit k.good l.chain.start ≡ 1 → ⊥) → {e : Ends} → e ≡ ends 0 0 0 1 → Read pay short b l e
+  reads_lost h q = lost (λ g. h ((right.good l.chain.start).1 g)) q
 
   pub start_live : (bit l.chain.goals l.chain.start ≡ 1 → ⊥) → bit k.good l.chain.start ≡ 1 → LiveTo l.chain (End short l.chain) l.chain.start
   start_live h g = record { unwon = h; reached = FromStart.begin; leads = (right.good l.chain.start).0 g }
@@ -83,46 +74,46 @@ module _ (pay : ℕ → ℕ) (short b : Bool) (l : Lent) (k : Sets) (right : Rig
       subst (Logged log)
       (sym (records_none n go (turn l) (table_from pay short b l k) (λ q. none_goes l.chain k right dead (turn l q)) p)) h
 
-  pub logged_first : n ≤ most_states → {log : List ℕ} → Logged log [] → Logged log (records_run pay short b l k (finished_in n (Stopping 12 most_states)))
+  pub logged_first : n ≤ most_states → {log : List ℕ} → Logged log [] → (r : Refusal) → r.place ≡ most_states
+      → Logged log (records_run pay short b l k (finished_in n (Err r)))
   unfolding records_along
-  logged_first few h = rw (le-ltb most_states n few) h
+  logged_first few h r e = rw (e, le-ltb most_states n few) h
 
   -- The elimination is begun: the start is live.
   module _ (alive : LiveTo l.chain (End short l.chain) l.chain.start) where
-    pub stops_first : (short ≡ true → b ≡ rounding) → Unfit b n first_table → Stopped pay b l 12 most_states
+    pub stops_first : (short ≡ true → b ≡ rounding) → Unfit b n first_table → (r : Refusal) → r.fault ≡ NoFit → r.place ≡ most_states
+        → Stopped pay b l (number_of r.fault) r.place
     unfolding after
-    stops_first rounds u = stopped_first pay b l k short rounds right alive u
+    stops_first rounds u r f e = rw (f, e) (stopped_first pay b l k short rounds right alive u)
 
     -- What is logged of the walk through the order, which begins with the first table, in v.
-    module _ (v : List ℕ) (same : table_of n v ≡ first_table) (r : Walk) {log : List ℕ}
-        (h : Logged log (records_walked b n go l.order v (walked_to n r))) where
-      logged_to : Logged log (records_run pay short b l k (walked_to n r))
-      logged_to = rw same at h
+    module _ (v : List ℕ) (same : table_of n v ≡ first_table) {log : List ℕ} where
+      logged_to : (p : ℕ) → Logged log (records_walked b n go l.order v p) → Logged log (records_run pay short b l k p)
+      logged_to p h = rw same at h
 
-      pub logged_unfit : (p : ℕ) → r ≡ NoFit p → p < n → Logged log (records_run pay short b l k (finished_in n (Stopping 12 p)))
-      logged_unfit p e i = rw (lt-ltb p n i) (subst (λ r. Logged log (records_run pay short b l k (walked_to n r))) e logged_to)
+      pub logged_unfit : (r : Refusal) → r.place < n → Logged log (records_walked b n go l.order v r.place)
+          → Logged log (records_run pay short b l k (finished_in n (Err r)))
+      logged_unfit r i h = rw (lt-ltb r.place n i) (logged_to r.place h)
 
-      pub logged_through : r ≡ Done → (z : Row) {c : Course} → c ≡ end_of n l.chain.start z → Logged log (records_run pay short b l k (finished_in n c))
-      logged_through e z q =
-          subst (λ c. Logged log (records_run pay short b l k (finished_in n c))) (sym q) (subst (λ r. Logged log (records_run pay short b l k (walked_to n r))) e logged_to)
+      pub logged_through : Logged log (records_walked b n go l.order v n) → Logged log (records_run pay short b l k n)
+      logged_through h = logged_to n h
 
     -- The walk through the order, which begins with the first table, in v.
-    module _ (v u : List ℕ) (same : table_of n v ≡ first_table) (r : Walk) (z : walked b n go l.order v u r) where
+    module _ (v u : List ℕ) (same : table_of n v ≡ first_table) where
       passed : (p : ℕ) → UnstoppedWalk b n (after b n go l.order (table_of n v)) p → UnstoppedWalk b n (table_from pay short b l k) p
       passed p c = rw same at c
 
-      pub stops_unfit : (short ≡ true → b ≡ rounding) → (p : ℕ) → r ≡ NoFit p → Stopped pay b l 12 p
-      stops_unfit rounds p e =
-          let o = subst (walked b n go l.order v u) e z in
-          stopped_in pay b l k short rounds right alive p o.inside (passed p o.clear) (rw same at o.unfit)
+      pub stops_unfit : (short ≡ true → b ≡ rounding) → (r : Refusal) → walked b n go l.order v u (Err r) → Stopped pay b l (number_of r.fault) r.place
+      stops_unfit rounds r z =
+          let o = z.1 in
+          rw z.0 (stopped_in pay b l k short rounds right alive r.place o.inside (passed r.place o.clear) (rw same at o.unfit))
 
       -- What is read off the start's row then.
-      pub reads : l.chain.start < n → r ≡ Done → (c : Course) → c ≡ end_of n l.chain.start (row_at n u l.chain.start) → runs pay short b l c
-      reads h e c q =
-          let f = walk_done b n go l.order v u r z e in
+      pub reads : l.chain.start < n → walked b n go l.order v u (Ok tt) → (c : Ends) → c ≡ end_of n l.chain.start (row_at n u l.chain.start) → Read pay short b l c
+      reads h f c q =
           let at : row_at n u l.chain.start ≡ row (table_from pay short b l k n) l.chain.start =
           reached_row f.reached l.chain.start h ∙ ap (λ (t : Table). row (after b n go l.order t n) l.chain.start) same in
-          subst (runs pay short b l) (sym (q ∙ ap (end_of n l.chain.start) at)) (live k right alive (record { passed = passed n f.clear; read = refl }))
+          live k right alive (record { passed = passed n f.clear; read = q ∙ ap (end_of n l.chain.start) at })
 
 -- The work table once it is cleared, whatever stood in its rows.
 pub cleared_kept : (l : Lent) {v u : List ℕ} → Kept l.chain.states l.work v

@@ -19,8 +19,10 @@ use Rattle.theory.specs.Chains.Sets.{right_one}
 use Rattle.theory.specs.Outcomes.Determined.{refused_one}
 use Rattle.survey.specs.Sets.{sets_of}
 use Rattle.elimination.specs.Laying.{Lies, laid}
-use Rattle.elimination.specs.declared.laying.Laid.{Laid}
-use Rattle.elimination.specs.declared.laying.Laid.TheVariants.{Rows, Refused as Refusing}
+use Rattle.std.specs.Prelude.{Result, Ok, Err}
+use Rattle.chain.specs.declared.refusal.Refusal.{Refusal}
+use Rattle.chain.proofs.Faults.{one_refusal}
+use Rattle.survey.specs.declared.Sets.{Sets}
 use Rattle.elimination.proofs.Tables.{row_cell}
 
 -- The row that a number of the table stands in.
@@ -67,15 +69,15 @@ decided P true false p q = absurd (q p)
 decided P false true p q = absurd (p q)
 decided P false false p q = refl
 
-pub laid_unique : (l : Lent) (r r' : Laid) {w w' : List ℕ} → laid l w r → laid l w' r' → (r ≡ r') × (w ≡ w')
-laid_unique l (Rows s) (Rows s') {w} {w'} x y =
+pub laid_unique : (l : Lent) (r r' : Result Sets Refusal) {w w' : List ℕ} → laid l w r → laid l w' r' → (r ≡ r') × (w ≡ w')
+laid_unique l (Ok s) (Ok s') {w} {w'} x y =
     let k = right_one x.1.right y.1.right in
     let m = decided (Misses false l.chain) s.missed s'.missed x.1.missed y.1.missed in (
-      λ i. Rows (record { good = (k i).good; live = (k i).live; missed = m i }),
+      λ i. Ok (record { good = (k i).good; live = (k i).live; missed = m i }),
       lies_one l.chain.states (near_first l.chain (sets_of s)) l.work w w' x.2 (rw (← k) at y.2),
     )
-laid_unique l (Rows s) (Refusing n p) x y = absurd (x.0.none n p y.0.applies)
-laid_unique l (Refusing n p) (Rows s) x y = absurd (y.0.none n p x.0.applies)
-laid_unique l (Refusing n p) (Refusing m q) x y =
+laid_unique l (Ok s) (Err r) x y = absurd (x.0.none _ _ y.0.applies)
+laid_unique l (Err r) (Ok s) x y = absurd (y.0.none _ _ x.0.applies)
+laid_unique l (Err r) (Err r') x y =
     let o = refused_one x.0 y.0 in
-    (λ i. Refusing (o.0 i) (o.1 i), x.1 ∙ sym y.1)
+    (ap (λ (r : Refusal). Err r) (one_refusal r r' o.0 o.1), x.1 ∙ sym y.1)

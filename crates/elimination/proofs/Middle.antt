@@ -1,10 +1,13 @@
 -- A list whose middle, from a on and up to e, was lent and has come back as ys.
 use Prim.Native.Nat.{ℕ, ◌+◌, ◌-◌, ◌≤◌, ◌<◌}
 use mathlib.Core.Path.{◌≡◌, sym, ap, ◌∙◌}
+use mathlib.Core.Logic.{dite}
 use mathlib.Core.List.{List, ◌++◌}
+use native.Mathlib.Decide.{dec_lt}
 use native.Mathlib.Omega.{arith}
-use lib.ListN.{length, get_or, take, drop}
-use lib.Seq.{get_or-take, get_or-drop, length-take-le, take-append_seam, drop_at}
+use lib.ListN.{length, get_or, take, drop, replicate, get_or-append, get_or-eq_default}
+use lib.Seq.{get_or-append-add, get_or-take, get_or-drop, length-take-le, take-append_seam, drop_at}
+use Rattle.theory.specs.Numbers.Tab.{get_d_zeros}
 use borrow.Rule.Slice.PartMut.{mid_of, post_of, put_mid, mid_len, take_put, drop_put, same_len_mid}
 
 module _ (a e : ℕ) (xs ys : List ℕ) (h : a ≤ e) (g : e ≤ length xs) (l : length ys ≡ e - a) where
@@ -36,3 +39,18 @@ module _ (a e : ℕ) (xs ys : List ℕ) (h : a ≤ e) (g : e ≤ length xs) (l :
 -- The number at a + i of the list is number i of its middle.
 pub mid_at : (a e : ℕ) (xs : List ℕ) (i : ℕ) → i < e - a → get_or (mid_of a (e - a) xs) i 0 ≡ get_or xs (a + i) 0
 mid_at a e xs i b = get_or-take (e - a) (drop a xs) i 0 b ∙ get_or-drop a xs i 0
+
+-- A list of at most 68 numbers that was copied to the front of zeros.
+pub copied : (x l t : List ℕ) → x ≡ l → t ≡ replicate 68 0 → (j : ℕ) → get_or (x ++ drop (length l) t) j 0 ≡ get_or l j 0
+copied x l t e z j =
+    rw (e, z)
+    (dite (dec_lt j (length l)) (λ h. get_or-append l (drop (length l) (replicate 68 0)) 0 j h)
+    (λ h.
+    let r = drop (length l) (replicate 68 0) in
+    let q : length l + (j - length l) ≡ j = omega arith in
+    let p : length l ≤ j = omega arith in
+    ap (λ k. get_or (l ++ r) k 0) (sym q)
+    ∙ get_or-append-add l r (j - length l) 0
+    ∙ get_or-drop (length l) (replicate 68 0) (j - length l) 0
+    ∙ get_d_zeros 68 (length l + (j - length l))
+    ∙ sym (get_or-eq_default l 0 p)))

@@ -1,6 +1,6 @@
 -- A row that was gathered by columns in its own part, packed there; and the part of a state for which nothing was gathered.
 use Prim.Native.Nat.{ℕ, ◌+◌, ◌≤◌, ◌<◌}
-use mathlib.Core.Path.{◌≡◌, sym, ap, ◌∙◌}
+use mathlib.Core.Path.{refl, ◌≡◌, sym, ap, ◌∙◌}
 use mathlib.Core.Logic.{⊎_elim}
 use mathlib.Core.Bool.{Bool, true}
 use mathlib.Core.List.{List}
@@ -15,7 +15,7 @@ use Rattle.meaning.specs.Row.{cell, width, reward, goal_column, trap_column, unk
 use Rattle.meaning.specs.Step.{no_row}
 use Rattle.theory.specs.Numbers.Sum.{below, sum_ext}
 use Rattle.theory.specs.Numbers.Tab.{tab_of, get_d_zeros, tab_zeros}
-use Rattle.elimination.specs.declared.row.Settled.{Settled}
+use Rattle.std.specs.Prelude.{Some}
 use Rattle.elimination.specs.Packed.{reward_at, goal_at, trap_at, unknown_at, weights_at, states_of, unpacked, Packed}
 use Rattle.elimination.specs.Filled.{Columns, blend, targets_to, Filled}
 use Rattle.elimination.specs.Row.{Summable, Became}
@@ -209,15 +209,13 @@ pub zero_row : (n : ℕ) {p : List ℕ} → length p ≡ width n → ((j : ℕ) 
 unfolding no_row
 zero_row n {p} l h = tab_of 0 (width n) (λ _. 0) p l h
 
-pub zero_stays : {b : Bool} (n : ℕ) {p : List ℕ} {answer : Settled} → length p ≡ width n → ((j : ℕ) → cell p j ≡ 0) → answer.fits ≡ true → answer.divisor ≡ 1
-    → Became b n p 1 p answer
+pub zero_stays : {b : Bool} (n : ℕ) {p : List ℕ} → length p ≡ width n → ((j : ℕ) → cell p j ≡ 0) → Became b n p 1 p (Some 1)
 unfolding no_row
-zero_stays {b} n {p} l h fits told =
+zero_stays {b} n {p} l h =
     let e : p ≡ no_row n = zero_row n l (λ j _. h j) in
     let z : p ≡ replicate (width n) 0 = e ∙ tab_zeros 0 (width n) in
     record {
       same = ap (unpacked n) z ∙ unpacked_none n ∙ sym e;
       packed = rw z (packed_none n);
-      tested = rw (e, fits) (tested_fit (no_row_fit b n));
-      told = told;
+      tested = rw e (tested_fit (no_row_fit b n) refl);
     }

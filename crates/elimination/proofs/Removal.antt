@@ -1,7 +1,7 @@
 -- The rows of a table renewed one after the other, and the table once a state is removed.
 use mathlib.Core.Path.{◌≡◌, refl, sym, ◌∙◌}
 use mathlib.Core.Logic.{dite}
-use mathlib.Core.Bool.{Bool, true, false}
+use mathlib.Core.Bool.{Bool}
 use mathlib.Core.List.{List, []}
 use Prim.Native.Nat.{ℕ, zero, suc, ◌+◌, ◌≤◌, ◌<◌, max, zero-le}
 use native.Mathlib.Numerals.{add-one}
@@ -16,12 +16,11 @@ use Rattle.meaning.specs.Step.{row, outside, renewed, removed}
 use Rattle.meaning.specs.Steps.{taken_out, largest_taken}
 use Rattle.theory.specs.Numbers.Tab.{tab_at, tab_ext}
 use Rattle.chain.specs.Rising.{place_of}
-use Rattle.elimination.specs.declared.row.Settled.{Settled}
+use Rattle.std.specs.Prelude.{Option, Some, None, MatchOption, IfSome}
 use Rattle.elimination.specs.Row.{Fit, Removable}
 use Rattle.elimination.specs.Packed.{targets_of, weights_at, weight_of, Below, Packed, Spread, Room}
 use Rattle.elimination.specs.Table.{part_at, row_at, table_of, Fitting, Kept, Placed, Renewed}
 use Rattle.elimination.specs.Turn.{Made}
-use Rattle.elimination.proofs.Rows.{apart}
 use Rattle.elimination.proofs.Laws.{packed_bit, packed_room, unpacked_ext, fit_modest}
 use Rattle.elimination.proofs.Tables.{kept_same, kept_more}
 
@@ -47,9 +46,9 @@ module _ {b : Bool} {g : ℕ → Row} {n : ℕ} {w : List ℕ} where
       }
 
   module _ {i : ℕ} {v : List ℕ} (z : Renewing b g n w i v) where
-    module _ {u : List ℕ} {taken : ℕ} {answer : Settled} (h : i < n) (p : Placed b n v i (g i) taken u answer) where
-      pub renewing_more : answer.fits ≡ true → Renewing b g n w (i + 1) u
-      renewing_more e =
+    module _ {u : List ℕ} {taken : ℕ} (h : i < n) where
+      pub renewing_more : {d : ℕ} → Placed b n v i (g i) taken u (Some d) → Renewing b g n w (i + 1) u
+      renewing_more p =
           record {
             so_far = omega arith;
             kept = kept_more z.kept p.put.kept;
@@ -62,28 +61,23 @@ module _ {b : Bool} {g : ℕ → Row} {n : ℕ} {w : List ℕ} where
                 dite (dec_lt k i) (λ l. rw (p.put.other k (omega arith) (λ q. omega arith)) (z.packed k l))
                 (λ l. let q : k ≡ i = omega arith in rw q p.put.packed);
             old = λ k l c. p.put.other k c (λ q. omega arith) ∙ z.old k (omega arith) c;
-            fit = λ k c. dite (dec_lt k i) (λ l. z.fit k l) (λ l. let q : k ≡ i = omega arith in rw q (p.tested.fit e));
+            fit = λ k c. dite (dec_lt k i) (λ l. z.fit k l) (λ l. let q : k ≡ i = omega arith in rw q p.tested.is.0);
           }
 
-      pub renewing_stop : answer.fits ≡ false → Renewed b g n w u false
-      renewing_stop e =
-          record {
-            kept = kept_more z.kept p.put.kept;
-            all = λ e. absurd (apart e);
-            packed = λ e. absurd (apart e);
-            fit = λ e. absurd (apart e);
-            large = λ _. let l = p.tested.large e in (l.0, (i, (h, l.1)));
-          }
+      pub renewing_stop : {A : Type 0} → Placed b n v i (g i) taken u None → Renewed {A = A} b g n w u None
+      renewing_stop p = let l = p.tested.is in record { kept = kept_more z.kept p.put.kept; is = (l.0, (i, (h, l.1))) }
 
-    pub renewing_all : n ≤ i → Renewed b g n w v true
+    pub renewing_all : n ≤ i → {A : Type 0} {x : A} → Renewed b g n w v (Some x)
     renewing_all h =
         record {
           kept = z.kept;
-          all = λ e k c. z.new k (omega arith);
-          packed = λ e k c. z.packed k (omega arith);
-          fit = λ e k c. z.fit k (omega arith);
-          large = λ e. absurd (apart (sym e));
+          is = record { all = λ k c. z.new k (omega arith); packed = λ k c. z.packed k (omega arith); fit = λ k c. z.fit k (omega arith) };
         }
+
+-- What follows where there is no answer, and where there is one.
+pub match_more : {A : Type 0} (o : Option A) {P Q : Type 0} {R S : A → Type 0} → (P → Q) → ((x : A) → R x → S x) → MatchOption o P R → MatchOption o Q S
+match_more (Some x) f g h = g x h
+match_more None f g h = f h
 
 -- The largest divisor so far, and with that of row i.
 pub largest_more : (f : ℕ → ℕ) {i a x r : ℕ} → a ≡ largest f i → x ≡ f i → r ≡ max a x → r ≡ largest f (i + 1)
@@ -120,24 +114,23 @@ module _ (b : Bool) (n s : ℕ) (w : List ℕ) (hs : s < n) (d : ℕ) (ed : d �
       largest_same _ (λ i. taken_out s (outside n s (row (table_of n w) s)) (row (table_of n w) s) (eqb i s) (row (table_of n w) i)) n
       (λ k h. rw (ed, ep, row_is n w k h, row_is n w s hs))
 
-  module _ {v : List ℕ} {answer : Bool} (z : Renewed b (λ k. renewed b n s d p (eqb k s) (row_at n w k)) n w v answer) where
+  module _ {v : List ℕ} (answer : Option ℕ) (z : Renewed b (λ k. renewed b n s d p (eqb k s) (row_at n w k)) n w v answer) where
     removed_made : Made b n (removed b n s (table_of n w)) w v answer
     removed_made =
         record {
           kept = z.kept;
-          reached = λ e.
-              record { kept = z.kept; same = table_removed v (z.all e); packed = z.packed e; fit = λ i h. rw (row_removed i h) at (z.fit e i h) };
-          unfit = λ e.
-              let l = z.large e in
-              (l.0, (l.1.0, (l.1.1.0, rw (row_removed l.1.0 l.1.1.0) at l.1.1.1)));
+          is =
+              match_more answer (λ l. (l.0, (l.1.0, (l.1.1.0, rw (row_removed l.1.0 l.1.1.0) at l.1.1.1))))
+              (λ _ r. record { kept = z.kept; same = table_removed v r.all; packed = r.packed; fit = λ i h. rw (row_removed i h) at (r.fit i h) })
+              z.is;
         }
 
   -- The table once s is removed, and the largest divisor that was taken out.
-  pub removal : {v : List ℕ} {answer : Settled}
-      → Renewed b (λ k. renewed b n s d p (eqb k s) (row_at n w k)) n w v answer.fits
-      × (answer.fits ≡ true → answer.divisor ≡ largest (λ k. taken_out s d p (eqb k s) (row_at n w k)) n)
-      → Made b n (removed b n s (table_of n w)) w v answer.fits × (answer.fits ≡ true → answer.divisor ≡ largest_taken n s (table_of n w))
-  removal z = (removed_made z.0, λ f. z.1 f ∙ largest_taken_lem)
+  pub removal : {v : List ℕ} (answer : Option ℕ)
+      → Renewed b (λ k. renewed b n s d p (eqb k s) (row_at n w k)) n w v answer
+      × IfSome answer (λ r. r ≡ largest (λ k. taken_out s d p (eqb k s) (row_at n w k)) n)
+      → Made b n (removed b n s (table_of n w)) w v answer × IfSome answer (λ r. r ≡ largest_taken n s (table_of n w))
+  removal answer z = (removed_made answer z.0, match_more answer (λ t. t) (λ _ e. e ∙ largest_taken_lem) z.1)
 
 -- What a step asks of the row of s, of which pivot is a copy, and y has the weights by state.
 module _ {b : Bool} {n s : ℕ} {w : List ℕ} (h : Fitting b n w) (hs : s < n) (pivot : List ℕ) (same : (q : ℕ) → get_or pivot q 0 ≡ get_or (part_at n w s) q 0) where

@@ -1,5 +1,5 @@
 -- What rounding, settling and combining do to the total and the Reward of a row.
-use mathlib.Core.Path.{◌≡◌, refl, sym, ap, subst, ◌∙◌}
+use mathlib.Core.Path.{◌≡◌, refl, ap, subst, ◌∙◌}
 use mathlib.Core.Logic.{dite, inl, inr}
 use mathlib.Core.Bool.{Bool, true, false}
 use mathlib.Core.List.{List}
@@ -7,11 +7,11 @@ use Prim.Native.Nat.{ℕ, ◌+◌, ◌-◌, ◌*◌, ◌^◌, ◌≤◌, ◌<◌
 use native.Mathlib.Nat.{mul-le-mul, zero-div, le-div_iff_mul-le}
 use native.Mathlib.Decide.{dec_lt}
 use native.Mathlib.Omega.{arith}
-use lib.Dec.{eqb}
+use lib.Dec.{eqb, leb}
 use lib.ListN.{length, set}
 use lib.Seq.{get_or-set_same, get_or-set_other}
-use borrow.Author.Tests.{le-ltb, lt-ltb, eq-eqb, ne_eqb}
-use Rattle.meaning.specs.Number.{sum_to, choose}
+use borrow.Author.Tests.{leb-true, leb-false, le-ltb, lt-ltb, eq-eqb, ne_eqb}
+use Rattle.meaning.specs.Number.{sum_to, choose, decides}
 use Rattle.meaning.specs.Chain.{M}
 use Rattle.meaning.specs.Row.{Row, cell, total, reward, divisor, over, lowest, up_to, shift_of, topped, rounded_by, rounded, bounded, settled, width, unknown_column, reward_column, rounding}
 use Rattle.meaning.specs.Steps.{taken_out}
@@ -20,7 +20,8 @@ use Rattle.theory.specs.Numbers.Sum.{sum_ext, sum_le, sum_zero, sum_next, sum_up
 use Rattle.theory.specs.Numbers.Tab.{tab_at, tab_length, get_d_zeros, tab_zeros}
 use Rattle.theory.specs.Numbers.Shift.{pow_whole, shift_fits}
 use Rattle.theory.specs.Rows.Terms.{over_cell}
-use Rattle.elimination.specs.declared.row.Settled.{Settled}
+use Rattle.std.specs.Prelude.{Option, Some}
+use Rattle.std.specs.Bool.{then_some}
 use Rattle.elimination.specs.Packed.{unpacked, Packed}
 use Rattle.elimination.specs.Row.{Summable, Fit, Removable, Tested, Became}
 use Rattle.chain.proofs.Lowest.{over_parts}
@@ -175,20 +176,26 @@ module _ (s d : ℕ) (p r : Row) where
 pub apart : false ≡ true → ⊥
 apart e = let z : ◌≡◌ {A = ℕ} 0 1 = cc in omega arith
 
-pub tested_fit : {b : Bool} {n : ℕ} {r : Row} → Fit b n r → Tested b n r true
-tested_fit f = record { fit = λ _. f; large = λ e. absurd (apart (sym e)) }
+pub tested_fit : {b : Bool} {n : ℕ} {r : Row} {taken d : ℕ} → Fit b n r → d ≡ taken → Tested b n r taken (Some d)
+tested_fit f e = record { is = (f, e) }
 
 -- A part that is packed, whose row is known and whether that fits, and the divisor that was taken out of it.
-pub became : {b : Bool} {n : ℕ} {r : Row} {taken : ℕ} {v : List ℕ} {answer : Settled} → unpacked n v ≡ r → Packed n v
-    → Tested b n (unpacked n v) answer.fits → answer.divisor ≡ taken → Became b n r taken v answer
-became {b} {n} {answer = answer} e k t d =
-    record { same = e; packed = k; tested = subst (λ z. Tested b n z answer.fits) e t; told = d }
+pub became : {b : Bool} {n : ℕ} {r : Row} {taken : ℕ} {v : List ℕ} {answer : Option ℕ} → unpacked n v ≡ r → Packed n v
+    → Tested b n (unpacked n v) taken answer → Became b n r taken v answer
+became {b} {n} {taken = taken} {answer = answer} e k t =
+    record { same = e; packed = k; tested = subst (λ z. Tested b n z taken answer) e t }
 
-pub tested_total : {n : ℕ} {r : Row} → M < total n r → Tested false n r false
-tested_total h = record { fit = λ e. absurd (apart e); large = λ _. (refl, inl h) }
+-- An exact row that was tested.
+pub tested_exact : {n : ℕ} {r : Row} {taken d : ℕ} (q : Bool) → decides ((total n r ≤ M) × (reward n r ≤ M)) q → d ≡ taken
+    → Tested false n r taken (then_some q d)
+tested_exact true h e = tested_fit (record { weights = h.0; earned = h.1; unpaid = λ e. absurd (apart e) }) e
+tested_exact {n} {r} false h e =
+    record { is = (refl, dite (dec_lt M (total n r)) inl (λ k. inr (let p : reward n r ≤ M → ⊥ = λ q. h (omega arith, q) in omega arith))) }
 
-pub tested_reward : {n : ℕ} {r : Row} → M < reward n r → Tested false n r false
-tested_reward h = record { fit = λ e. absurd (apart e); large = λ _. (refl, inr h) }
-
-pub tested_exact : {n : ℕ} {r : Row} → total n r ≤ M → reward n r ≤ M → Tested false n r true
-tested_exact h k = tested_fit (record { weights = h; earned = k; unpaid = λ e. absurd (apart e) })
+-- A row whose total is small is tested by its Reward.
+pub both_small : (t w x : ℕ) → t ≤ M → w ≡ x → decides ((t ≤ M) × (w ≤ M)) (leb x M)
+both_small t w x h e = go (leb x M) refl
+  where
+    go : (q : Bool) → leb x M ≡ q → decides ((t ≤ M) × (w ≤ M)) q
+    go true f = (h, let g = leb-true x M f in omega arith)
+    go false f = λ k. let g = leb-false x M f in let l = k.1 in omega arith

@@ -12,6 +12,7 @@ use Rattle.meaning.specs.Chain.{most_states, M}
 use Rattle.meaning.specs.Number.{sum_to, bit}
 use Rattle.meaning.specs.Row.{Row, cell, total, reward, divisor, over, lowest, up_to, shift_of, rounded, bounded, settled, reward_column, unknown_column}
 use Rattle.theory.specs.Numbers.Shift.{shift_fits}
+use Rattle.std.specs.Prelude.{Option}
 use Rattle.elimination.specs.Packed.{targets_of, reward_at, goal_at, trap_at, unknown_at, weights_at, end_of_part, states_of, unpacked, Below, Packed}
 use Rattle.elimination.specs.Row.{Summable, Fit, Tested, Shifted}
 use Rattle.elimination.specs.declared.row.Lowered.{Lowered}
@@ -65,8 +66,9 @@ module _ {p v : List ℕ} (h : Divided (divisor (unpacked (states_of p) p)) p v)
   unfolding settled
   kept_exact b e = (lowest_packed h refl k, divided_row h n ∙ bounded_off n (lowest (unpacked n p)) b e)
 
-  pub kept_tested : {b a : Bool} → b ≡ false → Tested false (states_of v) (unpacked (states_of v) v) a → Tested b n (unpacked n v) a
-  kept_tested {a = a} e t = rw e (subst (λ m. Tested false m (unpacked m v) a) (states h) t)
+  pub kept_tested : {b : Bool} {taken : ℕ} {answer : Option ℕ} → b ≡ false → Tested false (states_of v) (unpacked (states_of v) v) taken answer
+      → Tested b n (unpacked n v) taken answer
+  kept_tested {taken = taken} {answer = answer} e t = rw e (subst (λ m. Tested false m (unpacked m v) taken answer) (states h) t)
 
   pub kept_rounded : {z : List ℕ} (b : Bool) → b ≡ true → reward n (unpacked n p) ≡ 0
       → (let m = states_of v in Packed m z × (unpacked m z ≡ bounded true m (unpacked m v)) × (total m (unpacked m z) ≤ M))

@@ -31,3 +31,9 @@ still_large t m j h l =
     ⊎_elim (λ (g : M < up_to t j). g)
     (λ (g : up_to t j ≤ M). absurd (omega (arith, mul-le-mul_left (2 ^ j) g, pow_whole j)))
     (below M (up_to t j))
+
+-- A total of that many binary digits keeps 30 or less of them, one place further on.
+pub small_then : (t m k : ℕ) → t < 2 ^ m → m ≤ k + 31 → up_to t (k + 1) ≤ M
+small_then t m k h l =
+    let a : 2 ^ m ≤ 2 ^ (k + 31) = pow-le-pow_right {n = 2} (omega arith) l in
+    up_least t (2 ^ (k + 1)) M (pow_whole (k + 1)) (omega (arith, a, pow-add 2 k 31, pow-add 2 k 1))

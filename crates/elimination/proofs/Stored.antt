@@ -1,14 +1,17 @@
 -- The numbers of a packed row as they are stored, from Reward on or from Goal on: their sum, their divisor, and all of them divided.
 use Prim.Native.Nat.{ℕ, zero, suc, ◌+◌, ◌-◌, ◌/◌, ◌^◌, ◌≤◌, ◌<◌, ◌∣◌}
-use mathlib.Core.Path.{◌≡◌, sym, ap, ◌∙◌}
+use mathlib.Core.Path.{◌≡◌, refl, sym, ap, ◌∙◌}
 use mathlib.Core.Logic.{⊎_elim}
-use mathlib.Core.List.{List}
+use mathlib.Core.List.{List, [], ◌∷◌}
 use native.Mathlib.Omega.{arith}
 use native.Mathlib.Nat.{zero-div, dvd_antisymm, dvd-zero}
 use lib.Count.{ones}
 use lib.ListN.{length, get_or, set, length-set}
 use lib.Seq.{get_or-set_same, get_or-set_other}
 use borrow.Rule.Slice.PartMut.{mid_of, put_mid, mid_len}
+use native.Mathlib.Numerals.{one-add}
+use Rattle.std.specs.Prelude.{sum}
+use Rattle.std.proofs.lemmas.List.Sums.{sum_by-cons}
 use Rattle.meaning.specs.Number.{sum_to, bit}
 use Rattle.meaning.specs.Row.{cell, total, gcd_of, divisor, over, lowest, reward_column, unknown_column}
 use Rattle.theory.specs.Numbers.Sum.{same, below, sum_ext, sum_next, sum_join}
@@ -22,6 +25,23 @@ use Rattle.elimination.proofs.Unpacked.{unpacked_length, unpacked_weight, each_c
 use Rattle.elimination.proofs.Middle.{put_length, put_before, put_within, put_past, mid_at}
 use Rattle.chain.proofs.Lowest.{over_sum}
 use Rattle.elimination.proofs.Laws.{packed_bit, unpacked_over, each_weight}
+
+-- The sum of a list is that of its cells.
+pub sum_cells : (xs : List ℕ) → sum xs ≡ sum_to (cell xs) (length xs)
+unfolding sum_to
+sum_cells [] = refl
+sum_cells (x ∷ xs) =
+    let f = cell (x ∷ xs) in
+    let m : 1 + length xs ≡ suc (length xs) = omega arith in
+    let e : sum_to f (1 + length xs) ≡ sum_to f (suc (length xs)) = ap (sum_to f) m in
+    omega (
+      arith,
+      e,
+      sum_by-cons (λ (y : ℕ). y) x xs,
+      sum_cells xs,
+      sum_join f 1 (length xs),
+      sum_ext (λ j. f (1 + j)) (cell xs) (length xs) (λ j h. rw one-add),
+    )
 
 -- The total is the sum of Goal, Trap, Unknown and the weights as they are stored.
 module _ (n : ℕ) (p : List ℕ) (inside : Below n p) (held : end_of_part p ≤ length p) where

@@ -12,7 +12,7 @@ use lib.Seq.{length-take-le, take_at, drop_at, ext_get_or, get_or-take, get_or-d
 use borrow.Rule.Slice.PartMut.{put_mid, drop_put, same_len_mid}
 use Rattle.meaning.specs.Row.{Row, width}
 use Rattle.meaning.specs.Refusal.{work_size}
-use Rattle.elimination.specs.declared.row.Settled.{Settled}
+use Rattle.std.specs.Prelude.{Option}
 use Rattle.elimination.specs.Packed.{states_of, unpacked, Packed}
 use Rattle.elimination.specs.Row.{Became}
 use Rattle.elimination.specs.Table.{part_at, Kept, Put, Placed}
@@ -140,11 +140,10 @@ pub row_changed : (n : ℕ) (w : List ℕ) (room : work_size n ≤ length w) (i 
 row_changed n w room i h a p q l = rw (back n i a p w q) (changed_with n w room i h q l)
 
 -- The same of a packed row, which stands for r.
-pub row_placed : (n : ℕ) (w : List ℕ) (room : work_size n ≤ length w) (i : ℕ) (h : i < n) (a : ℕ) (p : a ≡ i * width n) {b : Bool} {q : List ℕ} {r : Row} {taken : ℕ} {answer : Settled}
+pub row_placed : (n : ℕ) (w : List ℕ) (room : work_size n ≤ length w) (i : ℕ) (h : i < n) (a : ℕ) (p : a ≡ i * width n) {b : Bool} {q : List ℕ} {r : Row} {taken : ℕ} {answer : Option ℕ}
     → Became b n r taken q answer → Placed b n w i r taken (put_mid a (a + n + 4 - a) w q) answer
 row_placed n w room i h a p {q = q} z =
     record {
       put = rw (back n i a p w q) (put_with n w room i h q z.packed z.same);
       tested = z.tested;
-      told = z.told;
     }

@@ -1,5 +1,5 @@
 -- What the engines ask of the rows that they work on.
-use Rattle.std.specs.Prelude.{ℕ, ◌^◌, ◌≤◌, ◌<◌, ◌≡◌, Bool, true, false, List, length}
+use Rattle.std.specs.Prelude.{ℕ, ◌^◌, ◌≤◌, ◌<◌, ◌≡◌, Bool, Option, MatchOption, List, length}
 use Rattle.meaning.specs.Chain.{M}
 use Rattle.meaning.specs.Number.{sum_to}
 use Rattle.meaning.specs.Row.{Row, cell, width, total, reward, over, exact, rounding}
@@ -7,7 +7,6 @@ use Rattle.meaning.specs.Stop.{Large}
 use Rattle.elimination.specs.Packed.{end_of_part, unpacked, Below, Packed, Modest, Spread}
 use Rattle.elimination.specs.Filled.{count_to}
 use Rattle.elimination.specs.declared.row.Lowered.{Lowered}
-use Rattle.elimination.specs.declared.row.Settled.{Settled}
 
 -- Each of the first m numbers of the row is at most M.
 abbrev pub Small : ℕ → Row → Type 0
@@ -35,10 +34,9 @@ pub record Removable (b : Bool) (n s d : ℕ) (pivot y : List ℕ) : Type 0 wher
   pub spread : Spread pivot y
   pub fit : Fit b n (unpacked n pivot)
 
--- The answer says whether a settled row fits: in the bounds engine every one does.
-pub record Tested (b : Bool) (n : ℕ) (r : Row) (answer : Bool) : Type 0 where
-  pub fit : answer ≡ true → Fit b n r
-  pub large : answer ≡ false → (b ≡ exact) × Large n r
+-- Of a settled row that fits the answer is the divisor that was taken out of it; else it does not fit, which no row of the bounds engine does.
+pub record Tested (b : Bool) (n : ℕ) (r : Row) (taken : ℕ) (answer : Option ℕ) : Type 0 where
+  pub is : MatchOption answer ((b ≡ exact) × Large n r) (λ d. Fit b n r × (d ≡ taken))
 
 -- Weights, divided by 2 ^ k, have become v, and the answer is their sum and how many are above 0.
 pub record Shifted (k : ℕ) (l v : List ℕ) (answer : Lowered) : Type 0 where
@@ -47,8 +45,7 @@ pub record Shifted (k : ℕ) (l v : List ℕ) (answer : Lowered) : Type 0 where
   pub some : answer.some ≡ count_to (cell v) (length l)
 
 -- A packed part has become v, which stands for r, and the answer says whether that fits, and which divisor was taken out.
-pub record Became (b : Bool) (n : ℕ) (r : Row) (taken : ℕ) (v : List ℕ) (answer : Settled) : Type 0 where
+pub record Became (b : Bool) (n : ℕ) (r : Row) (taken : ℕ) (v : List ℕ) (answer : Option ℕ) : Type 0 where
   pub same : unpacked n v ≡ r
   pub packed : Packed n v
-  pub tested : Tested b n r answer.fits
-  pub told : answer.divisor ≡ taken
+  pub tested : Tested b n r taken answer

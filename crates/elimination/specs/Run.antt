@@ -1,5 +1,5 @@
 -- What the elimination of an input comes to.
-use Rattle.std.specs.Prelude.{◌≡◌, Bool, true, List, ℕ, ◌≤◌, ◌<◌, length, ltb}
+use Rattle.std.specs.Prelude.{◌≡◌, Bool, true, List, ℕ, ◌≤◌, ◌<◌, length, ltb, Result, Ok, Err}
 use Rattle.meaning.specs.Number.{choose}
 use Rattle.meaning.specs.Chain.{Goal, End, PathTo, LiveTo}
 use Rattle.meaning.specs.Row.{Row, cell, goal_column, unknown_column, reward, rounding}
@@ -8,12 +8,17 @@ use Rattle.meaning.specs.Steps.{StepRecord, records_along}
 use Rattle.meaning.specs.Refusal.{Lent}
 use Rattle.meaning.specs.Stop.{turn, Unfit, Stopped}
 use Rattle.elimination.specs.First.{Makeable}
-use Rattle.elimination.specs.declared.course.Course.{Course}
-use Rattle.elimination.specs.declared.course.Course.TheVariants.{Ends, Stops}
+use Rattle.chain.specs.Refusal.{number_of}
+use Rattle.chain.specs.declared.refusal.Refusal.{Refusal}
+use Rattle.elimination.specs.declared.course.Ends.{Ends}
+
+-- What is read off a row.
+abbrev pub ends : ℕ → ℕ → ℕ → ℕ → Ends
+ends goal unsure rewards outside = record { goal = goal; unknown = unsure; reward = rewards; outside = outside }
 
 -- What is read off the row z of the start s.
-abbrev pub end_of : ℕ → ℕ → Row → Course
-end_of n s z = Ends (cell z (goal_column n)) (cell z (unknown_column n)) (reward n z) (outside n s z)
+abbrev pub end_of : ℕ → ℕ → Row → Ends
+end_of n s z = ends (cell z (goal_column n)) (cell z (unknown_column n)) (reward n z) (outside n s z)
 
 -- What an elimination asks for.
 pub record Begun (b paid short : Bool) (l : Lent) (k : Sets) : Type 0 where
@@ -29,28 +34,26 @@ abbrev pub table_from : (ℕ → ℕ) → Bool → Bool → Lent → Sets → �
 table_from pay short b l k p = stage_from b l.chain k pay (unknown short l.chain) l.order p
 
 -- It runs through, and these are read off the start's row at the end.
-pub record Ended (pay : ℕ → ℕ) (short b : Bool) (l : Lent) (k : Sets) (goal unsure rewards outside : ℕ) : Type 0 where
+pub record Ended (pay : ℕ → ℕ) (short b : Bool) (l : Lent) (k : Sets) (e : Ends) : Type 0 where
   pub passed : (q : ℕ) → q ≤ l.chain.states → Unfit b l.chain.states (table_from pay short b l k q) → ⊥
-  pub read : Ends goal unsure rewards outside
-      ≡ end_of l.chain.states l.chain.start (row (table_from pay short b l k l.chain.states) l.chain.start)
+  pub read : e ≡ end_of l.chain.states l.chain.start (row (table_from pay short b l k l.chain.states) l.chain.start)
 
 -- What the figures are read off: no row is made where the start is a goal or has no path to an end; else it is live, and these are read.
-pub data Read (pay : ℕ → ℕ) (short b : Bool) (l : Lent) (goal unsure rewards outside : ℕ) : Type 0 where
-  won : Goal l.chain l.chain.start → Ends goal unsure rewards outside ≡ Ends 1 0 0 1 → Read pay short b l goal unsure rewards outside
-  lost : (PathTo l.chain.edges (End short l.chain) l.chain.start → ⊥) → Ends goal unsure rewards outside ≡ Ends 0 0 0 1
-      → Read pay short b l goal unsure rewards outside
-  live : (k : Sets) → RightTo l.chain (End short l.chain) k → LiveTo l.chain (End short l.chain) l.chain.start
-      → Ended pay short b l k goal unsure rewards outside → Read pay short b l goal unsure rewards outside
+pub data Read (pay : ℕ → ℕ) (short b : Bool) (l : Lent) (e : Ends) : Type 0 where
+  won : Goal l.chain l.chain.start → e ≡ ends 1 0 0 1 → Read pay short b l e
+  lost : (PathTo l.chain.edges (End short l.chain) l.chain.start → ⊥) → e ≡ ends 0 0 0 1 → Read pay short b l e
+  live : (k : Sets) → RightTo l.chain (End short l.chain) k → LiveTo l.chain (End short l.chain) l.chain.start → Ended pay short b l k e
+      → Read pay short b l e
 
 -- The figures can be read off, or something stops the elimination: nothing does where rows may fall short, since they are rounded there.
-abbrev pub runs : (ℕ → ℕ) → Bool → Bool → Lent → Course → Type 0
-runs pay short b l (Ends goal unsure rewards outside) = Read pay short b l goal unsure rewards outside
-runs pay short b l (Stops number place) = Stopped pay b l number place
+abbrev pub runs : (ℕ → ℕ) → Bool → Bool → Lent → Result Ends Refusal → Type 0
+runs pay short b l (Ok e) = Read pay short b l e
+runs pay short b l (Err r) = Stopped pay b l (number_of r.fault) r.place
 
 -- How many positions of the order have a finished step: none where 12 comes before the first step, at 64.
-abbrev pub finished_in : ℕ → Course → ℕ
-finished_in n (Ends goal unsure rewards outside) = n
-finished_in n (Stops number place) = choose (ltb place n) place 0
+abbrev pub finished_in : ℕ → Result Ends Refusal → ℕ
+finished_in n (Ok e) = n
+finished_in n (Err r) = choose (ltb r.place n) r.place 0
 
 -- The records of the first p positions.
 abbrev pub records_run : (ℕ → ℕ) → Bool → Bool → Lent → Sets → ℕ → List StepRecord

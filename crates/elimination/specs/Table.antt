@@ -1,14 +1,13 @@
 -- A table of packed rows in one list, part after part.
-use Rattle.std.specs.Prelude.{◌≡◌, ◌⊎◌, Bool, true, false, List, ℕ, ◌*◌, ◌≤◌, ◌<◌, length, take, drop}
+use Rattle.std.specs.Prelude.{◌≡◌, ◌⊎◌, Bool, List, ℕ, ◌*◌, ◌≤◌, ◌<◌, length, take, drop, Option, MatchOption}
 use Rattle.meaning.specs.Number.{tab_from, bit}
 use Rattle.meaning.specs.Chain.{most_states}
 use Rattle.meaning.specs.Row.{Row, cell, width, exact}
 use Rattle.meaning.specs.Refusal.{work_size}
 use Rattle.meaning.specs.Step.{Table, row}
 use Rattle.meaning.specs.Stop.{Large}
-use Rattle.elimination.specs.Packed.{targets_of, unpacked, Packed}
+use Rattle.elimination.specs.Packed.{unpacked, Packed}
 use Rattle.elimination.specs.Row.{Fit, Tested}
-use Rattle.elimination.specs.declared.row.Settled.{Settled}
 
 -- The numbers of row i of the table in w: its own part, and the row that this stands for.
 unfoldable pub part_at : ℕ → List ℕ → ℕ → List ℕ
@@ -52,29 +51,21 @@ pub record Put (n : ℕ) (w : List ℕ) (i : ℕ) (r : Row) (v : List ℕ) : Typ
   pub other : (j : ℕ) → j < n → (j ≡ i → ⊥) → part_at n v j ≡ part_at n w j
 
 -- Row i of w has become r, in v, and the answer says whether it fits, and which divisor was taken out.
-pub record Placed (b : Bool) (n : ℕ) (w : List ℕ) (i : ℕ) (r : Row) (taken : ℕ) (v : List ℕ) (answer : Settled) : Type 0 where
+pub record Placed (b : Bool) (n : ℕ) (w : List ℕ) (i : ℕ) (r : Row) (taken : ℕ) (v : List ℕ) (answer : Option ℕ) : Type 0 where
   pub put : Put n w i r v
-  pub tested : Tested b n r answer.fits
-  pub told : answer.divisor ≡ taken
+  pub tested : Tested b n r taken answer
 
 -- The removal of s changes the row of state i, which has these targets: it is that of s, or has a weight to s.
 abbrev pub ChangedBy : ℕ → ℕ → ℕ → Type 0
 ChangedBy s i targets = (i ≡ s) ⊎ (bit targets s ≡ 1)
 
--- It changes row k of the table in w.
-abbrev pub Changing : ℕ → ℕ → List ℕ → ℕ → Type 0
-Changing n s w k = ChangedBy s k (targets_of (part_at n w k))
+-- In v each row k is g k, is packed, and fits.
+pub record Rows (b : Bool) (g : ℕ → Row) (n : ℕ) (v : List ℕ) : Type 0 where
+  pub all : (k : ℕ) → k < n → row_at n v k ≡ g k
+  pub packed : (k : ℕ) → k < n → Packed n (part_at n v k)
+  pub fit : (k : ℕ) → k < n → Fit b n (g k)
 
--- It changes no row from i on and before j.
-pub record Unchanged (n s : ℕ) (w : List ℕ) (i j : ℕ) : Type 0 where
-  pub onward : i ≤ j
-  pub inside : j ≤ n
-  pub same : (k : ℕ) → i ≤ k → k < j → Changing n s w k → ⊥
-
--- In v each row k of w has become g k, is packed, and fits; or some g k does not.
-pub record Renewed (b : Bool) (g : ℕ → Row) (n : ℕ) (w v : List ℕ) (answer : Bool) : Type 0 where
+-- In v each row k of w has become g k, is packed, and fits; or there is no answer, and some g k does not.
+pub record Renewed {A : Type 0} (b : Bool) (g : ℕ → Row) (n : ℕ) (w v : List ℕ) (answer : Option A) : Type 0 where
   pub kept : Kept n w v
-  pub all : answer ≡ true → (k : ℕ) → k < n → row_at n v k ≡ g k
-  pub packed : answer ≡ true → (k : ℕ) → k < n → Packed n (part_at n v k)
-  pub fit : answer ≡ true → (k : ℕ) → k < n → Fit b n (g k)
-  pub large : answer ≡ false → (b ≡ exact) × ((k : ℕ) × ((k < n) × Large n (g k)))
+  pub is : MatchOption answer ((b ≡ exact) × ((k : ℕ) × ((k < n) × Large n (g k)))) (λ _. Rows b g n v)

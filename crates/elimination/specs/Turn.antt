@@ -1,5 +1,5 @@
 -- What is made of a table: its first rows, or the turn of one state.
-use Rattle.std.specs.Prelude.{◌≡◌, Bool, true, false, List, ℕ, ◌<◌}
+use Rattle.std.specs.Prelude.{◌≡◌, Bool, List, ℕ, ◌<◌, Option, MatchOption}
 use Rattle.meaning.specs.Step.{Table, row}
 use Rattle.meaning.specs.Stop.{Unfit}
 use Rattle.elimination.specs.Row.{Fit}
@@ -13,8 +13,7 @@ pub record Reached (b : Bool) (n : ℕ) (t : Table) (w v : List ℕ) : Type 0 wh
   pub packed : (i : ℕ) → i < n → Packed n (part_at n v i)
   pub fit : (i : ℕ) → i < n → Fit b n (row t i)
 
--- The table t is made in v and each row of it fits, or one does not.
-pub record Made (b : Bool) (n : ℕ) (t : Table) (w v : List ℕ) (answer : Bool) : Type 0 where
+-- The table t is made in v and each row of it fits; or there is no answer, and one does not.
+pub record Made {A : Type 0} (b : Bool) (n : ℕ) (t : Table) (w v : List ℕ) (answer : Option A) : Type 0 where
   pub kept : Kept n w v
-  pub reached : answer ≡ true → Reached b n t w v
-  pub unfit : answer ≡ false → Unfit b n t
+  pub is : MatchOption answer (Unfit b n t) (λ _. Reached b n t w v)

@@ -1,25 +1,21 @@
 // What an elimination comes to.
 use chain::Chain;
+use chain::refusal::Refusal;
 
-// What the start's row holds at the end, with its D; or what stops it. An expected reward that is infinite is 1 over 0.
+// What the start's row holds at the end, with its D. An expected reward that is infinite is 1 over 0.
 #[derive(Clone, Copy)]
-pub enum Course {
-    Ends {
-        goal: u64,
-        unknown: u64,
-        reward: u64,
-        outside: u64,
-    },
-    Stops {
-        number: u32,
-        place: usize,
-    },
+pub struct Ends {
+    pub goal: u64,
+    pub unknown: u64,
+    pub reward: u64,
+    pub outside: u64,
 }
 
-// The same with the steps: how many records there are, then four numbers for each record (state, rows, columns, divisor), and 0 past the last.
+// The same, or what stops it, with the steps: how many records there are, then four numbers for each record (state, rows, columns, divisor), and 0
+// past the last.
 #[derive(Clone, Copy)]
 pub struct Noted {
-    pub course: Course,
+    pub course: Result<Ends, Refusal>,
     pub numbers: [u64; Noted::NUMBERS],
 }
 

@@ -2,7 +2,7 @@
 ghost use Rattle.std.specs.Prelude.{◌≡◌};
 ghost use Rattle.elimination.specs.Engine.{rounds, is_paid, is_short};
 
-use chain::Chain;
+use chain::given::Given;
 use survey::Sets;
 
 // The chance, the expected reward, the bounds, and the bounds of what is left of a chain.
@@ -19,45 +19,28 @@ impl Engine {
     pub fn rounding(self) -> bool
         ensures { result ≡ rounds self }
     {
-        match self {
-            Engine::Chance => false,
-            Engine::Reward => false,
-            Engine::Bounds => true,
-            Engine::Left => true,
-        }
+        matches!(self, Engine::Bounds | Engine::Left)
     }
 
     // A turn earns rewards, which are lent.
     pub fn paid(self) -> bool
         ensures { result ≡ is_paid self }
     {
-        match self {
-            Engine::Chance => false,
-            Engine::Reward => true,
-            Engine::Bounds => false,
-            Engine::Left => false,
-        }
+        matches!(self, Engine::Reward)
     }
 
     // Rows may fall short.
     pub fn short(self) -> bool
         ensures { result ≡ is_short self }
     {
-        match self {
-            Engine::Chance => false,
-            Engine::Reward => false,
-            Engine::Bounds => false,
-            Engine::Left => true,
-        }
+        matches!(self, Engine::Left)
     }
 }
 
-// An elimination: its chain with its sets, and what its engine asks.
+// An elimination: its chain with its tables and its sets, and its engine.
 #[derive(Clone, Copy)]
-pub(crate) struct Elimination {
-    pub chain: Chain,
+pub(crate) struct Elimination<'a> {
+    pub given: Given<'a>,
     pub sets: Sets,
-    pub rounding: bool,
-    pub paid: bool,
-    pub short: bool,
+    pub engine: Engine,
 }

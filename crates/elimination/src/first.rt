@@ -9,8 +9,9 @@ ghost use Rattle.elimination.specs.Packed.{states_of};
 ghost use Rattle.elimination.specs.Filled.{targets_to};
 ghost use Rattle.elimination.specs.Row.{Became};
 ghost use Rattle.elimination.specs.Table.{part_at, Blank, Placed, Renewed};
-ghost use Rattle.survey.specs.Sets.{chain_of, sets_of};
+ghost use Rattle.survey.specs.Sets.{chain_in, sets_of};
 ghost use Rattle.elimination.specs.First.{Packable, PackedFrom, finished, finished_divisor, Unfinished, finished_at, Finishable, Makeable};
+ghost use Rattle.elimination.specs.Engine.{rounds, is_paid, is_short};
 ghost use Rattle.elimination.specs.Pay.{pays};
 ghost use Rattle.elimination.specs.Turn.{Made};
 
@@ -19,7 +20,7 @@ use crate::gather::{TRAP_BEHIND, UNKNOWN_BEHIND, add_missing, gather};
 use crate::merge::{some, weights};
 use crate::part::{GOAL, REWARD, TRAP, UNKNOWN, load};
 use crate::pay::earnings;
-use crate::row::{Settled, settle};
+use crate::row::settle;
 use crate::work::{clear, row_start};
 use chain::Chain;
 use chain::set::holds;
@@ -31,9 +32,7 @@ fn occupied(columns: &[u64]) -> u64
     ensures { let c = columns.now in result ≡ targets_to (cell c) (length c) }
 {
     let mut targets = 0;
-    let mut j = columns.len();
-    while 0 < j {
-        j -= 1;
+    for j in (0..columns.len()).rev() {
         targets = targets * 2 + some(columns[j]) as u64;
     }
     targets
@@ -61,20 +60,17 @@ fn pack(part: &mut [u64], earns: u64)
 }
 
 // Packs the gathered row of a live state with what it earns, and settles that. Nothing was gathered for another state.
-fn finish(part: &mut [u64], alive: bool, earns: u64, rounding: bool) -> Settled
+fn finish(part: &mut [u64], alive: bool, earns: u64, rounding: bool) -> Option<u64>
     requires { (live : ℕ) × Unfinished rounding (states_of part.old) alive live earns part.old }
     ensures { let z = part.old in
         let n = states_of z in
         Became rounding n (finished rounding n alive earns z) (finished_divisor n alive earns z) part.new result }
 {
-    if alive {
-        pack(part, earns);
-        return settle(part, rounding);
+    if !alive {
+        return Some(1);
     }
-    Settled {
-        fits: true,
-        divisor: 1,
-    }
+    pack(part, earns);
+    settle(part, rounding)
 }
 
 // Finishes row i of the table. The rest of the work table is as it was.
@@ -85,7 +81,7 @@ fn finish_row(
     live: u64,
     earns: u64,
     rounding: bool,
-) -> Settled
+) -> Option<u64>
     requires { let w = work.old in
         (work_size n ≤ length w) × (n ≤ most_states) × (i < n) × Unfinished rounding n (eqb (bit live i) 1) live earns (part_at n w i) }
     ensures { let w = work.old in
@@ -98,43 +94,32 @@ fn finish_row(
     finish(&mut work[a..e], holds(live, i), earns, rounding)
 }
 
-// Finishes each row with what its state earns, up to the first that does not fit. Answers whether all fit; no record is of a first row, so the
-// divisors end here.
-fn finish_all(work: &mut [u64], n: usize, live: u64, pay: &[u64], rounding: bool) -> bool
+// Finishes each row with what its state earns, up to the first that does not fit. No record is of a first row, so the divisors end here.
+fn finish_all(work: &mut [u64], n: usize, live: u64, pay: &[u64], rounding: bool) -> Option<()>
     requires { Finishable rounding n live pay.now work.old }
     ensures { let w = work.old in
         Renewed rounding (finished_at rounding n live pay.now w) n w work.new result }
 {
-    let mut i = 0;
-    while i < n {
-        let r = finish_row(work, i, n, live, at(pay, i), rounding);
-        if !r.fits {
-            return false;
-        }
-        i += 1;
+    for i in 0..n {
+        finish_row(work, i, n, live, at(pay, i), rounding)?;
     }
-    true
+    Some(())
 }
 
-// Makes the first rows, in a table of zeros. Answers whether all fit.
-pub(crate) fn first_rows(
-    work: &mut [u64],
-    e: Elimination,
-    denominators: &[u64],
-    edges: &[u64],
-    rewards: &[u64],
-) -> bool
-    requires { Makeable e.rounding e.paid e.short (chain_of e.chain denominators.now edges.now) (sets_of e.sets) rewards.now work.old
-        × Blank e.chain.states work.old }
-    ensures { let c = chain_of e.chain denominators.now edges.now in
-        let t = first e.rounding c (sets_of e.sets) (pays e.paid c rewards.now) (unknown e.short c) in
-        Made e.rounding c.states t work.old work.new result }
+// Makes the first rows, in a table of zeros; nothing where one does not fit.
+pub(crate) fn first_rows(work: &mut [u64], e: &Elimination, rewards: &[u64]) -> Option<()>
+    requires { let g = e.now.engine in
+        Makeable (rounds g) (is_paid g) (is_short g) (chain_in e.now.given) (sets_of e.now.sets) rewards.now work.old
+        × Blank e.now.given.chain.states work.old }
+    ensures { let g = e.now.engine in
+        let c = chain_in e.now.given in
+        let t = first (rounds g) c (sets_of e.now.sets) (pays (is_paid g) c rewards.now) (unknown (is_short g) c) in
+        Made (rounds g) c.states t work.old work.new result }
 {
-    let c = e.chain;
-    let sets = e.sets;
-    let n = c.states;
-    let pay = earnings(e.paid, n, denominators, edges, rewards);
-    gather(work, n, sets, edges);
-    add_missing(work, e, denominators, edges);
-    finish_all(work, n, sets.live, &pay, e.rounding)
+    let g = e.given;
+    let n = g.chain.states;
+    let pay = earnings(e.engine.paid(), n, g.denominators, g.edges, rewards);
+    gather(work, n, e.sets, g.edges);
+    add_missing(work, e);
+    finish_all(work, n, e.sets.live, &pay, e.engine.rounding())
 }

@@ -6,8 +6,9 @@ ghost use Rattle.meaning.specs.Chain.{most_states, M, edge_count};
 ghost use Rattle.meaning.specs.Row.{cell, width, unknown_column};
 ghost use Rattle.meaning.specs.Refusal.{work_size};
 ghost use Rattle.meaning.specs.Step.{unknown};
+ghost use Rattle.elimination.specs.Engine.{is_short};
 ghost use Rattle.elimination.specs.Table.{part_at, Blank};
-ghost use Rattle.survey.specs.Sets.{chain_of, sets_of};
+ghost use Rattle.survey.specs.Sets.{chain_in, sets_of};
 ghost use Rattle.elimination.specs.Gather.{column_of, share, lack, Changed, Added, Held, Addable, Gatherable, Completable};
 
 use crate::engine::Elimination;
@@ -66,11 +67,8 @@ pub(crate) fn gather(work: &mut [u64], n: usize, sets: Sets, edges: &[u64])
     ensures { let es = edges.now in
         Held n (λ i j. sum_to (share n (sets_of sets) es i j) (edge_count es)) work.old work.new }
 {
-    let count = edge::count(edges);
-    let mut e = 0;
-    while e < count {
+    for e in 0..edge::count(edges) {
         carry(work, n, sets, edges, e);
-        e += 1;
     }
 }
 
@@ -92,25 +90,21 @@ fn complete_all(work: &mut [u64], n: usize, live: u64, left: &[u64])
     ensures { let l = left.now in
         Added n (λ i j. lack n live i (get_or l i 0) j) work.old work.new }
 {
-    let mut i = 0;
-    while i < n {
+    for i in 0..n {
         complete(work, n, live, i, at(left, i));
-        i += 1;
     }
 }
 
 // The same where rows may fall short. Else nothing is missing, and the edges are not gone through again.
-pub(crate) fn add_missing(work: &mut [u64], e: Elimination, denominators: &[u64], edges: &[u64])
-    requires { let c = chain_of e.chain denominators.now edges.now in Completable c.states (unknown e.short c) work.old }
-    ensures { let c = chain_of e.chain denominators.now edges.now in
-        let live = e.sets.live in
-        Added c.states (λ i j. lack c.states live i (unknown e.short c i) j) work.old work.new }
+pub(crate) fn add_missing(work: &mut [u64], e: &Elimination)
+    requires { let c = chain_in e.now.given in Completable c.states (unknown (is_short e.now.engine) c) work.old }
+    ensures { let c = chain_in e.now.given in
+        Added c.states (λ i j. lack c.states e.now.sets.live i (unknown (is_short e.now.engine) c i) j) work.old work.new }
 {
-    if !e.short {
+    if !e.engine.short() {
         return;
     }
-    let c = e.chain;
-    let sets = e.sets;
-    let left = missing(denominators, edges);
-    complete_all(work, c.states, sets.live, &left);
+    let g = e.given;
+    let left = missing(g.denominators, g.edges);
+    complete_all(work, g.chain.states, e.sets.live, &left);
 }

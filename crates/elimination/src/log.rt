@@ -1,5 +1,5 @@
 // The log: what is noted of a step, for an elimination that is asked to tell.
-ghost use Rattle.std.specs.Prelude.{◌≡◌, true, List, [], ◌∷◌, ◌++◌, ℕ, ◌≤◌, ◌<◌, length, get_or};
+ghost use Rattle.std.specs.Prelude.{◌≡◌, true, List, [], ◌∷◌, ◌++◌, ℕ, ◌≤◌, ◌<◌, length, get_or, is_some};
 ghost use Rattle.meaning.specs.Number.{choose, bit, present};
 ghost use Rattle.meaning.specs.Chain.{most_states};
 ghost use Rattle.meaning.specs.Refusal.{work_size};
@@ -22,23 +22,14 @@ use chain::set::holds;
 fn counted(targets: u64, s: usize, own: bool) -> u64
     ensures { (result ≡ choose own 0 (bit targets s)) × (result ≤ 1) }
 {
-    if own {
-        return 0;
-    }
-    if holds(targets, s) {
-        return 1;
-    }
-    0
+    u64::from(!own && holds(targets, s))
 }
 
 // 1 for a weight, and 0 for none.
 fn weighed(x: u64) -> u64
     ensures { (result ≡ present x) × (result ≤ 1) }
 {
-    if x == 0 {
-        return 0;
-    }
-    1
+    u64::from(x != 0)
 }
 
 // How many rows but that of s have a weight to s: those whose targets have s.
@@ -47,11 +38,8 @@ fn rows_to(work: &[u64], n: usize, s: usize) -> u64
     ensures { result ≡ rows_to n s (table_of n work.now) }
 {
     let mut rows = 0;
-    let mut i = 0;
-    while i < n {
-        let a = row_start(n, i);
-        rows += counted(work[a], s, i == s);
-        i += 1;
+    for i in 0..n {
+        rows += counted(work[row_start(n, i)], s, i == s);
     }
     rows
 }
@@ -92,29 +80,26 @@ fn note(log: &mut [u64], state: u64, rows: u64, columns: u64, divisor: u64)
     log[k + 3] = divisor;
 }
 
-// Removes the state s from the table and, where a log is asked for, notes the step once it is finished. Answers whether each row fits.
+// Removes the state s from the table and, where a log is asked for, notes the step once it is finished; nothing where a row does not fit.
 pub(crate) fn remove_noted(
     work: &mut [u64],
     n: usize,
     s: usize,
     rounding: bool,
     log: &mut [u64],
-) -> bool
+) -> Option<()>
     requires { Fitting rounding n work.old × (s < n) × Roomy log.old }
     ensures { let w = work.old in
         let t = table_of n w in
-        Made rounding n (removed rounding n s t) w work.new result × LoggedMore true (record_of n s t) log.old log.new result }
+        Made rounding n (removed rounding n s t) w work.new result × LoggedMore true (record_of n s t) log.old log.new (is_some result) }
 {
-    if log.len() == 0 {
-        let r = remove(work, n, s, rounding);
-        return r.fits;
+    if log.is_empty() {
+        remove(work, n, s, rounding)?;
+        return Some(());
     }
     let rows = rows_to(work, n, s);
     let columns = columns_of(work, n, s);
-    let r = remove(work, n, s, rounding);
-    if !r.fits {
-        return false;
-    }
-    note(log, s as u64, rows, columns, r.divisor);
-    true
+    let divisor = remove(work, n, s, rounding)?;
+    note(log, s as u64, rows, columns, divisor);
+    Some(())
 }

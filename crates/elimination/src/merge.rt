@@ -7,16 +7,17 @@ ghost use Rattle.meaning.specs.Row.{width};
 ghost use Rattle.elimination.specs.Packed.{weights_at, Modest, Spread, Room};
 ghost use Rattle.elimination.specs.Filled.{Columns, blend, targets_to, Filled, Beside, Closed, Merged, Replaceable, Alike, Replaced, Squeezable, Squeezed};
 
+use crate::members::Members;
 use crate::part::{REWARD, WEIGHTS, end, spread, weight};
 use crate::work::clear;
 use chain::Chain;
-use chain::bits::{alone, lowest, others, place};
+use chain::bits::{alone, place};
 
 // 1 where a weight is above 0, else 0.
 pub(crate) fn some(v: u64) -> usize
     ensures { result ≡ only (ltb 0 v) 1 }
 {
-    if 0 < v { 1 } else { 0 }
+    usize::from(0 < v)
 }
 
 // The set of state j alone where its weight is above 0, else the empty one.
@@ -32,7 +33,7 @@ fn product(a: u64, b: u64) -> u64
     requires { (a ≤ M) × (b ≤ M) }
     ensures { (result ≡ a * b) × (result ≤ M * M) }
 {
-    ((a as u32) as u64) * ((b as u32) as u64)
+    u64::from(a as u32) * u64::from(b as u32)
 }
 
 // A number of a row that the row of a state is put into: x of the row, p of the state's row, w the weight to the state.
@@ -56,10 +57,8 @@ fn beside(part: &mut [u64], pivot: &[u64; Chain::WIDTH], e: usize, d: u64, w: u6
     requires { (0 < e) × (e ≤ length part.old) × (e ≤ width most_states) × (d ≤ M) × (w ≤ M) × Modest part.old × Modest pivot.now }
     ensures { Beside d w e pivot.now part.old part.new }
 {
-    let mut q = REWARD;
-    while q < e {
+    for q in REWARD..e {
         part[q] = mix(part[q], d, w, pivot[q]);
-        q += 1;
     }
 }
 
@@ -79,16 +78,13 @@ pub(crate) fn weights(
     ensures { let c = blend s d w x.now y.now in
         (result ≡ targets_to c most_states) × Filled c part.old most_states part.new }
 {
-    let mut rest = all;
     let mut targets = 0;
     let mut k = WEIGHTS;
-    while rest != 0 {
-        let j = lowest(rest);
+    for j in Members(all) {
         let v = cell(x[j], d, w, y[j], j == s);
         part[k] = v;
         k += some(v);
         targets += mark(v, j);
-        rest = others(rest);
     }
     targets
 }
@@ -121,12 +117,10 @@ fn close(part: &mut [u64], pivot: &[u64; Chain::WIDTH], a: usize, e: usize, d: u
         × ((q : ℕ) → a < q → get_or part.old q 0 ≤ M) × Modest pivot.now }
     ensures { Closed d w a e pivot.now part.old part.new }
 {
-    let mut q = a;
-    while q + 1 < e {
+    for q in a..e - 1 {
         part[q] = mix(part[q + 1], d, w, pivot[q + 1]);
-        q += 1;
     }
-    part[q] = 0;
+    part[e - 1] = 0;
 }
 
 // A packed row once s, one of its targets, is removed, where the row of s has the same targets and its D, d, is not 0: then their weights stand side
@@ -148,10 +142,7 @@ fn join(part: &mut [u64], pivot: &[u64; Chain::WIDTH], s: usize, d: u64)
 fn alike(old: u64, new: u64, d: u64) -> bool
     ensures { result ≡ true → (old ≡ new) × (0 < d) }
 {
-    if old != new {
-        return false;
-    }
-    0 < d
+    old == new && 0 < d
 }
 
 // A packed row once s, one of its targets, is removed: pivot is a copy of the row of s, y its weights by state, and d its D.

@@ -4,8 +4,9 @@ ghost use Rattle.meaning.specs.Chain.{most_states};
 ghost use Rattle.meaning.specs.Row.{width};
 ghost use Rattle.elimination.specs.Packed.{end_of_part, weight_of, Spread};
 
+use crate::members::Members;
 use chain::Chain;
-use chain::bits::{count, lowest, others, place};
+use chain::bits::{count, place};
 use chain::set::holds;
 
 // Where Reward, Goal, Trap and Unknown stand, and where the weights begin. The number of the targets stands at 0.
@@ -46,27 +47,18 @@ pub(crate) fn spread(part: &[u64]) -> [u64; Chain::WIDTH]
     ensures { Spread part.now result }
 {
     let mut wide = [0u64; Chain::WIDTH];
-    let mut rest = part[0];
-    let mut k = WEIGHTS;
-    while rest != 0 {
-        let j = lowest(rest);
-        wide[j] = part[k];
-        k += 1;
-        rest = others(rest);
+    for (k, j) in Members(part[0]).enumerate() {
+        wide[j] = part[WEIGHTS + k];
     }
     wide
 }
 
 // A copy of some numbers of the work table.
-pub(crate) fn load(part: &[u64]) -> [u64; Chain::WIDTH]
+pub fn load(part: &[u64]) -> [u64; Chain::WIDTH]
     requires { length part.now ≤ width most_states }
     ensures { (j : ℕ) → get_or result j 0 ≡ get_or part.now j 0 }
 {
     let mut p = [0u64; Chain::WIDTH];
-    let mut j = 0;
-    while j < part.len() {
-        p[j] = part[j];
-        j += 1;
-    }
+    p[..part.len()].copy_from_slice(part);
     p
 }

@@ -11,13 +11,10 @@ fn of_edges(edges: &[u64]) -> [u64; Chain::STATES]
     requires { PayingEdges edges.now }
     ensures { EdgesPaid edges.now result }
 {
-    let count = edge::count(edges);
     let mut sums = [0u64; Chain::STATES];
-    let mut e = 0;
-    while e < count {
+    for e in 0..edge::count(edges) {
         let i = edge::from(edges, e) as usize;
         sums[i] += edge::weight(edges, e) * edge::reward(edges, e);
-        e += 1;
     }
     sums
 }
@@ -29,10 +26,8 @@ fn of_states(n: usize, denominators: &[u64], edges: &[u64], rewards: &[u64]) -> 
         ((i : ℕ) → i < n → get_or result i 0 ≡ pays true c rewards.now i) }
 {
     let mut pay = of_edges(edges);
-    let mut i = 0;
-    while i < n {
-        pay[i] += at(rewards, i) * at(denominators, i);
-        i += 1;
+    for (i, sum) in pay[..n].iter_mut().enumerate() {
+        *sum += at(rewards, i) * at(denominators, i);
     }
     pay
 }

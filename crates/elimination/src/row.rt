@@ -1,22 +1,15 @@
 // One packed row: its total, how it is rounded, and what is kept of it.
-ghost use Rattle.std.specs.Prelude.{◌≡◌, true, false, ℕ, ◌^◌, ◌<◌, ◌≤◌, ltb, length};
+ghost use Rattle.std.specs.Prelude.{◌≡◌, true, false, ℕ, ◌+◌, ◌^◌, ◌<◌, ◌≤◌, ltb, length};
 ghost use Rattle.meaning.specs.Chain.{most_states, M};
-ghost use Rattle.meaning.specs.Number.{sum_to, only};
+ghost use Rattle.meaning.specs.Number.{sum_to, only, decides};
 ghost use Rattle.meaning.specs.Row.{cell, total, reward, divisor, over, up_to, shift_of, rounded, bounded, settled};
 ghost use Rattle.elimination.specs.Packed.{end_of_part, states_of, unpacked, Packed};
-ghost use Rattle.elimination.specs.Row.{Summable, Tested, Shifted, Became};
+ghost use Rattle.elimination.specs.Row.{Summable, Shifted, Became};
 
 use crate::merge::squeeze;
 use crate::part::{GOAL, REWARD, TRAP, UNKNOWN, WEIGHTS, end};
 use chain::Chain;
 use chain::divisor::reduce;
-
-// What became of a new row: whether it fits, and the divisor that was taken out of it. Of a table of rows that all fit it is the largest of these.
-#[derive(Clone, Copy)]
-pub(crate) struct Settled {
-    pub fits: bool,
-    pub divisor: u64,
-}
 
 // What the weights of a row come to once they are divided: their sum, and how many are above 0.
 #[derive(Clone, Copy)]
@@ -25,27 +18,13 @@ struct Lowered {
     some: u64,
 }
 
-// The sum of some numbers.
-fn sum(row: &[u64]) -> u64
-    requires { sum_to (cell row.now) (length row.now) < 2 ^ 63 }
-    ensures { result ≡ sum_to (cell row.now) (length row.now) }
-{
-    let mut t = 0;
-    let mut j = 0;
-    while j < row.len() {
-        t += row[j];
-        j += 1;
-    }
-    t
-}
-
 // The total of a packed row, whose numbers end at e.
 pub(crate) fn total(part: &[u64], e: usize) -> u64
     requires { Summable (states_of part.now) part.now × (e ≡ end_of_part part.now) }
     ensures { let p = part.now in
         result ≡ total (states_of p) (unpacked (states_of p) p) }
 {
-    sum(&part[GOAL..e])
+    part[GOAL..e].iter().sum()
 }
 
 // A total divided by 2 ^ k and rounded up.
@@ -56,16 +35,13 @@ fn up(t: u64, k: u64) -> u64
     (t + (1 << k) - 1) >> k
 }
 
-// A shift, no larger than the least that brings a total down to the largest: one place less leaves 32 binary digits or more.
+// A shift, no larger than the least that brings a total down to the largest, since one place less leaves 32 binary digits or more; and one place more
+// does, since it leaves 30 or less.
 fn nearly(t: u64) -> u64
     requires { t < 2 ^ 63 }
-    ensures { (result ≤ 33) × ((j : ℕ) → j < result → M < up_to t j) }
+    ensures { (result ≤ 33) × ((j : ℕ) → j < result → M < up_to t j) × (up_to t (result + 1) ≤ M) }
 {
-    let z = u64::leading_zeros(t) as u64;
-    if 33 < z {
-        return 0;
-    }
-    33 - z
+    33u64.saturating_sub(u64::from(t.leading_zeros()))
 }
 
 // The least shift that brings a total down to the largest.
@@ -73,11 +49,8 @@ fn shift(t: u64) -> u64
     requires { t < 2 ^ 63 }
     ensures { (result ≡ shift_of t) × (result ≤ 33) }
 {
-    let mut k = nearly(t);
-    while Chain::LIMIT < up(t, k) {
-        k += 1;
-    }
-    k
+    let k = nearly(t);
+    if up(t, k) <= Chain::LIMIT { k } else { k + 1 }
 }
 
 // What `some` of merge says, of a weight that fits: with no test, so that the compiler takes several at once.
@@ -95,13 +68,10 @@ fn lower_weights(weights: &mut [u64], k: u64) -> Lowered
 {
     let mut sum = 0;
     let mut some = 0;
-    let mut j = 0;
-    while j < weights.len() {
-        let x = weights[j] >> k;
-        weights[j] = x;
-        sum += x;
-        some += above(x);
-        j += 1;
+    for x in weights.iter_mut() {
+        *x >>= k;
+        sum += *x;
+        some += above(*x);
     }
     Lowered { sum, some }
 }
@@ -151,19 +121,16 @@ fn bound(part: &mut [u64], e: usize)
 fn fits(part: &[u64], e: usize) -> bool
     requires { Summable (states_of part.now) part.now × (e ≡ end_of_part part.now) }
     ensures { let p = part.now in
-        Tested false (states_of p) (unpacked (states_of p) p) result }
+        let n = states_of p in
+        let r = unpacked n p in
+        decides ((total n r ≤ M) × (reward n r ≤ M)) result }
 {
-    if Chain::LIMIT < total(part, e) {
-        return false;
-    }
-    if Chain::LIMIT < part[REWARD] {
-        return false;
-    }
-    true
+    total(part, e) <= Chain::LIMIT && part[REWARD] <= Chain::LIMIT
 }
 
-// Brings a new packed row to what is kept of it. A rounded row always fits.
-pub(crate) fn settle(part: &mut [u64], rounding: bool) -> Settled
+// Brings a new packed row to what is kept of it, and answers the divisor that was taken out of it; nothing where it does not fit. A rounded row
+// always fits.
+pub(crate) fn settle(part: &mut [u64], rounding: bool) -> Option<u64>
     requires { let n = states_of part.old in
         (n ≤ most_states) × Packed n part.old × Summable n part.old × (rounding ≡ true → reward n (unpacked n part.old) ≡ 0) }
     ensures { let p = part.old in
@@ -174,11 +141,7 @@ pub(crate) fn settle(part: &mut [u64], rounding: bool) -> Settled
     let divisor = reduce(&mut part[REWARD..e]);
     if rounding {
         bound(part, e);
-        return Settled {
-            fits: true,
-            divisor,
-        };
+        return Some(divisor);
     }
-    let fits = fits(part, e);
-    Settled { fits, divisor }
+    fits(part, e).then_some(divisor)
 }

@@ -1,35 +1,36 @@
 // The elimination, from the first rows to the start's row.
 ghost use Rattle.std.specs.Prelude.{◌≡◌, [], ◌≤◌, ◌<◌};
 ghost use Rattle.meaning.specs.Chain.{most_states};
-ghost use Rattle.chain.specs.Lent.{lent};
-ghost use Rattle.elimination.specs.Engine.{read_by};
+ghost use Rattle.chain.specs.Given.{with};
+ghost use Rattle.elimination.specs.Engine.{rounds, is_paid, is_short, read_by};
 ghost use Rattle.elimination.specs.Packed.{states_of, unpacked, Packed};
 ghost use Rattle.elimination.specs.Row.{Fit};
 ghost use Rattle.elimination.specs.Table.{row_at, Blank, Kept, Fitting};
 ghost use Rattle.survey.specs.Sets.{sets_of};
 ghost use Rattle.elimination.specs.Pay.{pays};
 ghost use Rattle.elimination.specs.Log.{Logged};
-ghost use Rattle.elimination.specs.Run.{end_of, Begun, runs, finished_in, records_run};
+ghost use Rattle.elimination.specs.Run.{ends, end_of, Begun, runs, finished_in, records_run};
 
-use crate::course::Course;
+use crate::course::Ends;
 use crate::engine::Elimination;
 use crate::first::first_rows;
 use crate::part::{GOAL, REWARD, UNKNOWN};
 use crate::step::outside;
-use crate::walk::{Walk, eliminate};
+use crate::walk::eliminate;
 use crate::work::row_start;
 use chain::Chain;
+use chain::refusal::{Fault, Refusal};
 use chain::set::holds;
 
 // The start's row at the end.
-fn last(part: &[u64], start: usize, rounding: bool) -> Course
+fn last(part: &[u64], start: usize, rounding: bool) -> Ends
     requires { let n = states_of part.now in
         (n ≤ most_states) × (start < n) × Packed n part.now × Fit rounding n (unpacked n part.now) }
     ensures { let p = part.now in
         let n = states_of p in
         result ≡ end_of n start (unpacked n p) }
 {
-    Course::Ends {
+    Ends {
         goal: part[GOAL],
         unknown: part[UNKNOWN],
         reward: part[REWARD],
@@ -38,7 +39,7 @@ fn last(part: &[u64], start: usize, rounding: bool) -> Course
 }
 
 // The same, in the work table.
-fn last_of(work: &[u64], n: usize, start: usize, rounding: bool) -> Course
+fn last_of(work: &[u64], n: usize, start: usize, rounding: bool) -> Ends
     requires { Fitting rounding n work.now × (start < n) }
     ensures { result ≡ end_of n start (row_at n work.now start) }
 {
@@ -48,10 +49,10 @@ fn last_of(work: &[u64], n: usize, start: usize, rounding: bool) -> Course
 }
 
 // What the figures are read off where no row is made: the chance is 1 or 0.
-fn no_row(goal: u64) -> Course
-    ensures { result ≡ Course.Ends goal 0 0 1 }
+fn no_row(goal: u64) -> Ends
+    ensures { result ≡ ends goal 0 0 1 }
 {
-    Course::Ends {
+    Ends {
         goal,
         unknown: 0,
         reward: 0,
@@ -62,44 +63,30 @@ fn no_row(goal: u64) -> Course
 // The elimination in a table of zeros, whose rows it leaves as they come. It is begun only where the start is live. The log, where one is asked for,
 // has the finished steps.
 pub(crate) fn run(
-    e: Elimination,
-    denominators: &[u64],
-    edges: &[u64],
+    e: &Elimination,
     order: &[u64],
     rewards: &[u64],
     work: &mut [u64],
     log: &mut [u64],
-) -> Course
-    requires { let l = lent e.chain denominators.now edges.now order.now (read_by e.paid rewards.now) work.old in
-        Begun e.rounding e.paid e.short l (sets_of e.sets) × Logged log.old [] × Blank e.chain.states work.old }
-    ensures { let r = read_by e.paid rewards.now in
-        let l = lent e.chain denominators.now edges.now order.now r work.old in
-        let pay = pays e.paid l.chain l.rewards in
-        Kept e.chain.states work.old work.new × runs pay e.short e.rounding l result
-        × Logged log.new (records_run pay e.short e.rounding l (sets_of e.sets) (finished_in e.chain.states result)) }
+) -> Result<Ends, Refusal>
+    requires { let g = e.now.engine in
+        let l = with e.now.given order.now (read_by (is_paid g) rewards.now) work.old in
+        Begun (rounds g) (is_paid g) (is_short g) l (sets_of e.now.sets) × Logged log.old [] × Blank l.chain.states work.old }
+    ensures { let g = e.now.engine in
+        let l = with e.now.given order.now (read_by (is_paid g) rewards.now) work.old in
+        let pay = pays (is_paid g) l.chain l.rewards in
+        let n = l.chain.states in
+        Kept n work.old work.new × runs pay (is_short g) (rounds g) l result
+        × Logged log.new (records_run pay (is_short g) (rounds g) l (sets_of e.now.sets) (finished_in n result)) }
 {
-    let c = e.chain;
-    let sets = e.sets;
+    let c = e.given.chain;
     if holds(c.goals, c.start) {
-        return no_row(1);
+        return Ok(no_row(1));
     }
-    if !holds(sets.good, c.start) {
-        return no_row(0);
+    if !holds(e.sets.good, c.start) {
+        return Ok(no_row(0));
     }
-    if !first_rows(work, e, denominators, edges, rewards) {
-        return Course::Stops {
-            number: 12,
-            place: Chain::STATES,
-        };
-    }
-    match eliminate(work, e, order, log) {
-        Walk::NoFit(p) => {
-            return Course::Stops {
-                number: 12,
-                place: p,
-            };
-        }
-        Walk::Done => {}
-    }
-    last_of(work, c.states, c.start, e.rounding)
+    first_rows(work, e, rewards).ok_or(Refusal::at(Fault::NoFit, Chain::STATES))?;
+    eliminate(work, e, order, log)?;
+    Ok(last_of(work, c.states, c.start, e.engine.rounding()))
 }

@@ -7,7 +7,7 @@ ghost use Rattle.meaning.specs.Refusal.{work_size};
 use chain::Chain;
 
 // Where row i of the table begins. It ends within the table.
-pub(crate) fn row_start(n: usize, i: usize) -> usize
+pub fn row_start(n: usize, i: usize) -> usize
     requires { (i < n) × (n ≤ most_states) }
     ensures { (result ≡ i * width n) × (result + width n ≤ work_size n) }
 {
@@ -18,15 +18,11 @@ pub(crate) fn row_start(n: usize, i: usize) -> usize
 pub fn clear(part: &mut [u64])
     ensures { part.new ≡ replicate (length part.old) 0 }
 {
-    let mut j = 0;
-    while j < part.len() {
-        part[j] = 0;
-        j += 1;
-    }
+    part.fill(0);
 }
 
 // Makes the table of n rows zero. The numbers past it stay.
-pub(crate) fn clear_work(work: &mut [u64], n: usize)
+pub fn clear_work(work: &mut [u64], n: usize)
     requires { (n ≤ most_states) × (work_size n ≤ length work.old) }
     ensures { work.new ≡ replicate (work_size n) 0 ++ drop (work_size n) work.old }
 {

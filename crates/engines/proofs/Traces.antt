@@ -7,7 +7,8 @@ use mathlib.Core.List.{List, [], ◌∷◌}
 use native.Mathlib.Omega.{arith}
 use lib.ListN.{length, get_or, get_or-eq_default}
 use borrow.Author.Tests.{lt-ltb, le-ltb}
-use Rattle.meaning.specs.Number.{tab_from}
+use lib.Dec.{ltb}
+use Rattle.meaning.specs.Number.{choose, tab_from}
 use Rattle.meaning.specs.Chain.{most_states}
 use Rattle.meaning.specs.Row.{exact}
 use Rattle.meaning.specs.Step.{Sets, Right, goes}
@@ -29,8 +30,9 @@ use Rattle.elimination.proofs.Rows.{apart}
 use Rattle.engines.specs.ReadOff.{chance_of}
 use Rattle.engines.specs.Trace.{count_in, record_in, records_in, Traced}
 use Rattle.engines.specs.declared.answer.Trace.{Trace}
-use Rattle.elimination.specs.declared.course.Course.{Course}
-use Rattle.elimination.specs.declared.course.Course.TheVariants.{Ends, Stops as Stopping}
+use Rattle.std.specs.Prelude.{Result, Ok, Err}
+use Rattle.chain.specs.declared.refusal.Refusal.{Refusal}
+use Rattle.elimination.specs.declared.course.Ends.{Ends}
 use Rattle.elimination.proofs.Noting.{numbers_length}
 use Rattle.engines.proofs.Outcomes.{outcome_chance}
 
@@ -64,16 +66,16 @@ module _ {log : List ℕ} {rs : List StepRecord} (h : HoldsRecords log rs) where
 
 -- The steps that are finished where 12 stops the elimination.
 finished_to : {pay : ℕ → ℕ} {l : Lent} {k : Sets} {number place : ℕ} → l.chain.states ≤ most_states → Stops pay exact l k number place
-    → FinishedTo l (refusal number place) (finished_in l.chain.states (Stopping number place))
+    → FinishedTo l (refusal number place) (choose (ltb place l.chain.states) place 0)
 finished_to {l} few (before_steps u) = rw (le-ltb most_states l.chain.states few) (none_finished refl refl)
 finished_to {l} few (in_step p h c u) = rw (lt-ltb p l.chain.states h) (finished_before refl h)
 
 -- What the trace says, by its answer and the records that the log holds.
 module _ (l : Lent) (w log : List ℕ) (size : length log ≡ log_size) where
-  abbrev trace_of : Course → Trace
+  abbrev trace_of : Result Ends Refusal → Trace
   trace_of r = record { chance = chance_of r; numbers = log }
 
-  module _ (r : Course) (z : Entered listing Chance l w log r) where
+  module _ (r : Result Ends Refusal) (z : Entered listing Chance l w log r) where
     told : (rs : List StepRecord) → HoldsRecords log rs → length rs ≤ most_states → length rs ≤ l.list
         → Listed l (told_chance (chance_of r)) [] (length rs) rs → Traced l (trace_of r) w
     told rs h few room i =
@@ -96,12 +98,12 @@ module _ (l : Lent) (w log : List ℕ) (size : length log ≡ log_size) where
         (listed formed k right p f refl (sym (filled_nothing rs)))
 
   -- The trace of an entry that has looked, and eliminated or not.
-  pub traced : (r : Course) → Entered listing Chance l w log r → Traced l (trace_of r) w
-  traced _ (Entered.refused number place z s h) =
-      told (Stopping number place) (Entered.refused number place z s h) [] (holds size h) (omega arith) (omega arith) (untouched number place z refl refl)
+  pub traced : (r : Result Ends Refusal) → Entered listing Chance l w log r → Traced l (trace_of r) w
+  traced _ (Entered.refused r z s h) =
+      told (Err r) (Entered.refused r z s h) [] (holds size h) (omega arith) (omega arith) (untouched _ _ z refl refl)
   traced _ (Entered.came formed s k right (Comes.missed e m)) = absurd (apart e)
-  traced (Ends g u e d) (Entered.came formed s k right (Comes.ran sure z h)) =
-      run_told (Ends g u e d) (Entered.came formed s k right (Comes.ran sure z h)) formed k right (through refl) h
-  traced (Stopping number place) (Entered.came formed s k right (Comes.ran sure z h)) =
-      run_told (Stopping number place) (Entered.came formed s k right (Comes.ran sure z h)) formed z.sets z.right
+  traced (Ok e) (Entered.came formed s k right (Comes.ran sure z h)) =
+      run_told (Ok e) (Entered.came formed s k right (Comes.ran sure z h)) formed k right (through refl) h
+  traced (Err r) (Entered.came formed s k right (Comes.ran sure z h)) =
+      run_told (Err r) (Entered.came formed s k right (Comes.ran sure z h)) formed z.sets z.right
       (finished_to (few_states listing l formed) z.stops) (rw (right_one right z.right) at h)

@@ -14,11 +14,11 @@ use Rattle.theory.specs.Outcomes.DemandTwo.{stopped_twelve}
 use Rattle.theory.specs.Outcomes.Steps.{steps_determined}
 use Rattle.theory.specs.Outcomes.Entries.{chance_determined, reward_determined, bounds_determined, left_determined}
 use Rattle.engines.specs.Answer.{told_chance, told_bounds, ProperChance, ProperBounds}
-use Rattle.engines.specs.declared.answer.Chance.{Chance}
-use Rattle.engines.specs.declared.answer.Chance.TheVariants as chance
+use Rattle.std.specs.Prelude.{Result, Ok, Err}
+use Rattle.chain.specs.declared.fraction.Fraction.{Fraction}
+use Rattle.chain.specs.declared.refusal.Refusal.{Refusal}
 use Rattle.engines.specs.declared.answer.Reward.{Reward}
 use Rattle.engines.specs.declared.answer.Bounds.{Bounds}
-use Rattle.engines.specs.declared.answer.Bounds.TheVariants as bounds
 use Rattle.engines.specs.declared.answer.Trace.{Trace}
 use Rattle.engines.specs.Trace.{Traced}
 use Rattle.engines.proofs.TraceOne.{numbers_one}
@@ -33,16 +33,13 @@ module _ {a b : Answer} (e : a ≡ b) where
   denominator : a.denominator ≡ b.denominator
   denominator = ap (λ (a : Answer). a.denominator) e
 
--- A fraction has a denominator above 0, and a refusal a number above 0.
-pub chance_proper : (x : Entry) (l : Lent) (r : Chance) (w : List ℕ)
+-- A fraction has a denominator above 0.
+pub chance_proper : (x : Entry) (l : Lent) (r : Result Fraction Refusal) (w : List ℕ)
     → Outcome x l refusal (Stopped (earns x l) exact l) (ChanceFigure l) (told_chance r) w → ProperChance r
-chance_proper x l (chance.Is f) w (refused n p z e s) = absurd (omega (arith, number e, refused_some z))
-chance_proper x l (chance.Is f) w (stopped n p v t e s) = absurd (omega (arith, number e, stopped_twelve t))
-chance_proper x l (chance.Is f) w (answered v t (ChanceFigure.chance p q h e) s) = omega (arith, denominator e, h.lowest.whole)
-chance_proper x l (chance.Refused k i) w (refused n p z e s) = omega (arith, number e, refused_some z)
-chance_proper x l (chance.Refused k i) w (stopped n p v t e s) = omega (arith, number e, stopped_twelve t)
-chance_proper x l (chance.Refused k i) w (answered v t (ChanceFigure.chance p q h e) s) =
-    absurd (omega (arith, denominator e, h.lowest.whole))
+chance_proper x l (Ok f) w (refused n p z e s) = absurd (omega (arith, number e, refused_some z))
+chance_proper x l (Ok f) w (stopped n p v t e s) = absurd (omega (arith, number e, stopped_twelve t))
+chance_proper x l (Ok f) w (answered v t (ChanceFigure.chance p q h e) s) = omega (arith, denominator e, h.lowest.whole)
+chance_proper x l (Err r) w o = tt
 
 module _ {a b : Numbers} (e : a ≡ b) where
   which : a.number ≡ b.number
@@ -61,31 +58,29 @@ figure_proper short l a (BoundsFigure.lost g e) = (omega (arith, lower e), omega
 figure_proper short l a (BoundsFigure.live k r v p q s t f e) =
     (omega (arith, lower e, f.0.lowest.whole), omega (arith, upper e, f.1.lowest.whole))
 
-bounds_proper : (x : Entry) (l : Lent) (r : Bounds) (w : List ℕ) → Outcome x l no_bounds BoundsStop (BoundsFigure x.short l) (told_bounds r) w → ProperBounds r
-bounds_proper x l (bounds.Between f h) w (refused n p z e s) = absurd (omega (arith, which e, refused_some z))
-bounds_proper x l (bounds.Between f h) w (stopped n p v t e s) = absurd t
-bounds_proper x l (bounds.Between f h) w (answered v t g s) = figure_proper x.short l _ g
-bounds_proper x l (bounds.Refused k i) w (refused n p z e s) = omega (arith, which e, refused_some z)
-bounds_proper x l (bounds.Refused k i) w (stopped n p v t e s) = absurd t
-bounds_proper x l (bounds.Refused k i) w (answered v t g s) = absurd (omega (arith, (figure_proper x.short l _ g).0))
+bounds_proper : (x : Entry) (l : Lent) (r : Result Bounds Refusal) (w : List ℕ) → Outcome x l no_bounds BoundsStop (BoundsFigure x.short l) (told_bounds r) w → ProperBounds r
+bounds_proper x l (Ok b) w (refused n p z e s) = absurd (omega (arith, which e, refused_some z))
+bounds_proper x l (Ok b) w (stopped n p v t e s) = absurd t
+bounds_proper x l (Ok b) w (answered v t g s) = figure_proper x.short l _ g
+bounds_proper x l (Err r) w o = tt
 
 module _ (l : Lent) (w w' : List ℕ) where
-  pub chance_unique : (r r' : Chance) → ChanceOutcome l (told_chance r) w → ChanceOutcome l (told_chance r') w' → (r ≡ r') × (w ≡ w')
+  pub chance_unique : (r r' : Result Fraction Refusal) → ChanceOutcome l (told_chance r) w → ChanceOutcome l (told_chance r') w' → (r ≡ r') × (w ≡ w')
   chance_unique r r' o o' =
       let e = chance_determined l o o' in
       (chance_told r r' (chance_proper plain l r w o) (chance_proper plain l r' w' o') e.0, e.1)
 
-  pub reward_unique : (r r' : Reward) → Rewarded l r w → Rewarded l r' w' → (r ≡ r') × (w ≡ w')
+  pub reward_unique : (r r' : Result Reward Refusal) → Rewarded l r w → Rewarded l r' w' → (r ≡ r') × (w ≡ w')
   reward_unique r r' o o' =
       let e = reward_determined l o.outcome o'.outcome in
       (reward_told r r' o.proper o'.proper e.0, e.1)
 
-  pub bounds_unique : (r r' : Bounds) → BoundsOutcome l (told_bounds r) w → BoundsOutcome l (told_bounds r') w' → (r ≡ r') × (w ≡ w')
+  pub bounds_unique : (r r' : Result Bounds Refusal) → BoundsOutcome l (told_bounds r) w → BoundsOutcome l (told_bounds r') w' → (r ≡ r') × (w ≡ w')
   bounds_unique r r' o o' =
       let e = bounds_determined l o o' in
       (bounds_told r r' (bounds_proper plain l r w o) (bounds_proper plain l r' w' o') e.0, e.1)
 
-  pub left_unique : (r r' : Bounds) → LeftOutcome l (told_bounds r) w → LeftOutcome l (told_bounds r') w' → (r ≡ r') × (w ≡ w')
+  pub left_unique : (r r' : Result Bounds Refusal) → LeftOutcome l (told_bounds r) w → LeftOutcome l (told_bounds r') w' → (r ≡ r') × (w ≡ w')
   left_unique r r' o o' =
       let e = left_determined l o o' in
       (bounds_told r r' (bounds_proper short_rows l r w o) (bounds_proper short_rows l r' w' o') e.0, e.1)

@@ -1,44 +1,48 @@
 -- What is promised of a chain and a number of steps, or a table, determines the answer, case and all.
 use Prim.Native.Nat.{ℕ}
-use mathlib.Core.Path.{◌≡◌, refl, ap, ap₂}
+use mathlib.Core.Path.{◌≡◌, refl, ap}
 use mathlib.Core.List.{List}
 use native.Mathlib.Omega.{arith}
+use Rattle.std.proofs.Common.{Result, Ok, Err}
 use Rattle.meaning.specs.Refusal.{Lent}
 use Rattle.meaning.specs.Within.{Within}
 use Rattle.meaning.specs.Judge.{JudgeOutcome}
 use Rattle.theory.specs.Rounds.Answers.{within_one}
 use Rattle.theory.specs.Judging.Verdicts.{judge_one}
-use Rattle.equations.specs.Told.{told, Proper, Withins}
-use Rattle.equations.specs.declared.Parts.{Parts}
-use Rattle.equations.specs.declared.Parts.TheVariants.{Held, Refused}
+use Rattle.chain.specs.Refusal.{number_of}
+use Rattle.chain.specs.declared.refusal.Refusal.{Refusal}
+use Rattle.chain.proofs.Faults.{above_0, one_refusal}
+use Rattle.equations.specs.Told.{told, Withins}
 use Rattle.equations.specs.Judge.{told as told_verdict}
 use Rattle.equations.specs.declared.verdict.Verdict.{Verdict}
 use Rattle.equations.specs.declared.verdict.Verdict.TheVariants as verdict
 
 -- The numbers of an answer, a refusal's above 0, determine it.
-pub told_one : (r r' : Parts) → Proper r → Proper r' → told r ≡ told r' → r ≡ r'
-told_one (Held x) (Held x') h h' e = ap (λ (x : ℕ). Held x) (ap (λ (a : Within). a.parts) e)
-told_one (Held x) (Refused n p) h h' e = absurd (omega (arith, ap (λ (a : Within). a.number) e))
-told_one (Refused n p) (Held x) h h' e = absurd (omega (arith, ap (λ (a : Within). a.number) e))
-told_one (Refused n p) (Refused n' p') h h' e =
-    ap₂ (λ (n p : ℕ). Refused n p) (ap (λ (a : Within). a.number) e) (ap (λ (a : Within). a.place) e)
+pub told_one : (r r' : Result ℕ Refusal) → told r ≡ told r' → r ≡ r'
+told_one (Ok x) (Ok x') e = ap (λ (x : ℕ). Ok x) (ap (λ (a : Within). a.parts) e)
+told_one (Ok x) (Err q) e = absurd (omega (arith, above_0 q.fault, ap (λ (a : Within). a.number) e))
+told_one (Err q) (Ok x) e = absurd (omega (arith, above_0 q.fault, ap (λ (a : Within). a.number) e))
+told_one (Err q) (Err q') e =
+    ap (λ (q : Refusal). Err q) (one_refusal q q' (ap (λ (a : Within). a.number) e) (ap (λ (a : Within). a.place) e))
 
-pub within_unique : (l : Lent) (k : ℕ) (r r' : Parts) → Withins l k r → Withins l k r' → r ≡ r'
-within_unique l k r r' w w' = told_one r r' w.proper w'.proper (within_one w.outcome w'.outcome)
+pub within_unique : (l : Lent) (k : ℕ) (r r' : Result ℕ Refusal) → Withins l k r → Withins l k r' → r ≡ r'
+within_unique l k r r' w w' = told_one r r' (within_one w w')
 
 -- Each case of a verdict is told in its own way.
-pub told_verdict_lem : (r r' : Verdict) → told_verdict r ≡ told_verdict r' → r ≡ r'
-told_verdict_lem verdict.Yes verdict.Yes e = refl
-told_verdict_lem verdict.Yes (verdict.No j) e = absurd (let z : ◌≡◌ {A = ℕ} 0 1 = cc in omega arith)
-told_verdict_lem verdict.Yes (verdict.Refused m q) e = absurd (let z : ◌≡◌ {A = ℕ} 0 1 = cc in omega arith)
-told_verdict_lem (verdict.No i) verdict.Yes e = absurd (let z : ◌≡◌ {A = ℕ} 0 1 = cc in omega arith)
-told_verdict_lem (verdict.No i) (verdict.No j) e = let z : i ≡ j = cc in ap (λ (i : ℕ). verdict.No i) z
-told_verdict_lem (verdict.No i) (verdict.Refused m q) e = absurd (let z : ◌≡◌ {A = ℕ} 0 1 = cc in omega arith)
-told_verdict_lem (verdict.Refused n p) verdict.Yes e = absurd (let z : ◌≡◌ {A = ℕ} 0 1 = cc in omega arith)
-told_verdict_lem (verdict.Refused n p) (verdict.No j) e = absurd (let z : ◌≡◌ {A = ℕ} 0 1 = cc in omega arith)
-told_verdict_lem (verdict.Refused n p) (verdict.Refused m q) e =
-    let z : n ≡ m = cc in let w : p ≡ q = cc in ap₂ (λ (n p : ℕ). verdict.Refused n p) z w
+pub told_verdict_lem : (r r' : Result Verdict Refusal) → told_verdict r ≡ told_verdict r' → r ≡ r'
+told_verdict_lem (Ok verdict.Yes) (Ok verdict.Yes) e = refl
+told_verdict_lem (Ok verdict.Yes) (Ok (verdict.No j)) e = cc
+told_verdict_lem (Ok verdict.Yes) (Err q) e = cc
+told_verdict_lem (Ok (verdict.No i)) (Ok verdict.Yes) e = cc
+told_verdict_lem (Ok (verdict.No i)) (Ok (verdict.No j)) e = cc
+told_verdict_lem (Ok (verdict.No i)) (Err q) e = cc
+told_verdict_lem (Err q) (Ok verdict.Yes) e = cc
+told_verdict_lem (Err q) (Ok (verdict.No j)) e = cc
+told_verdict_lem (Err q) (Err q') e =
+    let n : number_of q.fault ≡ number_of q'.fault = cc in
+    let p : q.place ≡ q'.place = cc in
+    ap (λ (q : Refusal). Err q) (one_refusal q q' n p)
 
-pub check_unique : {l : Lent} {d : ℕ} {table : List ℕ} (r r' : Verdict) → JudgeOutcome l d table (told_verdict r) → JudgeOutcome l d table (told_verdict r')
+pub check_unique : {l : Lent} {d : ℕ} {table : List ℕ} (r r' : Result Verdict Refusal) → JudgeOutcome l d table (told_verdict r) → JudgeOutcome l d table (told_verdict r')
     → r ≡ r'
 check_unique r r' o o' = told_verdict_lem r r' (judge_one o o')

@@ -1,11 +1,13 @@
 -- What the check of a table asks, finds and says.
-use Rattle.std.specs.Prelude.{ℕ, ◌*◌, ◌^◌, ◌≤◌, ◌<◌, ◌≡◌, ◌↔◌, Bool, true, false, List, eqb, get_or}
+use Rattle.std.specs.Prelude.{ℕ, ◌*◌, ◌^◌, ◌≤◌, ◌<◌, ◌≡◌, ◌↔◌, Bool, true, false, List, Result, Ok, Err, eqb, get_or}
 use Rattle.meaning.specs.Number.{bit}
 use Rattle.meaning.specs.Chain.{most_states, ToGoal}
 use Rattle.meaning.specs.Refusal.{Lent}
 use Rattle.meaning.specs.Judge.{Verdict as Said, right, wrong, refusal, Sent}
+use Rattle.chain.specs.Refusal.{number_of}
+use Rattle.chain.specs.declared.refusal.Refusal.{Refusal}
 use Rattle.equations.specs.declared.verdict.Verdict.{Verdict}
-use Rattle.equations.specs.declared.verdict.Verdict.TheVariants.{Yes, No, Refused}
+use Rattle.equations.specs.declared.verdict.Verdict.TheVariants.{Yes, No}
 
 -- A state's share differs from what is asked of it: the whole at a goal, else its equation where a path leads to a goal, else 0.
 abbrev pub Differs : Bool → Bool → ℕ → ℕ → ℕ → ℕ → Type 0
@@ -29,7 +31,7 @@ pub record Known (l : Lent) (table : List ℕ) (good : ℕ) : Type 0 where
   pub leads : (i : ℕ) → (bit good i ≡ 1) ↔ ToGoal l.chain i
 
 -- Document 01's numbers for each case of a verdict.
-abbrev pub told : Verdict → Said
-told Yes = right
-told (No i) = wrong i
-told (Refused number place) = refusal number place
+abbrev pub told : Result Verdict Refusal → Said
+told (Ok Yes) = right
+told (Ok (No i)) = wrong i
+told (Err r) = refusal (number_of r.fault) r.place

@@ -8,14 +8,11 @@ pub(crate) fn flows(edges: &[u64], values: &[u64]) -> [u64; Chain::STATES]
     requires { Carries edges.now values.now }
     ensures { Flows edges.now values.now result }
 {
-    let count = edge::count(edges);
     let mut sums = [0u64; Chain::STATES];
-    let mut e = 0;
-    while e < count {
+    for e in 0..edge::count(edges) {
         let i = edge::from(edges, e) as usize;
         let j = edge::to(edges, e) as usize;
         sums[i] += edge::weight(edges, e) * at(values, j);
-        e += 1;
     }
     sums
 }

@@ -1,30 +1,25 @@
 // Whether a table of shares, one for each state, is the chance at every state.
-ghost use Rattle.std.specs.Prelude.{[], ◌*◌, ◌^◌, ◌<◌};
+ghost use Rattle.std.specs.Prelude.{[], ◌*◌, ◌^◌, ◌<◌, length};
 ghost use Rattle.meaning.specs.Number.{decides};
 ghost use Rattle.meaning.specs.Judge.{NumeratorFault, JudgeOutcome};
-ghost use Rattle.chain.specs.Lent.{lent};
+ghost use Rattle.chain.specs.Given.{with};
 ghost use Rattle.look.specs.Least.{least};
 ghost use Rattle.equations.specs.Judge.{Differs, DiffersAt, Fits, Known, told};
 
 use crate::flow::flows;
 use crate::verdict::Verdict;
 use chain::Chain;
+use chain::given::Given;
+use chain::refusal::{Fault, Refusal, refuse};
 use chain::set::holds;
 use chain::table::at;
-use look::scan::{Place, out_of_range};
+use look::scan::out_of_range;
 
 // The first share above the whole.
-fn too_large(n: usize, whole: u64, shares: &[u64]) -> Place
-    ensures { least (NumeratorFault n whole shares.now) result }
+fn too_large(whole: u64, shares: &[u64]) -> Option<usize>
+    ensures { let l = shares.now in least (NumeratorFault (length l) whole l) result }
 {
-    let mut i = 0;
-    while i < n {
-        if whole < at(shares, i) {
-            return Place::At(i);
-        }
-        i += 1;
-    }
-    Place::Nowhere
+    shares.iter().position(|share| whole < *share)
 }
 
 // Whether a share is not what is asked of its state: its goal value, its zero or its equation.
@@ -33,12 +28,12 @@ fn differs(goal: bool, leads: bool, whole: u64, share: u64, denominator: u64, ca
     ensures { decides (Differs goal leads whole share denominator carried) result }
 {
     if goal {
-        return share != whole;
+        share != whole
+    } else if leads {
+        denominator * share != carried
+    } else {
+        share != 0
     }
-    if leads {
-        return denominator * share != carried;
-    }
-    share != 0
 }
 
 // The first state that is broken: every state is looked at, also those that the start cannot reach.
@@ -49,55 +44,37 @@ fn broken(
     shares: &[u64],
     denominators: &[u64],
     carried: &[u64; Chain::STATES],
-) -> Place
+) -> Option<usize>
     requires { Fits c.states shares.now denominators.now }
     ensures { let d = denominators.now in
         least (DiffersAt c.states c.goals good whole shares.now d carried.now) result }
 {
-    let n = c.states;
-    let goals = c.goals;
-    let mut state = 0;
-    while state < n {
-        let goal = holds(goals, state);
+    for state in 0..c.states {
+        let goal = holds(c.goals, state);
         let leads = holds(good, state);
         let share = at(shares, state);
         let denominator = at(denominators, state);
         if differs(goal, leads, whole, share, denominator, carried[state]) {
-            return Place::At(state);
+            return Some(state);
         }
-        state += 1;
     }
-    Place::Nowhere
+    None
 }
 
 // The verdict on a table for a well-formed chain, of which it is known which states have a path to a goal.
-pub(crate) fn table(
-    c: Chain,
-    good: u64,
-    denominators: &[u64],
-    edges: &[u64],
-    whole: u64,
-    shares: &[u64],
-) -> Verdict
-    requires { Known (lent c denominators.now edges.now [] [] []) shares.now good }
-    ensures { let l = lent c denominators.now edges.now [] [] [] in
-        JudgeOutcome l whole shares.now (told result) }
+pub(crate) fn table(g: &Given, good: u64, whole: u64, shares: &[u64]) -> Result<Verdict, Refusal>
+    requires { Known (with g.now [] [] []) shares.now good }
+    ensures { JudgeOutcome (with g.now [] [] []) whole shares.now (told result) }
 {
     if out_of_range(whole) {
-        return Verdict::Refused {
-            number: 33,
-            place: 0,
-        };
+        return Err(Refusal::from(Fault::TableDenominator));
     }
-    if let Place::At(i) = too_large(c.states, whole, shares) {
-        return Verdict::Refused {
-            number: 34,
-            place: i,
-        };
-    }
-    let carried = flows(edges, shares);
-    if let Place::At(i) = broken(c, good, whole, shares, denominators, &carried) {
-        return Verdict::No(i);
-    }
-    Verdict::Yes
+    refuse(Fault::TableNumerator, too_large(whole, shares))?;
+    let carried = flows(g.edges, shares);
+    Ok(
+        match broken(g.chain, good, whole, shares, g.denominators, &carried) {
+            Some(state) => Verdict::No(state),
+            None => Verdict::Yes,
+        },
+    )
 }

@@ -4,13 +4,12 @@
 
 ghost use Rattle.std.specs.Prelude.{[]};
 ghost use Rattle.meaning.specs.Judge.{JudgeOutcome};
-ghost use Rattle.chain.specs.Lent.{lent};
+ghost use Rattle.chain.specs.Given.{with};
 ghost use Rattle.equations.specs.Judge.{told};
 ghost use Rattle.equations.specs.Told.{Withins};
 
-use chain::Chain;
-use look::Finding;
-use survey::Survey;
+use chain::given::Given;
+use chain::refusal::{Fault, Refusal};
 
 mod flow;
 mod judge;
@@ -23,52 +22,25 @@ pub use verdict::Verdict;
 // The most steps.
 pub const STEPS: u64 = 1000;
 
-// What is answered within so many steps: how many of all parts the start holds; told gives document 01's numbers for each case.
-#[derive(Clone, Copy)]
-pub enum Parts {
-    Held(u64),
-    Refused { number: u32, place: usize },
-}
-
-// The chance of having reached a goal within so many steps, in parts: at most the true chance, and short of it by at most a part for each step.
-pub fn within(c: Chain, denominators: &[u64], edges: &[u64], steps: u64) -> Parts
-    ensures { Withins (lent c denominators.now edges.now [] [] []) steps result }
+// The chance of having reached a goal within so many steps, as how many of all parts the start holds: at most the true chance, and short of it by
+// at most a part for each step.
+pub fn within(g: &Given, steps: u64) -> Result<u64, Refusal>
+    ensures { Withins (with g.now [] [] []) steps result }
 {
     if STEPS < steps {
-        return Parts::Refused {
-            number: 32,
-            place: 0,
-        };
+        return Err(Refusal::from(Fault::Steps));
     }
-    if let Finding::Refused { number, place } = look::bare(c, denominators, edges) {
-        return Parts::Refused { number, place };
-    }
-    Parts::Held(round::rounds(c, denominators, edges, steps))
+    look::bare(g)?;
+    Ok(round::rounds(g, steps))
 }
 
 // Whether a table is the chance at every state: one denominator, and a numerator for each state.
-pub fn check(
-    c: Chain,
-    denominators: &[u64],
-    edges: &[u64],
-    denominator: u64,
-    numerators: &[u64],
-) -> Verdict
-    ensures { let l = lent c denominators.now edges.now [] [] [] in
-        JudgeOutcome l denominator numerators.now (told result) }
+pub fn check(g: &Given, denominator: u64, numerators: &[u64]) -> Result<Verdict, Refusal>
+    ensures { JudgeOutcome (with g.now [] [] []) denominator numerators.now (told result) }
 {
-    if numerators.len() != c.states {
-        return Verdict::Refused {
-            number: 1,
-            place: 0,
-        };
+    if numerators.len() != g.chain.states {
+        return Err(Refusal::from(Fault::Length));
     }
-    match survey::of(c, denominators, edges) {
-        Survey::Refused { number, place } => Verdict::Refused { number, place },
-        Survey::Found {
-            sets,
-            goals: _,
-            live: _,
-        } => judge::table(c, sets.good, denominators, edges, denominator, numerators),
-    }
+    let found = survey::of(g)?;
+    judge::table(g, found.sets.good, denominator, numerators)
 }

@@ -4,7 +4,6 @@
 
 use limit::Limit;
 use planning::{FEWEST_ROOM, Weights, fewest};
-use report::Printed;
 use std::env::Env;
 use std::io::Write;
 
@@ -49,7 +48,7 @@ fn main(rt: HostRuntime) {
     }
     remind(&rt, &mut people);
     let mut buffer = [0u8; FEWEST_ROOM];
-    if let Printed::Length(n) = fewest(weights(&rt), last(&rt), &mut buffer) {
+    if let Ok(n) = fewest(weights(&rt), last(&rt), &mut buffer) {
         output::print(
             &mut rt.stdout(),
             &mut people,

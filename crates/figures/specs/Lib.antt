@@ -1,4 +1,4 @@
 pub mod Told
 pub mod Found
 pub mod Traced
-pub mod Within
+pub mod Judged

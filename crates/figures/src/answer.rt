@@ -1,11 +1,12 @@
-// What is answered of a file, as numbers.
-ghost use Rattle.std.specs.Prelude.{◌≡◌};
+// What is answered of a file, and an answer as the plain numbers that are printed.
 ghost use Rattle.meaning.specs.Outcome.{refusal, fraction};
-ghost use Rattle.engines.specs.Answer.{told_chance, told_reward, told_bounds};
-ghost use Rattle.figures.specs.Told.{told_limits, Tells, figures, no_counts, no_answer, no_limits};
+ghost use Rattle.chain.specs.Refusal.{number_of};
+ghost use Rattle.engines.specs.Answer.{told_chance, told_reward};
+ghost use Rattle.figures.specs.Told.{Tells};
 
 use chain::fraction::Fraction;
-use engines::answer::{Bounds, Chance, Reward};
+use chain::refusal::Refusal;
+use engines::answer::{Bounds, Reward};
 
 #[derive(Clone, Copy)]
 pub struct Counts {
@@ -13,6 +14,15 @@ pub struct Counts {
     pub edges: u64,
     pub goals: u64,
     pub live: u64,
+}
+
+// All that a report tells of an accepted file, each figure with its own refusal.
+#[derive(Clone, Copy)]
+pub struct Report {
+    pub counts: Counts,
+    pub chance: Result<Fraction, Refusal>,
+    pub reward: Result<Reward, Refusal>,
+    pub bounds: Result<Bounds, Refusal>,
 }
 
 // The numbers of a chance or a reward: a refusal's number and place, or 0 and a fraction, whose denominator 0 says infinite.
@@ -24,32 +34,10 @@ pub struct Answer {
     pub denominator: u64,
 }
 
-// The numbers of two bounds: a refusal's number and place, or 0 and p over q, s over t.
-#[derive(Clone, Copy)]
-pub struct Limits {
-    pub number: u32,
-    pub place: usize,
-    pub p: u64,
-    pub q: u64,
-    pub s: u64,
-    pub t: u64,
-}
+impl From<Fraction> for Answer {
+    ghost from_gives = { λ f a. Tells a (fraction f.numerator f.denominator) };
 
-// The number and place of the file's refusal, or 0 and what was asked for, each figure with its own refusal. The rest is nought.
-#[derive(Clone, Copy)]
-pub struct Figures {
-    pub number: u32,
-    pub place: usize,
-    pub counts: Counts,
-    pub chance: Answer,
-    pub reward: Answer,
-    pub bounds: Limits,
-}
-
-impl Answer {
-    fn fraction(f: Fraction) -> Self
-        ensures { Tells result (fraction f.numerator f.denominator) }
-    {
+    fn from(f: Fraction) -> Answer {
         Answer {
             number: 0,
             place: 0,
@@ -57,110 +45,40 @@ impl Answer {
             denominator: f.denominator,
         }
     }
+}
 
-    fn refusal(number: u32, place: usize) -> Self
-        ensures { Tells result (refusal number place) }
-    {
+impl From<Refusal> for Answer {
+    ghost from_gives = { λ r a. Tells a (refusal (number_of r.fault) r.place) };
+
+    fn from(r: Refusal) -> Answer {
         Answer {
-            number,
-            place,
+            number: r.fault.number(),
+            place: r.place,
             numerator: 0,
             denominator: 0,
         }
     }
+}
 
-    pub fn of_chance(chance: Chance) -> Self
-        ensures { Tells result (told_chance chance) }
-    {
+impl From<Result<Fraction, Refusal>> for Answer {
+    ghost from_gives = { λ chance a. Tells a (told_chance chance) };
+
+    fn from(chance: Result<Fraction, Refusal>) -> Answer {
         match chance {
-            Chance::Is(f) => Answer::fraction(f),
-            Chance::Refused { number, place } => Answer::refusal(number, place),
+            Ok(f) => Answer::from(f),
+            Err(r) => Answer::from(r),
         }
     }
+}
 
-    pub(crate) fn of_reward(reward: Reward) -> Self
-        ensures { Tells result (told_reward reward) }
-    {
+impl From<Result<Reward, Refusal>> for Answer {
+    ghost from_gives = { λ reward a. Tells a (told_reward reward) };
+
+    fn from(reward: Result<Reward, Refusal>) -> Answer {
         match reward {
-            Reward::Is(f) => Answer::fraction(f),
-            Reward::Infinite => Answer::fraction(Fraction::new(1, 0)),
-            Reward::Refused { number, place } => Answer::refusal(number, place),
+            Ok(Reward::Is(f)) => Answer::from(f),
+            Ok(Reward::Infinite) => Answer::from(Fraction::new(1, 0)),
+            Err(r) => Answer::from(r),
         }
-    }
-}
-
-impl Limits {
-    pub(crate) fn of_bounds(bounds: Bounds) -> Self
-        ensures { told_limits result ≡ told_bounds bounds }
-    {
-        match bounds {
-            Bounds::Between { lower, upper } => Limits {
-                number: 0,
-                place: 0,
-                p: lower.numerator,
-                q: lower.denominator,
-                s: upper.numerator,
-                t: upper.denominator,
-            },
-            Bounds::Refused { number, place } => Limits {
-                number,
-                place,
-                p: 0,
-                q: 0,
-                s: 0,
-                t: 0,
-            },
-        }
-    }
-}
-
-impl Figures {
-    pub(crate) fn refusal(number: u32, place: usize) -> Self
-        ensures { result ≡ figures number place no_counts no_answer no_answer no_limits }
-    {
-        let counts = Counts {
-            states: 0,
-            edges: 0,
-            goals: 0,
-            live: 0,
-        };
-        let none = Answer {
-            number: 0,
-            place: 0,
-            numerator: 0,
-            denominator: 0,
-        };
-        let bounds = Limits {
-            number: 0,
-            place: 0,
-            p: 0,
-            q: 0,
-            s: 0,
-            t: 0,
-        };
-        Figures {
-            number,
-            place,
-            counts,
-            chance: none,
-            reward: none,
-            bounds,
-        }
-    }
-
-    pub(crate) fn of_chance(chance: Answer) -> Self
-        ensures { result ≡ figures 0 0 no_counts chance no_answer no_limits }
-    {
-        let mut figures = Figures::refusal(0, 0);
-        figures.chance = chance;
-        figures
-    }
-
-    pub(crate) fn of_bounds(bounds: Limits) -> Self
-        ensures { result ≡ figures 0 0 no_counts no_answer no_answer bounds }
-    {
-        let mut figures = Figures::refusal(0, 0);
-        figures.bounds = bounds;
-        figures
     }
 }

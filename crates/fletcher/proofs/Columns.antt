@@ -1,11 +1,14 @@
 -- The bytes of a whole block, summed by columns.
 use Prim.Native.Nat.{ℕ, zero, suc, ◌+◌, ◌*◌, ◌-◌, ◌%◌, ◌≤◌, ◌<◌}
-use mathlib.Core.Path.{◌≡◌, refl, ap, subst, subst₂, ◌∙◌}
-use mathlib.Core.List.{List}
+use mathlib.Core.Path.{◌≡◌, refl, sym, ap, subst, subst₂, ◌∙◌}
+use mathlib.Core.List.{List, [], ◌∷◌, ◌++◌}
 use native.Mathlib.Nat.{le_refl}
 use native.Mathlib.Numerals.{add-one}
 use native.Mathlib.Omega.{arith}
-use lib.ListN.{get_or, set, replicate, length-replicate}
+use lib.ListN.{length, get_or, set, drop, replicate, length-replicate, length-append, length-drop}
+use lib.ListN.{get_or-append}
+use lib.Seq.{get_or-drop, drop_at, drop-drop}
+use Rattle.std.specs.List.{fold, sum}
 use Rattle.meaning.specs.Number.{sum_to}
 use Rattle.meaning.specs.Block.{first_sum, second_sum, checked_bytes}
 use Rattle.theory.specs.Numbers.Sum.{sum_ext, sum_add, sum_zero, sum_next}
@@ -31,6 +34,19 @@ module _ {f : ℕ → ℕ} {most : ℕ} where
 
   pub all : {c sum : ℕ} → Totalled f most c sum → columns ≤ c → sum ≡ sum_to f columns
   all {c} g h = g.is ∙ ap (sum_to f) (omega (arith, g.upto))
+
+-- The sum of a list, number by number.
+sum_front : (x : ℕ) (l : List ℕ) (n : ℕ) → sum_to (λ c. get_or (x ∷ l) c 0) (suc n) ≡ x + sum_to (λ c. get_or l c 0) n
+unfolding sum_to
+sum_front x l zero = omega arith
+sum_front x l (suc n) = omega (arith, sum_front x l n)
+
+sum_after : (l : List ℕ) (a : ℕ) → fold (λ s x. s + x) a l ≡ a + sum_to (λ c. get_or l c 0) (length l)
+sum_after [] a = omega (arith, sum_zero (λ c. get_or {A = ℕ} [] c 0) 0 (λ j h. refl))
+sum_after (x ∷ l) a = sum_after l (a + x) ∙ omega (arith, sum_front x l (length l))
+
+pub sum_listed : (l : List ℕ) → length l ≡ columns → sum l ≡ sum_to (λ c. get_or l c 0) columns
+sum_listed l e = sum_after l 0 ∙ omega arith ∙ ap (sum_to (λ c. get_or l c 0)) e
 
 -- The first c columns have one row more, the others wait for it.
 pub record Adding (row plain₀ sums₀ : List ℕ) (c : ℕ) (plain sums : List ℕ) : Type 0 where
@@ -147,3 +163,41 @@ module _ {m s : ℕ} {f : ℕ → ℕ} where
           ap (λ z. (s + z) % m) p ∙ both.0,
           ap (λ z. z % m) (omega (arith, g.second_is)) ∙ both.1,
         )
+
+-- Between two rows of a block: those so far are summed, and the others are left.
+pub record Turn (m s : ℕ) (block left : List ℕ) (size : ℕ) (plain sums : List ℕ) : Type 0 where
+  pub r : ℕ
+  pub laid : Laid m s (λ j. get_or block j 0) r plain sums
+  pub rest : left ≡ drop (columns * r) block
+  pub wide : size ≡ columns
+
+module _ {m s : ℕ} {block : List ℕ} (whole-block : length block ≡ checked_bytes) where
+  pub first_turn : {left : List ℕ} {size : ℕ} → s < m → m < 65536 → left ≡ block → size ≡ columns
+      → Turn m s block left size (replicate columns 0) (replicate columns 0)
+  first_turn h l e w = record { r = 0; laid = none_laid h l; rest = e; wide = w }
+
+  module _ {left : List ℕ} {size : ℕ} {plain sums : List ℕ} (t : Turn m s block left size plain sums) where
+    rows_left : length left + columns * t.r ≡ checked_bytes
+    rows_left = rw t.rest (omega (arith, length-drop (columns * t.r) block, t.laid.upto))
+
+    module _ (row left' : List ℕ) (cut : left ≡ row ++ left') (full : length row ≡ size) where
+      not_last : t.r < rows
+      not_last = omega (arith, rows_left, ap length cut, length-append row left', full, t.wide)
+
+      pub turn_room : (length row ≡ columns) × Low 1020 plain × Low 5100 sums
+      turn_room = let l = room t.laid not_last in (full ∙ t.wide, l.0, l.1)
+
+      pub next_turn : {size' : ℕ} {plain' sums' : List ℕ} → size' ≡ size → RowAdded row plain sums plain' sums' → ((j : ℕ) → get_or block j 0 < 256)
+          → Turn m s block left' size' plain' sums'
+      next_turn e a bytes =
+          let at : (c : ℕ) → c < columns → get_or row c 0 ≡ get_or block (columns * t.r + c) 0 =
+          λ c h. sym (get_or-append row left' 0 c (omega (arith, full, t.wide))) ∙ ap (λ z. get_or z c 0) (sym cut ∙ t.rest) ∙ get_or-drop (columns * t.r) block c 0 in
+          record {
+            r = t.r + 1;
+            laid = more_laid t.laid not_last a at bytes;
+            rest = sym (drop_at row left' size full) ∙ ap (drop size) (sym cut ∙ t.rest) ∙ drop-drop size (columns * t.r) block ∙ ap (λ z. drop z block) (omega (arith, t.wide));
+            wide = e ∙ t.wide;
+          }
+
+    pub last_turn : length left < size → rows ≤ t.r
+    last_turn h = omega (arith, rows_left, t.wide)

@@ -8,14 +8,13 @@ use Rattle.input.specs.Kept.{SoFar, fitting, pasted, fresh, taken, all_taken}
 use Rattle.input.specs.Reads.{so_far, Steps}
 use Rattle.input.specs.Gives.{GavePart, GaveNone, GivesPart, GaveAll, GaveSome}
 use Rattle.input.specs.declared.Input.{Input}
-use Rattle.input.specs.declared.Step.{Step}
-use Rattle.input.specs.declared.Step.TheVariants.{Took, Ended, Broke}
+use Rattle.std.specs.Prelude.{Some, None, Result, Ok, Err}
 use Rattle.input.proofs.Joined.{joined, all_joined, taken_two}
 
 -- What was kept of one part that the reader gave.
 pub gives : {old new : Option (List ℕ)} {buffer after : List ℕ} {r n : ℕ} (came : Input) (part : List ℕ) → r ≡ fitting buffer came.length part
     → after ≡ pasted buffer came.length part r → length part ≡ n → 0 < n → Consumes old new part
-    → GivesPart old new (so_far buffer came) after (Took (record { length = came.length + r; more = came.more + (n - r) }))
+    → GivesPart old new (so_far buffer came) after (Ok (Some (record { length = came.length + r; more = came.more + (n - r) })))
 gives {old} {new} {buffer} {after} {r} {n} came part e b l some given =
     record { step = record { part = part; some = omega arith; given = given; is = rw (b, ← l, e) refl } }
 
@@ -36,9 +35,9 @@ giving_none a before =
       spent = omega arith;
     }
 
-module _ {a b c : Option (List ℕ)} {before mid after : List ℕ} {came : Input} {reads : ℕ} (g : Giving a b before mid came reads) {r : Step}
+module _ {a b c : Option (List ℕ)} {before mid after : List ℕ} {came : Input} {reads : ℕ} (g : Giving a b before mid came reads) {r : Result (Option Input) Error}
     (h : Steps (so_far mid came) after r) (k : GivesPart b c (so_far mid came) after r) where
-  pub giving_more : {next : Input} → r ≡ Took next → 0 < reads → Giving a c before after next (reads - 1)
+  pub giving_more : {next : Input} {left : ℕ} → r ≡ Ok (Some next) → left + 1 ≡ reads → Giving a c before after next left
   giving_more {next} e l =
       let p : GavePart b c (so_far mid came) after next = rw e at k.step in
       record {
@@ -48,13 +47,13 @@ module _ {a b c : Option (List ℕ)} {before mid after : List ℕ} {came : Input
         spent = omega (arith, g.spent, p.some, length-append g.bytes p.part);
       }
 
-  pub giving_ended : r ≡ Ended → GaveAll a c before after came
+  pub giving_ended : r ≡ Ok None → GaveAll a c before after came
   giving_ended e =
       let o : after ≡ mid = rw e at h.step in
       let n : GaveNone b c = rw e at k.step in
       record { bytes = g.bytes; given = Consumes-kept a b c g.bytes g.given n.given; is = rw o g.is; end = λ _. n.end }
 
-  pub giving_broke : {why : Error} → r ≡ Broke why → GaveSome a c before after
+  pub giving_broke : {why : Error} → r ≡ Err why → GaveSome a c before after
   giving_broke e =
       let o : after ≡ mid = rw e at h.step in
       let n : Keeps b c = rw e at k.step in

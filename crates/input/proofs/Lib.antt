@@ -1,4 +1,3 @@
-pub mod Keeping
 pub mod Taking
 pub mod Joined
 pub mod Giving

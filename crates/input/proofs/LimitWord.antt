@@ -1,8 +1,8 @@
 -- A limit's word is read run by run, and its places are those of its spelling.
-use Prim.Native.Nat.{ℕ, zero, suc, ◌+◌, ◌-◌, ◌*◌, ◌≤◌, ◌<◌}
+use Prim.Native.Nat.{ℕ, suc, ◌+◌, ◌-◌, ◌*◌, ◌≤◌, ◌<◌}
 use mathlib.Core.Path.{◌≡◌, refl, sym, ap, ap₂, subst, ◌∙◌}
 use mathlib.Core.Logic.{◌⊎◌, inl, inr, ⊎_elim}
-use mathlib.Core.List.{List, [], ◌∷◌}
+use mathlib.Core.List.{List}
 use native.Mathlib.Omega.{arith}
 use native.Mathlib.Nat.{eq-or-lt_of_le}
 use lib.ListN.{length, get_or}
@@ -13,9 +13,11 @@ use Rattle.theory.specs.Outcomes.Determined.{meet}
 use Rattle.theory.specs.Limits.Word.{end_letter, past_mark, past_point, limit_word_one}
 use Rattle.limit.specs.Told.{told}
 use Rattle.limit.specs.declared.Limit as code
-use Rattle.input.specs.Digit.{Digit, stands, none}
+use Rattle.std.specs.Prelude.{Some, None}
+use Rattle.input.specs.Digit.{Digit}
 use Rattle.input.specs.Run.{Runs, past, Capped, is, ReadRun, Middle, TensOf}
 use Rattle.input.specs.declared.limit_word.Run.{Run}
+use Rattle.input.proofs.ReadWord.{no_digit, digit_is, digit_small}
 use Rattle.input.proofs.Capped.{capped_self, capped_few, capped_small, capped_known}
 
 -- The run from a place on is read up to another.
@@ -51,82 +53,35 @@ module _ {word : List ℕ} {begin x end number : ℕ} (r : RunTo word begin x en
   run_few h = capped_few (r.value x (capped_self x h))
 
   -- The end of the word.
-  pub run_all : length word ≤ end → ReadRun word begin x (record { number = number; end = end })
-  run_all h =
-      record {
+  pub run_all : end ≡ length word → ReadRun word begin x (record { number = number; end = length word })
+  run_all e =
+      rw (← e)
+      (record {
         runs = record { forward = r.forward; inside = r.inside; each = r.each; stop = λ l. absurd (omega arith) };
+        value = r.value;
+      })
+
+  -- A byte that is no digit.
+  pub run_stop : Digit (get_or word end 0) None → ReadRun word begin x (record { number = number; end = end })
+  run_stop g =
+      record {
+        runs = record { forward = r.forward; inside = r.inside; each = r.each; stop = λ l. no_digit g };
         value = r.value;
       }
 
-  module _ {d : ℕ} (within : end < length word) (g : Digit (get_or word end 0) d) where
-    -- A byte that is no digit.
-    pub run_stop : d ≡ 10 → ReadRun word begin x (record { number = number; end = end })
-    run_stop e =
+  module _ {d : ℕ} (within : end < length word) (g : Digit (get_or word end 0) (Some d)) where
+    pub run_small : d ≤ 9
+    run_small = digit_small g
+
+    pub run_more : {next : ℕ} → ((z : ℕ) → Capped number z → Capped next (z * 10 + d)) → RunTo word begin x (end + 1) next
+    run_more push =
         record {
-          runs = record { forward = r.forward; inside = r.inside; each = r.each; stop = λ l z. go z g };
-          value = r.value;
+          forward = omega (arith, r.forward);
+          inside = omega arith;
+          each = λ i l h.
+              ⊎_elim (λ (e : i ≡ end). rw e (digit_is g).0) (λ (k : i < end). r.each i l k) (eq-or-lt_of_le {n = i} {m = end} (omega arith));
+          value = λ z c. rw (read_next word begin z end r.forward, ← (digit_is g).1) (push (read_on word begin z (end - begin)) (r.value z c));
         }
-      where
-        go : IsDigit (get_or word end 0) → Digit (get_or word end 0) d → ⊥
-        go z (stands h v) = omega (arith, h.0, h.1)
-        go z (none h v) = h z
-
-    module _ (one : d ≡ 10 → ⊥) where
-      digit_is : IsDigit (get_or word end 0) × (d ≡ get_or word end 0 - 48)
-      digit_is = go g
-        where
-          go : Digit (get_or word end 0) d → IsDigit (get_or word end 0) × (d ≡ get_or word end 0 - 48)
-          go (stands h v) = (h, v)
-          go (none h v) = absurd (one v)
-
-      pub run_small : d ≤ 9
-      run_small = let h = digit_is.0 in let e = digit_is.1 in omega (arith, h.1)
-
-      pub run_more : {next : ℕ} → ((z : ℕ) → Capped number z → Capped next (z * 10 + d)) → RunTo word begin x (end + 1) next
-      run_more push =
-          record {
-            forward = omega (arith, r.forward);
-            inside = omega arith;
-            each = λ i l h.
-                ⊎_elim (λ (e : i ≡ end). rw e digit_is.0) (λ (k : i < end). r.each i l k) (eq-or-lt_of_le {n = i} {m = end} (omega arith));
-            value = λ z c. rw (read_next word begin z end r.forward, ← digit_is.1) (push (read_on word begin z (end - begin)) (r.value z c));
-          }
-
--- Past the end of a word stands 0.
-past_end : (word : List ℕ) (i : ℕ) → length word ≤ i → get_or word i 0 ≡ 0
-past_end [] i h = refl
-past_end (b ∷ word) zero h = absurd (omega arith)
-past_end (b ∷ word) (suc i) h = past_end word i (omega arith)
-
--- The word ends where a point could stand.
-pub no_point : (word : List ℕ) (i : ℕ) → length word ≤ i → Stands word i (bytes_of ".") → ⊥
-no_point word i h s = let p : get_or word i 0 ≡ 46 = s in omega (arith, past_end word i h)
-
--- What is wrong from the mark on.
-module _ {word : List ℕ} {mark t : ℕ} (some : length word ≡ mark → ⊥) (e : t ≡ past) where
-  pub tens_few : length word < mark + 3 → TensOf word mark t
-  tens_few l = TensOf.wrong some (λ h. omega (arith, h.1.1.0.some)) e
-
-  pub tens_many : mark + 5 < length word → TensOf word mark t
-  tens_many l = TensOf.wrong some (λ h. omega (arith, h.1.1.1)) e
-
-  pub tens_letter : (get_or word mark 0 ≡ 101 → ⊥) → TensOf word mark t
-  tens_letter n = TensOf.wrong some (λ h. n h.0) e
-
-  pub tens_minus : (get_or word (mark + 1) 0 ≡ 45 → ⊥) → TensOf word mark t
-  tens_minus n = TensOf.wrong some (λ h. n h.1.0) e
-
-  pub tens_stop : {r : Run} {x : ℕ} → ReadRun word (mark + 2) x r → r.end < length word → TensOf word mark t
-  tens_stop {r} d l = TensOf.wrong some (λ h. d.runs.stop l (h.1.1.0.each r.end d.runs.forward l)) e
-
--- What is right there.
-pub tens_said : {word : List ℕ} {mark : ℕ} {r : Run} → mark + 2 < length word → length word ≤ mark + 5 → get_or word mark 0 ≡ 101
-    → get_or word (mark + 1) 0 ≡ 45 → ReadRun word (mark + 2) 0 r → length word ≤ r.end → TensOf word mark r.number
-tens_said {word} {mark} {r} some few letter minus d l =
-    let e : r.end ≡ length word = omega (arith, d.runs.inside) in
-    TensOf.said
-    (letter, (minus, (record { some = some; inside = omega arith; each = λ i h k. d.runs.each i h (omega arith) }, few)))
-    (subst (λ (k : ℕ). Capped r.number (read_on word (mark + 2) 0 (k - (mark + 2)))) e (d.value 0 (capped_self 0 (omega arith))))
 
 -- A run ends where the spelling's digits end: no digit stands there.
 run_ends : {word : List ℕ} {begin end e : ℕ} → Runs word begin end → DigitsIn word begin e → (e < length word → IsDigit (get_or word e 0) → ⊥) → end ≡ e

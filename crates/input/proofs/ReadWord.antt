@@ -7,6 +7,7 @@ use native.Mathlib.Omega.{arith}
 use native.Mathlib.Nat.{eq-or-lt_of_le, zero-add}
 use native.Mathlib.Numerals.{add-one}
 use lib.ListN.{length, get_or}
+use Rattle.std.specs.Prelude.{Some, None}
 use Rattle.meaning.specs.Text.{read_on, value_to, most_digits, past_numbers, Decimal, WordOutcome, number, nothing}
 use Rattle.input.specs.Digit.{Digit, stands, none}
 use Rattle.meaning.specs.Text.{IsDigit}
@@ -31,38 +32,35 @@ value_rises word i (suc n) h =
     (λ (l : i < suc n). omega (arith, value_rises word i n (omega arith)))
     (eq-or-lt_of_le {n = i} {m = suc n} h)
 
-module _ {word : List ℕ} {i x d : ℕ} (r : ReadTo word i x) (within : i < length word) (g : Digit (get_or word i 0) d) where
-  -- A byte that is no digit.
-  pub read_stuck : d ≡ 10 → Decimal word → ⊥
-  read_stuck e z = go g
-    where
-      go : Digit (get_or word i 0) d → ⊥
-      go (stands h v) = omega (arith, h.0, h.1)
-      go (none h v) = h (z.digits i within)
+-- A byte that is no digit.
+pub no_digit : {b : ℕ} → Digit b None → IsDigit b → ⊥
+no_digit (stands h v) d = cc
+no_digit (none h v) d = h d
 
-  module _ (one : d ≡ 10 → ⊥) where
-    is : IsDigit (get_or word i 0) × (d ≡ get_or word i 0 - 48)
-    is = go g
-      where
-        go : Digit (get_or word i 0) d → IsDigit (get_or word i 0) × (d ≡ get_or word i 0 - 48)
-        go (stands h v) = (h, v)
-        go (none h v) = absurd (one v)
+pub digit_is : {b d : ℕ} → Digit b (Some d) → IsDigit b × (d ≡ b - 48)
+digit_is (stands h v) = (h, cc)
+digit_is (none h v) = absurd cc
 
-    pub digit_small : d ≤ 9
-    digit_small = let h = is.0 in let e = is.1 in omega (arith, h.1)
+pub digit_small : {b d : ℕ} → Digit b (Some d) → d ≤ 9
+digit_small g = let h = (digit_is g).0 in let e = (digit_is g).1 in omega (arith, h.1)
 
+module _ {word : List ℕ} {i x : ℕ} (r : ReadTo word i x) (within : i < length word) where
+  pub read_stuck : Digit (get_or word i 0) None → Decimal word → ⊥
+  read_stuck g z = no_digit g (z.digits i within)
+
+  module _ {d : ℕ} (g : Digit (get_or word i 0) (Some d)) where
     value_next : x * 10 + d ≡ value_to word (i + 1)
     unfolding read_on
-    value_next = rw (add-one, zero-add i) (let e = is.1 in omega (arith, r.value))
+    value_next = rw (add-one, zero-add i) (let e = (digit_is g).1 in omega (arith, r.value))
 
-    pub read_more : x * 10 + d < past_numbers → ReadTo word (i + 1) (x * 10 + d)
-    read_more h =
+    pub read_more : {next : ℕ} → next ≡ x * 10 + d → next < past_numbers → ReadTo word (i + 1) next
+    read_more e h =
         record {
           inside = omega arith;
-          value = value_next;
+          value = e ∙ value_next;
           small = h;
           digits = λ q h.
-              ⊎_elim (λ (e : q ≡ i). rw e is.0) (λ (l : q < i). r.digits q l) (eq-or-lt_of_le {n = q} {m = i} (omega arith));
+              ⊎_elim (λ (e : q ≡ i). rw e (digit_is g).0) (λ (l : q < i). r.digits q l) (eq-or-lt_of_le {n = q} {m = i} (omega arith));
         }
 
     -- A number that outgrows 64 bits.

@@ -10,14 +10,11 @@ use Rattle.input.specs.Kept.{SoFar, fitting, pasted, fresh, taken, all_taken}
 use Rattle.input.specs.Reads.{so_far, Steps, TookPart, CameAs, LeftAs, Reads}
 use Rattle.std.specs.declared.io.Error.{Error}
 use Rattle.input.specs.declared.Input.{Input}
-use Rattle.input.specs.declared.Reading.{Reading}
-use Rattle.input.specs.declared.Reading.TheVariants.{Came, Failed}
-use Rattle.input.specs.declared.Step.{Step}
-use Rattle.input.specs.declared.Step.TheVariants.{Took, Ended, Broke}
+use Rattle.std.specs.Prelude.{Option, Some, None, Result, Ok, Err}
 
 -- What was kept of one part, and counted.
 pub takes : {buffer after : List ℕ} {r n : ℕ} (came : Input) (part : List ℕ) → r ≡ fitting buffer came.length part → after ≡ pasted buffer came.length part r
-    → length part ≡ n → 0 < n → n ≤ 65536 → Steps (so_far buffer came) after (Took (record { length = came.length + r; more = came.more + (n - r) }))
+    → length part ≡ n → 0 < n → n ≤ 65536 → Steps (so_far buffer came) after (Ok (Some (record { length = came.length + r; more = came.more + (n - r) })))
 takes {buffer} {after} {r} {n} came part e b l some few =
     record { step = record { part = part; some = omega arith; few = omega arith; is = rw (b, ← l, e) refl } }
 
@@ -52,10 +49,10 @@ unfolding all_taken
 nothing before = record { parts = []; is = refl }
 
 -- A file that is missing is empty, and of one that was not opened nothing came either.
-pub missing : {before : List ℕ} → Reads before before (Came (record { length = 0; more = 0 }))
+pub missing : {before : List ℕ} → Reads before before (Ok (record { length = 0; more = 0 }))
 missing {before} = record { reading = nothing before }
 
-pub unopened : {before : List ℕ} (why : Error) → Reads before before (Failed why)
+pub unopened : {before : List ℕ} (why : Error) → Reads before before (Err why)
 unfolding all_taken
 unopened why = record { reading = record { parts = []; is = refl } }
 
@@ -95,20 +92,20 @@ pub record Going (before after : List ℕ) (came : Input) (reads : ℕ) : Type 0
 pub going_none : (before : List ℕ) → Going before before (record { length = 0; more = 0 }) 140737488355328
 going_none before = record { small = omega arith; same = refl; within = omega arith; parts = nothing before }
 
-module _ {before mid after : List ℕ} {came : Input} {reads : ℕ} (g : Going before mid came reads) {r : Step} (h : Steps (so_far mid came) after r) where
-  pub going_more : {next : Input} → r ≡ Took next → 0 < reads → Going before after next (reads - 1)
+module _ {before mid after : List ℕ} {came : Input} {reads : ℕ} (g : Going before mid came reads) {r : Result (Option Input) Error} (h : Steps (so_far mid came) after r) where
+  pub going_more : {next : Input} {left : ℕ} → r ≡ Ok (Some next) → left + 1 ≡ reads → Going before after next left
   going_more {next} e l =
       let b : TookPart (so_far mid came) after next = rw e at h.step in
       let f = further g.parts b in
       let m : next.more ≡ came.more + (length b.part - fitting mid came.length b.part) = ap (λ (s : SoFar). s.more) b.is in
       record { small = omega (arith, m, b.few, g.small); same = same f; within = inside f; parts = f }
 
-  pub going_ended : r ≡ Ended → Reads before after (Came came)
+  pub going_ended : r ≡ Ok None → Reads before after (Ok came)
   going_ended e = let b : after ≡ mid = rw e at h.step in record { reading = ended g.parts b }
 
-  pub going_broke : {why : Error} → r ≡ Broke why → Reads before after (Failed why)
-  going_broke e = let b : after ≡ mid = rw e at h.step in record { reading = left g.parts b }
+  pub going_broke : {why e : Error} → r ≡ Err why → Reads before after (Err e)
+  going_broke q = let b : after ≡ mid = rw q at h.step in record { reading = left g.parts b }
 
 -- What is kept is within the buffer, so that its part of the buffer can be lent on.
-pub came_within : {before after : List ℕ} {i : Input} (r : Reading) → Reads before after r → r ≡ Came i → i.length ≤ length after
+pub came_within : {before after : List ℕ} {i : Input} (r : Result Input Error) → Reads before after r → r ≡ Ok i → i.length ≤ length after
 came_within {before} {after} {i} r h e = let a : CameAs before after i = rw e at h.reading in inside a

@@ -1,15 +1,12 @@
 -- What is said of reading where the bytes that a reader has are known, as those of a slice are: they are kept as one part, whatever parts they
 -- come in.
-use Rattle.std.specs.Prelude.{ℕ, ◌^◌, ◌<◌, ◌≡◌, List, length}
+use Rattle.std.specs.Prelude.{ℕ, ◌^◌, ◌<◌, ◌≡◌, List, length, Some, None, Result, Ok, Err}
 use Rattle.std.specs.Io.KnownBytes.{Keeps, Consumes, IsAtEnd}
 use Rattle.std.specs.declared.option.Option.{Option}
+use Rattle.std.specs.declared.io.Error.{Error}
 use Rattle.input.specs.Kept.{SoFar, fresh, taken}
 use Rattle.input.specs.Reads.{so_far}
 use Rattle.input.specs.declared.Input.{Input}
-use Rattle.input.specs.declared.Reading.{Reading}
-use Rattle.input.specs.declared.Reading.TheVariants.{Came, Failed}
-use Rattle.input.specs.declared.Step.{Step}
-use Rattle.input.specs.declared.Step.TheVariants.{Took, Ended, Broke}
 
 -- The reader gave a part, and it was taken.
 pub record GavePart (old new : Option (List ℕ)) (s : SoFar) (after : List ℕ) (next : Input) : Type 0 where
@@ -24,12 +21,12 @@ pub record GaveNone (old new : Option (List ℕ)) : Type 0 where
   pub end : IsAtEnd new
 
 -- What one read gives. A failure takes nothing from the reader.
-abbrev pub PartOf : Option (List ℕ) → Option (List ℕ) → SoFar → List ℕ → Step → Type 0
-PartOf old new s after (Took next) = GavePart old new s after next
-PartOf old new s after Ended = GaveNone old new
-PartOf old new s after (Broke _) = Keeps old new
+abbrev pub PartOf : Option (List ℕ) → Option (List ℕ) → SoFar → List ℕ → Result (Option Input) Error → Type 0
+PartOf old new s after (Ok (Some next)) = GavePart old new s after next
+PartOf old new s after (Ok None) = GaveNone old new
+PartOf old new s after (Err _) = Keeps old new
 
-pub record GivesPart (old new : Option (List ℕ)) (s : SoFar) (after : List ℕ) (r : Step) : Type 0 where
+pub record GivesPart (old new : Option (List ℕ)) (s : SoFar) (after : List ℕ) (r : Result (Option Input) Error) : Type 0 where
   pub step : PartOf old new s after r
 
 -- What the reader gave is what came. With fewer bytes than there are reads, it gave all that it had.
@@ -45,9 +42,9 @@ pub record GaveSome (old new : Option (List ℕ)) (before after : List ℕ) : Ty
   pub given : Consumes old new bytes
   pub is : after ≡ (taken (fresh before) bytes).buffer
 
-abbrev pub GivenOf : Option (List ℕ) → Option (List ℕ) → List ℕ → List ℕ → Reading → Type 0
-GivenOf old new before after (Came i) = GaveAll old new before after i
-GivenOf old new before after (Failed _) = GaveSome old new before after
+abbrev pub GivenOf : Option (List ℕ) → Option (List ℕ) → List ℕ → List ℕ → Result Input Error → Type 0
+GivenOf old new before after (Ok i) = GaveAll old new before after i
+GivenOf old new before after (Err _) = GaveSome old new before after
 
-pub record Gives (old new : Option (List ℕ)) (before after : List ℕ) (r : Reading) : Type 0 where
+pub record Gives (old new : Option (List ℕ)) (before after : List ℕ) (r : Result Input Error) : Type 0 where
   pub reading : GivenOf old new before after r

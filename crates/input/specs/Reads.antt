@@ -1,11 +1,8 @@
 -- What is said of reading. Which bytes the operating system hands over nobody promises: so it is said for some parts.
-use Rattle.std.specs.Prelude.{ℕ, ◌≤◌, ◌<◌, ◌≡◌, List, length}
+use Rattle.std.specs.Prelude.{ℕ, ◌≤◌, ◌<◌, ◌≡◌, List, length, Option, Some, None, Result, Ok, Err}
+use Rattle.std.specs.declared.io.Error.{Error}
 use Rattle.input.specs.Kept.{SoFar, fresh, taken, all_taken}
 use Rattle.input.specs.declared.Input.{Input}
-use Rattle.input.specs.declared.Reading.{Reading}
-use Rattle.input.specs.declared.Reading.TheVariants.{Came, Failed}
-use Rattle.input.specs.declared.Step.{Step}
-use Rattle.input.specs.declared.Step.TheVariants.{Took, Ended, Broke}
 
 -- A buffer, with what the code says of it.
 abbrev pub so_far : List ℕ → Input → SoFar
@@ -19,12 +16,12 @@ pub record TookPart (s : SoFar) (after : List ℕ) (next : Input) : Type 0 where
   pub is : so_far after next ≡ taken s part
 
 -- What one read comes to: the end of the input and a failure leave the buffer.
-abbrev pub StepOf : SoFar → List ℕ → Step → Type 0
-StepOf s after (Took next) = TookPart s after next
-StepOf s after Ended = after ≡ s.buffer
-StepOf s after (Broke _) = after ≡ s.buffer
+abbrev pub StepOf : SoFar → List ℕ → Result (Option Input) Error → Type 0
+StepOf s after (Ok (Some next)) = TookPart s after next
+StepOf s after (Ok None) = after ≡ s.buffer
+StepOf s after (Err _) = after ≡ s.buffer
 
-pub record Steps (s : SoFar) (after : List ℕ) (r : Step) : Type 0 where
+pub record Steps (s : SoFar) (after : List ℕ) (r : Result (Option Input) Error) : Type 0 where
   pub step : StepOf s after r
 
 -- All parts that came, one after the other, from a buffer in which nothing had come.
@@ -37,9 +34,9 @@ pub record LeftAs (before after : List ℕ) : Type 0 where
   pub parts : List (List ℕ)
   pub is : after ≡ (all_taken (fresh before) parts).buffer
 
-abbrev pub ReadingOf : List ℕ → List ℕ → Reading → Type 0
-ReadingOf before after (Came i) = CameAs before after i
-ReadingOf before after (Failed _) = LeftAs before after
+abbrev pub ReadingOf : List ℕ → List ℕ → Result Input Error → Type 0
+ReadingOf before after (Ok i) = CameAs before after i
+ReadingOf before after (Err _) = LeftAs before after
 
-pub record Reads (before after : List ℕ) (r : Reading) : Type 0 where
+pub record Reads (before after : List ℕ) (r : Result Input Error) : Type 0 where
   pub reading : ReadingOf before after r

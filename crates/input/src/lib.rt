@@ -29,108 +29,70 @@ pub struct Input {
     pub more: u64,
 }
 
-// All that came, or that a read failed, and why.
-#[derive(Clone, Copy)]
-pub enum Reading {
-    Came(Input),
-    Failed(Error),
-}
-
-// What one read comes to.
-#[derive(Clone, Copy)]
-enum Step {
-    Took(Input),
-    Ended,
-    Broke(Error),
-}
-
 // Keeps as many bytes of a part as there is room for from `at` on, and answers how many.
 fn keep(kept: &mut [u8], at: usize, part: &[u8]) -> usize
     requires { at ≤ length kept.old }
     ensures read { result ≡ fitting kept.old at part.now }
     ensures kept_after { kept.new ≡ pasted kept.old at part.now result }
 {
-    let mut i = 0;
-    while i < part.len() {
-        if kept.len() - at <= i {
-            return i;
-        }
-        kept[at + i] = part[i];
-        i += 1;
-    }
-    i
+    let count = part.len().min(kept.len() - at);
+    kept[at..at + count].copy_from_slice(&part[..count]);
+    count
 }
 
-// Reads on once, and keeps what comes behind what is kept already.
-fn read_part<R: Read>(file: &mut R, kept: &mut [u8], came: Input) -> Step
+// Reads on once, and keeps what comes behind what is kept already: None is the end of the input.
+fn read_part<R: Read>(file: &mut R, kept: &mut [u8], came: Input) -> Result<Option<Input>, Error>
     requires kept { came.length ≤ length kept.old }
     requires few_more { came.more + 65536 < 2 ^ 64 }
     ensures step { Steps (so_far kept.old came) kept.new result }
     ensures known { GivesPart (R.remaining file.old) (R.remaining file.new) (so_far kept.old came) kept.new result }
 {
     let mut part = [0u8; PART];
-    let count = match file.read(&mut part) {
-        Ok(count) => count,
-        Err(why) => {
-            return Step::Broke(why);
-        }
-    };
+    let count = file.read(&mut part)?;
     if count == 0 {
-        return Step::Ended;
+        return Ok(None);
     }
     let at = came.length;
     let length = keep(kept, at, &part[..count]);
-    Step::Took(Input {
+    Ok(Some(Input {
         length: at + length,
         more: came.more + (count - length) as u64,
-    })
+    }))
 }
 
 // Reads all that a reader gives, such as standard input: the buffer keeps what it has room for, and the rest is counted.
-pub fn read<R: Read>(file: &mut R, kept: &mut [u8]) -> Reading
+pub fn read<R: Read>(file: &mut R, kept: &mut [u8]) -> Result<Input, Error>
     ensures parts { Reads kept.old kept.new result }
     ensures known { Gives (R.remaining file.old) (R.remaining file.new) kept.old kept.new result }
 {
     let mut came = Input { length: 0, more: 0 };
-    let mut reads = READS;
-    while reads > 0 {
-        match read_part(file, kept, came) {
-            Step::Took(next) => {
-                came = next;
-            }
-            Step::Ended => {
-                return Reading::Came(came);
-            }
-            Step::Broke(why) => {
-                return Reading::Failed(why);
-            }
-        }
-        reads -= 1;
+    for _ in 0..READS {
+        let Some(next) = read_part(file, kept, came)? else {
+            return Ok(came);
+        };
+        came = next;
     }
-    Reading::Came(came)
+    Ok(came)
 }
 
 // The file of a name that is text.
-fn read_named(rt: &impl Files, name: &str, kept: &mut [u8]) -> Reading
+fn read_named(rt: &impl Files, name: &str, kept: &mut [u8]) -> Result<Input, Error>
     ensures { Reads kept.old kept.new result }
 {
     match fs::open(rt, name) {
         Ok(mut file) => read(&mut file, kept),
-        Err(why) if why.kind() == ErrorKind::NotFound => Reading::Came(Input {
-            length: 0,
-            more: 0,
-        }),
-        Err(why) => Reading::Failed(why),
+        Err(why) if why.kind() == ErrorKind::NotFound => Ok(Input { length: 0, more: 0 }),
+        Err(why) => Err(why),
     }
 }
 
 // Reads all of the file of that name. A missing file is an empty one; one that is there and cannot be opened is a failure, and so is a name that is no
 // text, which the library cannot open.
-pub fn read_file(rt: &impl Files, name: &[u8], kept: &mut [u8]) -> Reading
+pub fn read_file(rt: &impl Files, name: &[u8], kept: &mut [u8]) -> Result<Input, Error>
     ensures { Reads kept.old kept.new result }
 {
     match str::from_utf8(name) {
         Ok(name) => read_named(rt, name, kept),
-        Err(_) => Reading::Failed(Error::from(ErrorKind::InvalidInput)),
+        Err(_) => Err(Error::from(ErrorKind::InvalidInput)),
     }
 }

@@ -4,7 +4,7 @@ ghost use Rattle.meaning.specs.Limit.{LimitWord};
 ghost use Rattle.limit.specs.Told.{told};
 ghost use Rattle.input.specs.Run.{past, Capped, ReadRun, Middle, TensOf};
 
-use crate::word::{NONE, copy, digit};
+use crate::word::{copy, digit};
 use limit::Limit;
 use std::env::Env;
 
@@ -26,8 +26,7 @@ fn pushed(number: u64, d: u64) -> u64
     requires { (number ≤ past) × (d ≤ 9) }
     ensures { (z : ℕ) → Capped number z → Capped result (z * 10 + d) }
 {
-    let next = number * 10 + d;
-    if PAST < next { PAST } else { next }
+    (number * 10 + d).min(PAST)
 }
 
 // Reads the digits from a place on behind those of x.
@@ -36,16 +35,16 @@ fn read_run(word: &[u8], begin: usize, x: u64) -> Run
     ensures { ReadRun word.now begin x result }
 {
     let mut number = x;
-    let mut end = begin;
-    while end < word.len() {
-        let d = digit(word[end]);
-        if d == NONE {
+    for end in begin..word.len() {
+        let Some(d) = digit(word[end]) else {
             return Run { number, end };
-        }
+        };
         number = pushed(number, d);
-        end += 1;
     }
-    Run { number, end }
+    Run {
+        number,
+        end: word.len(),
+    }
 }
 
 // Where a point stands after the first digits, reads on behind it.
@@ -54,10 +53,7 @@ fn middle(word: &[u8], whole: Run) -> Run
     ensures { Middle word.now whole result }
 {
     let point = whole.end;
-    if word.len() <= point {
-        return whole;
-    }
-    if word[point] != b'.' {
+    if word.len() <= point || word[point] != b'.' {
         return whole;
     }
     read_run(word, point + 1, whole.number)
@@ -72,16 +68,7 @@ fn tens(word: &[u8], mark: usize) -> u64
     if left == 0 {
         return 0;
     }
-    if left < 3 {
-        return PAST;
-    }
-    if 5 < left {
-        return PAST;
-    }
-    if word[mark] != b'e' {
-        return PAST;
-    }
-    if word[mark + 1] != b'-' {
+    if left < 3 || 5 < left || word[mark] != b'e' || word[mark + 1] != b'-' {
         return PAST;
     }
     let last = read_run(word, mark + 2, 0);
@@ -95,10 +82,7 @@ fn tens(word: &[u8], mark: usize) -> u64
 fn after_point(point: usize, mark: usize) -> u64
     ensures { result ≡ mark - (point + 1) }
 {
-    if mark <= point {
-        return 0;
-    }
-    (mark - point - 1) as u64
+    mark.saturating_sub(point).saturating_sub(1) as u64
 }
 
 // The limit that a word says, or none.

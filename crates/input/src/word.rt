@@ -1,78 +1,66 @@
 // Words of the command line: how many there are, whether they ask for help, and what they say as numbers.
-ghost use Rattle.std.specs.Prelude.{◌≡◌, ◌≤◌, length};
+ghost use Rattle.std.specs.Prelude.{◌≡◌, ◌+◌, ◌*◌, ◌^◌, ◌≤◌, length, MatchOption};
 ghost use Rattle.meaning.specs.Text.{WordOutcome};
 ghost use Rattle.input.specs.Digit.{Digit};
 
 use std::env::{Env, FillError};
 
-// The most digits of a number of 64 bits, and the last such number.
+// The most digits of a number of 64 bits.
 pub const DIGITS: usize = 20;
 
 // The length of `--help`.
 const HELP: usize = 6;
 
-const LAST: u64 = 18446744073709551615;
-
-// What a byte stands for that is no digit.
-pub(crate) const NONE: u64 = 10;
-
-pub(crate) fn digit(byte: u8) -> u64
+// The digit that a byte stands for.
+pub(crate) fn digit(byte: u8) -> Option<u64>
     ensures { Digit byte result }
 {
-    if byte < 48 {
-        return NONE;
+    match byte {
+        b'0'..=b'9' => Some(u64::from(byte - b'0')),
+        _ => None,
     }
-    if 57 < byte {
-        return NONE;
-    }
-    (byte - 48) as u64
+}
+
+// A number with one digit more behind, where that has 64 bits.
+fn pushed(x: u64, d: u64) -> Option<u64>
+    ensures { MatchOption result (2 ^ 64 ≤ x * 10 + d) (λ next. next ≡ x * 10 + d) }
+{
+    x.checked_mul(10)?.checked_add(d)
 }
 
 // The number that a word says in decimal, or what the caller gives for a word that says none.
 pub fn number(word: &[u8], otherwise: u64) -> u64
     ensures { WordOutcome otherwise word.now result }
 {
-    if word.len() == 0 {
-        return otherwise;
-    }
-    if DIGITS < word.len() {
+    if word.is_empty() || DIGITS < word.len() {
         return otherwise;
     }
     let mut x = 0;
-    let mut i = 0;
-    while i < word.len() {
-        let d = digit(word[i]);
-        if d == NONE {
+    for byte in word {
+        let Some(d) = digit(*byte) else {
             return otherwise;
-        }
-        if (LAST - d) / 10 < x {
+        };
+        let Some(next) = pushed(x, d) else {
             return otherwise;
-        }
-        x = x * 10 + d;
-        i += 1;
+        };
+        x = next;
     }
     x
 }
 
 // Whether the program has a word i. One that has no room is there all the same.
 fn is_there(rt: &impl Env, i: usize) -> bool {
-    match rt.arg(i, &mut []) {
-        Ok(_) => true,
-        Err(FillError::TooLong) => true,
-        Err(FillError::NotPresent) => false,
-    }
+    !matches!(rt.arg(i, &mut []), Err(FillError::NotPresent))
 }
 
 // How many words follow the program's name.
 pub fn words(rt: &impl Env) -> usize {
-    let mut count = 0;
-    while count < usize::MAX {
+    for count in 0..usize::MAX {
         if !is_there(rt, count + 1) {
             return count;
         }
-        count += 1;
     }
-    count
+    usize::MAX
 }
 
 // Copies word i to the front of a buffer, and answers its length: 0 where it is missing or too long.
@@ -80,10 +68,7 @@ pub(crate) fn copy(rt: &impl Env, i: usize, word: &mut [u8]) -> usize
     ensures within { result ≤ length word.new }
     ensures same { length word.new ≡ length word.old }
 {
-    match rt.arg(i, word) {
-        Ok(length) => length,
-        Err(_) => 0,
-    }
+    rt.arg(i, word).unwrap_or(0)
 }
 
 // Whether `--help` is the only word.

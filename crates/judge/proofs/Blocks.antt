@@ -1,19 +1,16 @@
 -- What the blocks that are found right or wrong tell of the file.
-use Prim.Native.Nat.{ℕ, ◌+◌, ◌<◌}
-use mathlib.Core.Path.{◌≡◌, sym, subst}
-use mathlib.Core.Logic.{⊎_elim}
-use native.Mathlib.Omega.{arith}
+use Rattle.std.proofs.Common.{ℕ, ◌+◌, ◌<◌, ◌≡◌, true, Result, Ok, Err, MatchResult, sym, subst, ⊎_elim, arith}
+use Rattle.std.specs.Result.{is_ok}
+use Rattle.std.proofs.lemmas.Bool.{false≢true}
+use Rattle.chain.specs.Refusal.{number_of}
+use Rattle.chain.specs.declared.refusal.Fault.{Fault}
+use Rattle.chain.specs.declared.refusal.Refusal.{Refusal}
+use Rattle.blocks.specs.Tested.{tested}
 use Rattle.meaning.specs.Block.{Input, state_blocks, demanded}
 use Rattle.meaning.specs.File.{BlockRight, FileRefused}
 use Rattle.meaning.specs.Salvage.{FrontRefused}
-use Rattle.theory.specs.Numbers.Sum.{same}
-use Rattle.judge.specs.declared.Verdict.{Verdict}
-use Rattle.judge.specs.declared.Verdict.TheVariants.{Accepted as Taken, Refused as Refusing}
-use Rattle.judge.specs.Tells.{Begun, further, judged, fronted}
-
--- What is found of a file.
-pub found : (T : Verdict → Type 0) {r x : Verdict} → T r → r ≡ x → T x
-found T t e = subst T e t
+use Rattle.theory.specs.Numbers.Sum.{same, last_or_below}
+use Rattle.judge.specs.Tells.{Verdict, Begun, FirstWrong, further, judged, fronted}
 
 -- The head and further blocks together.
 module _ (f : Input) (begun : Begun f) where
@@ -22,12 +19,22 @@ module _ (f : Input) (begun : Begun f) where
       ⊎_elim (λ (e : b ≡ 0). subst (BlockRight f) (sym e) begun.head) (λ (d : b ≡ 0 → ⊥). right b (omega arith) h) (same b 0)
 
   pub judge : (r : Verdict) → further f (demanded f) r → judged f r
-  judge Taken right = record { whole = begun.whole; total = begun.total; blocks = blocks (demanded f) right }
-  judge (Refusing number place) w =
-      FileRefused.block_wrong number place begun.whole begun.total w.after w.below (blocks place w.before) w.refused
+  judge (Ok u) right = record { whole = begun.whole; total = begun.total; blocks = blocks (demanded f) right }
+  judge (Err r) w = FileRefused.block_wrong _ r.place begun.whole begun.total w.after w.below (blocks r.place w.before) w.refused
 
   pub front : (r : Verdict) → further f (1 + state_blocks f) r → fronted f r
-  front Taken right =
+  front (Ok u) right =
       record { whole = begun.whole; total = begun.total; blocks = λ b h. blocks (1 + state_blocks f) right b (omega arith) }
-  front (Refusing number place) w =
-      FrontRefused.states_wrong number place begun.whole begun.total w.after (omega (arith, w.below)) (blocks place w.before) w.refused
+  front (Err r) w =
+      FrontRefused.states_wrong _ r.place begun.whole begun.total w.after (omega (arith, w.below)) (blocks r.place w.before) w.refused
+
+-- The test of block b, whose refusal is at b.
+module _ (f : Input) (b : ℕ) (after : 0 < b) (before : (a : ℕ) → 0 < a → a < b → BlockRight f a) where
+  pub wrong : (end : ℕ) (r : Result Unit Fault) (e : Refusal) → tested f b r → b < end → MatchResult r (λ _. ⊥) (λ fault. (e.fault ≡ fault) × (e.place ≡ b))
+      → FirstWrong f end (number_of e.fault) e.place
+  wrong end (Ok u) e t h m = absurd m
+  wrong end (Err fault) e t h m = rw (m.0, m.1) (record { after = after; below = h; before = before; refused = t })
+
+  pub right : (r : Result Unit Fault) → tested f b r → true ≡ is_ok r → (a : ℕ) → 0 < a → a < b + 1 → BlockRight f a
+  right (Ok u) t e a h l = last_or_below {j = a} {n = b} (omega arith) (λ q. rw q t) (before a h)
+  right (Err fault) t e a h l = absurd (false≢true (sym e))

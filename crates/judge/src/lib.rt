@@ -7,16 +7,9 @@ ghost use Rattle.meaning.specs.Number.{decides};
 ghost use Rattle.octets.specs.Input.{input};
 ghost use Rattle.judge.specs.Tells.{begun, further, judged, fronted};
 
-use blocks::block::Block;
 use blocks::{block, head};
+use chain::refusal::{Fault, Refusal};
 use octets::layout;
-
-// What a file is found to be: accepted, or refused with a number at a place.
-#[derive(Clone, Copy)]
-pub enum Verdict {
-    Accepted,
-    Refused(u32, usize),
-}
 
 // 20: the file is empty, or no multiple of a block. The parts' remainders never wrap.
 fn length_wrong(kept: &[u8], more: u64) -> bool
@@ -24,16 +17,7 @@ fn length_wrong(kept: &[u8], more: u64) -> bool
 {
     let length = kept.len() as u64;
     let size = layout::BLOCK as u64;
-    if (length % size + more % size) % size != 0 {
-        return true;
-    }
-    if length != 0 {
-        return false;
-    }
-    if more != 0 {
-        return false;
-    }
-    true
+    (length % size + more % size) % size != 0 || length == 0 && more == 0
 }
 
 // 24 at 0: the block total is not what the head demands.
@@ -41,61 +25,45 @@ fn total_wrong(kept: &[u8], more: u64) -> bool
     ensures { decides (TotalFault (input kept.now more)) result }
 {
     let whole = layout::BLOCK * head::demanded(kept);
-    if whole < kept.len() {
-        return true;
-    }
-    let left = whole - kept.len();
-    if more != left as u64 {
-        return true;
-    }
-    false
+    whole < kept.len() || more != (whole - kept.len()) as u64
 }
 
 // 20, the head block and the block total.
-fn begins(kept: &[u8], more: u64) -> Verdict
+fn begins(kept: &[u8], more: u64) -> Result<(), Refusal>
     ensures { begun (input kept.now more) result }
 {
     if length_wrong(kept, more) {
-        return Verdict::Refused(20, 0);
+        return Err(Refusal::from(Fault::FileLength));
     }
-    if let Block::Wrong(number) = block::test(kept, 0) {
-        return Verdict::Refused(number, 0);
-    }
+    block::test(kept, 0)?;
     if total_wrong(kept, more) {
-        return Verdict::Refused(24, 0);
+        return Err(Refusal::from(Fault::BlockContent));
     }
-    Verdict::Accepted
+    Ok(())
 }
 
 // Each block after the head and before block `end`.
-fn further(kept: &[u8], end: usize) -> Verdict
+fn further(kept: &[u8], end: usize) -> Result<(), Refusal>
     ensures { (more : ℕ) → further (input kept.now more) end result }
 {
-    let mut b = 1;
-    while b < end {
-        if let Block::Wrong(number) = block::test(kept, b) {
-            return Verdict::Refused(number, b);
-        }
-        b += 1;
+    for b in 1..end {
+        block::test(kept, b).map_err(|fault| Refusal::at(fault, b))?;
     }
-    Verdict::Accepted
+    Ok(())
 }
 
-pub fn judge(kept: &[u8], more: u64) -> Verdict
+// Whether the file is accepted, or by what it is refused.
+pub fn judge(kept: &[u8], more: u64) -> Result<(), Refusal>
     ensures { judged (input kept.now more) result }
 {
-    if let Verdict::Refused(number, place) = begins(kept, more) {
-        return Verdict::Refused(number, place);
-    }
+    begins(kept, more)?;
     further(kept, head::demanded(kept))
 }
 
 // The same but for the edge blocks.
-pub fn front(kept: &[u8], more: u64) -> Verdict
+pub fn front(kept: &[u8], more: u64) -> Result<(), Refusal>
     ensures { fronted (input kept.now more) result }
 {
-    if let Verdict::Refused(number, place) = begins(kept, more) {
-        return Verdict::Refused(number, place);
-    }
+    begins(kept, more)?;
     further(kept, 1 + head::state_blocks(kept))
 }

@@ -28,13 +28,11 @@ pub fn at_most(x: u64, tens: u64, y: u64) -> bool
         return true;
     }
     let mut v = x;
-    let mut left = tens;
-    while left > 0 {
+    for _ in 0..tens {
         if y / 10 < v {
             return false;
         }
         v *= 10;
-        left -= 1;
     }
     v <= y
 }
@@ -43,29 +41,14 @@ pub fn at_most(x: u64, tens: u64, y: u64) -> bool
 fn reaches(x: u64, tens: u64, y: u64) -> bool
     ensures { result ≡ leb y (x * 10 ^ tens) }
 {
-    if y == 0 {
-        return true;
-    }
-    if at_most(x, tens, y - 1) {
-        return false;
-    }
-    true
+    y == 0 || !at_most(x, tens, y - 1)
 }
 
 // Whether it is a limit: above 0, at most 1, and of few digits.
 pub fn sound(m: Limit) -> bool
     ensures { decides (IsLimit (told m)) result }
 {
-    if m.digits == 0 {
-        return false;
-    }
-    if SAID < m.digits {
-        return false;
-    }
-    if TENS < m.tens {
-        return false;
-    }
-    reaches(1, m.tens, m.digits)
+    m.digits != 0 && m.digits <= SAID && m.tens <= TENS && reaches(1, m.tens, m.digits)
 }
 
 // Whether digits over 10 ^ tens is at most the limit.
@@ -73,7 +56,8 @@ pub fn figure_keeps(m: Limit, digits: u64, tens: u64) -> bool
     ensures { result ≡ keeps (told m) digits (10 ^ tens) }
 {
     if tens <= m.tens {
-        return at_most(digits, m.tens - tens, m.digits);
+        at_most(digits, m.tens - tens, m.digits)
+    } else {
+        reaches(m.digits, tens - m.tens, digits)
     }
-    reaches(m.digits, tens - m.tens, digits)
 }

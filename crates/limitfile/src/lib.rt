@@ -1,20 +1,20 @@
 // Is the chance of the chain in a file within a limit.
 #![tactic(auto)]
 
-ghost use Rattle.std.specs.Prelude.{◌≡◌, ◌≤◌};
+ghost use Rattle.std.specs.Prelude.{◌≡◌, ◌≤◌, IfOk};
 ghost use Rattle.meaning.specs.Chain.{M};
 ghost use Rattle.meaning.specs.Limit.{IsLimit};
 ghost use Rattle.meaning.specs.FileLimit.{FileLimit, near_verdict, verdict_by};
 ghost use Rattle.chainfile.specs.Input.{input};
 ghost use Rattle.near.specs.Answer.{told_between};
-ghost use Rattle.figures.specs.Told.{told_answer};
+ghost use Rattle.engines.specs.Answer.{told_chance};
 ghost use Rattle.limit.specs.Told.{told};
 ghost use Rattle.limitfile.specs.Told.{told_verdict, told_limited};
 
-use figures::{Answer, Question};
+use chain::fraction::Fraction;
+use chain::refusal::{Fault, Refusal};
 use limit::Limit;
-use near::answer::{Between, Nearly};
-use nearfile::From;
+use near::answer::Between;
 
 // Open: which of the two cannot be said.
 #[derive(Clone, Copy)]
@@ -26,9 +26,9 @@ pub enum Verdict {
 
 // The verdict, and the near chance that is printed with it.
 #[derive(Clone, Copy)]
-pub enum Limited {
-    Judged { verdict: Verdict, chance: Between },
-    Refused { number: u32, place: usize },
+pub struct Limited {
+    pub verdict: Verdict,
+    pub chance: Between,
 }
 
 // By the figures as they are printed, since these are what a reader has.
@@ -37,56 +37,46 @@ fn by_figures(m: Limit, chance: Between) -> Verdict
 {
     let low = decimals::lower(chance.lower, chance.twos);
     let high = decimals::upper(chance.upper, chance.twos);
-    if limit::figure_keeps(m, high.digits as u64, high.tens as u64) {
-        return Verdict::Kept;
+    if limit::figure_keeps(m, u64::from(high.digits), u64::from(high.tens)) {
+        Verdict::Kept
+    } else if limit::figure_keeps(m, u64::from(low.digits), u64::from(low.tens)) {
+        Verdict::Open
+    } else {
+        Verdict::Broken
     }
-    if limit::figure_keeps(m, low.digits as u64, low.tens as u64) {
-        return Verdict::Open;
-    }
-    Verdict::Broken
 }
 
 // By the exact chance, where it is answered.
-fn decided(m: Limit, exact: Answer, chance: Between) -> Verdict
-    requires { IsLimit (told m) × (exact.denominator ≤ M) }
-    ensures { told_verdict result ≡ verdict_by (told m) (told_answer exact) (told_between chance) }
+fn decided(m: Limit, exact: Result<Fraction, Refusal>, chance: Between) -> Verdict
+    requires { IsLimit (told m) × IfOk exact (λ f. f.denominator ≤ M) }
+    ensures { told_verdict result ≡ verdict_by (told m) (told_chance exact) (told_between chance) }
 {
-    if exact.number != 0 {
-        return by_figures(m, chance);
+    match exact {
+        Ok(f) if limit::at_most(f.numerator, m.tens, m.digits * f.denominator) => Verdict::Kept,
+        Ok(_) => Verdict::Broken,
+        Err(_) => by_figures(m, chance),
     }
-    if limit::at_most(exact.numerator, m.tens, m.digits * exact.denominator) {
-        return Verdict::Kept;
-    }
-    Verdict::Broken
 }
 
-fn asked(kept: &[u8], more: u64, m: Limit) -> Limited
+fn asked(kept: &[u8], more: u64, m: Limit) -> Result<Limited, Refusal>
     requires { IsLimit (told m) }
     ensures { FileLimit (input kept.now more) (told m) (told_limited result) }
 {
-    match nearfile::near(kept, more, From::Start) {
-        Nearly::Found(found) => {
-            let answers = figures::ask(kept, more, Question::Chance);
-            let exact = answers.chance;
-            let chance = found.chance;
-            Limited::Judged {
-                verdict: decided(m, exact, chance),
-                chance,
-            }
-        }
-        Nearly::Refused { number, place } => Limited::Refused { number, place },
-    }
+    let chance = nearfile::near(kept, more, None)?.chance;
+    let exact = figures::chance(kept, more);
+    Ok(Limited {
+        verdict: decided(m, exact, chance),
+        chance,
+    })
 }
 
 // The verdict on the chain file of which `kept` holds the first bytes and `more` counts the others. The limit is looked at before the file is.
-pub fn judge(kept: &[u8], more: u64, m: Limit) -> Limited
+pub fn judge(kept: &[u8], more: u64, m: Limit) -> Result<Limited, Refusal>
     ensures { FileLimit (input kept.now more) (told m) (told_limited result) }
 {
     if limit::sound(m) {
-        return asked(kept, more, m);
-    }
-    Limited::Refused {
-        number: 35,
-        place: 0,
+        asked(kept, more, m)
+    } else {
+        Err(Refusal::from(Fault::Limit))
     }
 }

@@ -14,13 +14,11 @@ ghost use Rattle.octets.specs.Written.{Written};
 ghost use Rattle.limit.specs.Told.{told as limitOf};
 ghost use Rattle.report.specs.Stands.{told};
 
-use equations::{PARTS, Parts, Verdict};
+use chain::refusal::{Fault, Refusal};
+use equations::{PARTS, Verdict};
+use figures::Answer;
 use limit::Limit;
 use limit_line::verdict_line;
-use limitfile::Limited;
-use near::answer::Nearly;
-use nearfile::From;
-use report::Printed;
 use text::{DIGITS, named, put};
 use two_lines::found_lines;
 
@@ -46,18 +44,15 @@ fn parts_line(buffer: &mut [u8], steps: u64, parts: u64) -> usize
 }
 
 // The line of a chain file's chance within so many steps, or of the refusal. `kept` holds the file's first bytes and `more` counts the others.
-pub fn within(kept: &[u8], more: u64, steps: u64, buffer: &mut [u8]) -> Printed
+pub fn within(kept: &[u8], more: u64, steps: u64, buffer: &mut [u8]) -> Result<usize, Refusal>
     ensures { WithinReportOutcome (input kept.now more) steps buffer.old (told result) buffer.new }
 {
     if buffer.len() < WITHIN_ROOM {
-        return Printed::Refused {
-            number: 2,
-            place: 0,
-        };
+        return Err(Refusal::from(Fault::Room));
     }
     match figures::within(kept, more, steps) {
-        Parts::Held(parts) => Printed::Length(parts_line(buffer, steps, parts)),
-        Parts::Refused { number, place } => report::answer(number, place, 0, 0, buffer),
+        Ok(parts) => Ok(parts_line(buffer, steps, parts)),
+        Err(r) => report::answer(Answer::from(r), buffer),
     }
 }
 
@@ -73,56 +68,45 @@ fn no_line(buffer: &mut [u8], state: u64) -> usize
 }
 
 // The line of the verdict on a table in bytes, for the chain file of which `kept` holds the first bytes and `more` counts the others.
-pub fn check(kept: &[u8], more: u64, shares: &[u8], buffer: &mut [u8]) -> Printed
+pub fn check(kept: &[u8], more: u64, shares: &[u8], buffer: &mut [u8]) -> Result<usize, Refusal>
     ensures { let f = input kept.now more in
         JudgeReportOutcome f shares.now buffer.old (told result) buffer.new }
 {
     if buffer.len() < CHECK_ROOM {
-        return Printed::Refused {
-            number: 2,
-            place: 0,
-        };
+        return Err(Refusal::from(Fault::Room));
     }
     match figures::check(kept, more, shares) {
-        Verdict::Yes => Printed::Length(put(buffer, 0, b"yes\n")),
-        Verdict::No(state) => Printed::Length(no_line(buffer, state as u64)),
-        Verdict::Refused { number, place } => report::answer(number, place, 0, 0, buffer),
+        Ok(Verdict::Yes) => Ok(put(buffer, 0, b"yes\n")),
+        Ok(Verdict::No(state)) => Ok(no_line(buffer, state as u64)),
+        Err(r) => report::answer(Answer::from(r), buffer),
     }
 }
 
-// The two lines of a chain file's near chances from that start, or the line of the refusal. `kept` holds the file's first bytes and `more` counts the
-// others.
-pub fn near(kept: &[u8], more: u64, from: From, buffer: &mut [u8]) -> Printed
+// The two lines of a chain file's near chances from its own start or from a number that takes its place, or the line of the refusal. `kept` holds the
+// file's first bytes and `more` counts the others.
+pub fn near(kept: &[u8], more: u64, from: Option<u64>, buffer: &mut [u8]) -> Result<usize, Refusal>
     ensures { let f = input kept.now more in
         NearReportOutcome f (from_of from) buffer.old (told result) buffer.new }
 {
     if buffer.len() < NEAR_ROOM {
-        return Printed::Refused {
-            number: 2,
-            place: 0,
-        };
+        return Err(Refusal::from(Fault::Room));
     }
     match nearfile::near(kept, more, from) {
-        Nearly::Found(found) => Printed::Length(found_lines(buffer, found)),
-        Nearly::Refused { number, place } => report::answer(number, place, 0, 0, buffer),
+        Ok(found) => Ok(found_lines(buffer, found)),
+        Err(r) => report::answer(Answer::from(r), buffer),
     }
 }
 
 // The line of a chain file's verdict, or of the refusal. `kept` holds the file's first bytes and `more` counts the others.
-pub fn limit(kept: &[u8], more: u64, m: Limit, buffer: &mut [u8]) -> Printed
+pub fn limit(kept: &[u8], more: u64, m: Limit, buffer: &mut [u8]) -> Result<usize, Refusal>
     ensures { let f = input kept.now more in
         LimitReportOutcome f (limitOf m) buffer.old (told result) buffer.new }
 {
     if buffer.len() < LIMIT_ROOM {
-        return Printed::Refused {
-            number: 2,
-            place: 0,
-        };
+        return Err(Refusal::from(Fault::Room));
     }
     match limitfile::judge(kept, more, m) {
-        Limited::Judged { verdict, chance } => Printed::Length(verdict_line(
-            buffer, verdict, chance,
-        )),
-        Limited::Refused { number, place } => report::answer(number, place, 0, 0, buffer),
+        Ok(judged) => Ok(verdict_line(buffer, judged.verdict, judged.chance)),
+        Err(r) => report::answer(Answer::from(r), buffer),
     }
 }

@@ -26,19 +26,21 @@ fn digit(x: u32) -> u8
 fn five_digits(x: u32) -> [u8; 6]
     ensures { result ≡ bytes_of "." ++ last_digits 5 x }
 {
-    let a = digit(x / 10000);
-    let b = digit(x / 1000);
-    let c = digit(x / 100);
-    let d = digit(x / 10);
-    let e = digit(x);
-    [b'.', a, b, c, d, e]
+    [
+        b'.',
+        digit(x / 10000),
+        digit(x / 1000),
+        digit(x / 100),
+        digit(x / 10),
+        digit(x),
+    ]
 }
 
 // What stands after `e-`.
 fn exponent(tens: u32) -> u64
     ensures { result ≡ tens - 5 }
 {
-    if tens < 5 { 0 } else { (tens - 5) as u64 }
+    u64::from(tens.saturating_sub(5))
 }
 
 // A figure after a word.
@@ -48,10 +50,10 @@ fn figure(buffer: &mut [u8], at: usize, word: &[u8], f: Figure) -> usize
         Fitted buffer.old at (w ++ figure_text (told f)) (length w + figure_width) buffer.new result }
 {
     if f.digits < 10 {
-        return named(buffer, at, word, f.digits as u64);
+        return named(buffer, at, word, u64::from(f.digits));
     }
     let six = five_digits(f.digits);
-    let point = named(buffer, at, word, (f.digits / 100000) as u64);
+    let point = named(buffer, at, word, u64::from(f.digits / 100000));
     let end = put(buffer, point, &six);
     named(buffer, end, b"e-", exponent(f.tens))
 }
@@ -77,14 +79,7 @@ pub fn figures_line(
 ) -> usize
     ensures { FiguresLine buffer.old at word.now (told lower) (told upper) buffer.new result }
 {
-    if buffer.len() < at {
-        return at;
-    }
-    let room = buffer.len() - at;
-    if room < FIGURES {
-        return at;
-    }
-    if room - FIGURES < word.len() {
+    if buffer.len().saturating_sub(at) < word.len() + FIGURES {
         return at;
     }
     line(buffer, at, word, lower, upper)

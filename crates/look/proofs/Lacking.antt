@@ -5,20 +5,19 @@ use mathlib.Core.List.{List, []}
 use mathlib.Core.Logic.{⊎_elim}
 use native.Mathlib.Omega.{arith}
 use native.Mathlib.Numerals.{add-one}
-use lib.ListN.{length, get_or, replicate}
+use lib.ListN.{length, get_or}
 use borrow.Author.Tests.{eq-eqb, ne_eqb}
 use Rattle.meaning.specs.Number.{sum_to}
 use Rattle.meaning.specs.Chain.{most_states, edge_count, from, weight, carried, flow, row_sum}
 use Rattle.theory.specs.Numbers.Sum.{same, sum_next}
-use Rattle.theory.specs.Numbers.Walk.{Walked, walk_size}
 use Rattle.look.specs.Sums.{Lacks, TakenOut}
 
 -- A copy of the denominators lacks what rows of no edge lack.
-pub lacks_none : (denominators : List ℕ) {r : List ℕ} {i : ℕ} → Walked (λ j. get_or denominators j 0) (replicate most_states 0) i r → most_states ≤ i
+pub lacks_none : (denominators r : List ℕ) → length r ≡ most_states → ((i : ℕ) → i < most_states → get_or r i 0 ≡ get_or denominators i 0)
     → Lacks denominators [] r
 unfolding flow sum_to
-lacks_none denominators w h =
-    record { size = walk_size most_states w; is = λ k l. let z : row_sum [] k ≡ 0 = refl in omega (arith, z, w.new k (omega arith)) }
+lacks_none denominators r size is =
+    record { size = size; is = λ i l. let z : row_sum [] i ≡ 0 = refl in omega (arith, z, is i l) }
 
 -- The weights of the first e edges are taken out.
 pub record Lacking (denominators edges r : List ℕ) (e : ℕ) : Type 0 where

@@ -4,6 +4,5 @@ pub mod Seen
 pub mod Ordered
 pub mod Gather
 pub mod Lacking
-pub mod Wrongly
 pub mod Refuse
 pub mod Unique

@@ -12,18 +12,36 @@ use Rattle.meaning.specs.Number.{only}
 use Rattle.meaning.specs.Chain.{most_states, most_edges, edge_size}
 use Rattle.meaning.specs.Refusal.{Lent, Entry, paid, Misshaped, faults, whole, never, Applies, Refused, WellFormed, refused as refused_by, formed}
 use Rattle.theory.specs.Numbers.Sum.{same}
-use Rattle.look.specs.declared.Finding.{Finding}
-use Rattle.look.specs.declared.Finding.TheVariants.{Clear, Refused as Refusing}
-use Rattle.look.specs.Least.{Least}
+use Rattle.std.proofs.Common.{MatchResult, Option, None, Some, Result, Ok, Err}
+use Rattle.chain.specs.declared.refusal.Fault.{Fault}
+use Rattle.chain.specs.declared.refusal.Refusal.{Refusal}
+use Rattle.chain.specs.Refusal.{number_of}
+use Rattle.chain.proofs.Faults.{above_0}
+use Rattle.std.specs.Result.{IsErrAnd}
+use Rattle.look.specs.Least.{Least, least}
+use Rattle.look.proofs.Found.{found, none}
 use Rattle.meaning.specs.Number.{decides}
 use Rattle.theory.specs.Numbers.Decide.{holds, fails}
-use Rattle.look.specs.Says.{Looks, Upto, upto, counted, Shaped}
+use Rattle.look.specs.Says.{Finding, Looks, Upto, upto, counted, Shaped}
 
 pub refuse : {x : Entry} {l : Lent} {k p : ℕ} → Upto x l k → Least (Applies x l k) p → Refused x l k p
 refuse u f = record { applies = f.here; number_least = λ j q h a. u.clear j h q a; place_least = f.before }
 
 pub next : {x : Entry} {l : Lent} {k : ℕ} → Upto x l k → ((p : ℕ) → Applies x l k p → ⊥) → Upto x l (k + 1)
 next {x} {l} {k} u none = record { clear = below_more (λ j. (p : ℕ) → Applies x l j p → ⊥) k u.clear none }
+
+-- A scan for the fault of the next number: where it finds nothing it clears that number, and what it finds is the refusal.
+module _ {x : Entry} {l : Lent} {k : ℕ} {place : Option ℕ} (u : Upto x l k) (f : least (Applies x l k) place) where
+  pub scanned : place ≡ None → Upto x l (k + 1)
+  scanned e = next u (none (Applies x l k) f e)
+
+  pub seen : {fault : Fault} → number_of fault ≡ k → {r : Refusal} → (r.fault ≡ fault) × (place ≡ Some r.place) → Refused x l (number_of r.fault) r.place
+  seen n e = rw (e.0, n) (refuse u (found (Applies x l k) f e.1))
+
+pub scan : {x : Entry} {l : Lent} {k : ℕ} (place : Option ℕ) → Upto x l k → least (Applies x l k) place → (fault : Fault) → number_of fault ≡ k
+    → (a : Finding) → MatchResult a (λ _. place ≡ None) (λ r. (r.fault ≡ fault) × (place ≡ Some r.place)) → (j : ℕ) → j ≡ k + 1 → upto x l j a
+scan place u f fault n (Ok t) e j q = rw q (scanned u f e)
+scan place u f fault n (Err r) e j q = seen u f n e
 
 -- A fault of the whole is at place 0, and where it is not there it is nowhere.
 pub at_0 : {F : Type 0} → F → Least (whole F) 0
@@ -36,6 +54,11 @@ off not p f = not f.1
 pub begin : (x : Entry) (l : Lent) → Upto x l 1
 begin x l = next (record { clear = λ j h. absurd (not-suc-le-zero h) }) (λ p a. a)
 
+-- What a `?` hands on is the refusal that it was.
+pub handed : {T : Type 0} (P : Result T Refusal → Type 0) (a : Result T Refusal) (r : Refusal) → IsErrAnd a (λ e. e ≡ r) → P (Err r) → P a
+handed P (Err e) r h z = subst (λ r. P (Err r)) (sym h) z
+handed P (Ok t) r h z = absurd h
+
 pub well : {x : Entry} {l : Lent} → Upto x l 12 → WellFormed x l
 well {x} {l} u = record { none = λ k p a. go k p a (dec_lt k 12) }
   where
@@ -43,18 +66,10 @@ well {x} {l} u = record { none = λ k p a. go k p a (dec_lt k 12) }
     go k p a (yes h) = u.clear k h p a
     go k p a (no f) = subst (λ (F : ℕ → Type 0). F p) (get_or-eq_default (faults x l) never {n = k} (omega arith)) a
 
--- A finding that is known to be a refusal, or to be clear.
-pub tell : {x : Entry} {l : Lent} (j : ℕ) {k p : ℕ} {f : Finding} → f ≡ Refusing k p → Refused x l k p → upto x l j f
-tell {x} {l} j e r = subst (λ (f : Finding). upto x l j f) (sym e) r
-
 -- Number 0 is no refusal.
 pub refused_some : {x : Entry} {l : Lent} {number place : ℕ} → Refused x l number place → 0 < number
 refused_some {x} {l} {number} {place} z =
     ⊎_elim (λ (e : number ≡ 0). absurd (subst (λ k. Applies x l k place) e z.applies)) (λ h. h) (eq-zero-or-pos number)
-
-pub say : {x : Entry} {l : Lent} {k p : ℕ} {f : Finding} → f ≡ Refusing k p → Refused x l k p → Looks x l f
-say {x} {l} e r =
-    subst (λ (f : Finding). Looks x l f) (sym e) (record { outcome = refused_by _ _ r refl; proper = refused_some r })
 
 -- The length of a table, by what is given for it.
 module _ (n : ℕ) {o : ℕ} where
@@ -137,27 +152,29 @@ module _ {x : Entry} {l : Lent} {k : ℕ} (u : Upto x l k) (h : 1 < k) where
 
 -- What is said before the numbers from k on are looked at is said of all once these are cleared.
 pub settle : (x : Entry) (l : Lent) (k : ℕ) (f : Finding) → (Upto x l k → Upto x l 12) → upto x l k f → Looks x l f
-settle x l k Clear rest u = record { outcome = formed (well (rest u)) refl; proper = tt }
-settle x l k (Refusing j p) rest r = say refl r
+settle x l k (Ok u) rest z = formed (well (rest z)) refl
+settle x l k (Err r) rest z = refused_by _ _ z refl
 
 -- What an entry knows of a looking.
-module _ {x : Entry} {l : Lent} {f : Finding} (s : Looks x l f) where
-  pub refusing : {number place : ℕ} → f ≡ Refusing number place → Refused x l number place
-  refusing e = told_refused (subst (λ (f : Finding). Looks x l f) e s)
-    where
-      told_refused : {number place : ℕ} → Looks x l (Refusing number place) → Refused x l number place
-      told_refused {number} {place} t =
-          elim t.outcome [
-            | refused_by j p r e ↦ let a : number ≡ j = ap (λ z. z.number) e in let b : place ≡ p = ap (λ z. z.place) e in rw (a, b) r
-            | formed w e ↦ absurd (let a : number ≡ 0 = ap (λ z. z.number) e in omega (arith, t.proper))
-          ]
+module _ {x : Entry} {l : Lent} where
+  told_refused : (r : Refusal) → Looks x l (Err r) → Refused x l (number_of r.fault) r.place
+  told_refused r t =
+      elim t [
+        | refused_by j p z e ↦
+            let a : number_of r.fault ≡ j = ap (λ z. z.number) e in let b : r.place ≡ p = ap (λ z. z.place) e in rw (a, b) z
+        | formed w e ↦ absurd (let a : number_of r.fault ≡ 0 = ap (λ z. z.number) e in omega (arith, above_0 r.fault))
+      ]
 
-  pub clear : f ≡ Clear → WellFormed x l
-  clear e = told_clear (subst (λ (f : Finding). Looks x l f) e s)
-    where
-      told_clear : Looks x l Clear → WellFormed x l
-      told_clear t =
-          elim t.outcome [
-            | refused_by j p r e ↦ absurd (let a : 0 ≡ j = ap (λ z. z.number) e in omega (arith, refused_some r))
-            | formed w e ↦ w
-          ]
+  told_clear : (u : Unit) → Looks x l (Ok u) → WellFormed x l
+  told_clear u t =
+      elim t [
+        | refused_by j p z e ↦ absurd (let a : 0 ≡ j = ap (λ z. z.number) e in omega (arith, refused_some z))
+        | formed w e ↦ w
+      ]
+
+  module _ {f : Finding} (s : Looks x l f) where
+    pub refusing : {r : Refusal} → f ≡ Err r → Refused x l (number_of r.fault) r.place
+    refusing {r} e = told_refused r (subst (λ (f : Finding). Looks x l f) e s)
+
+    pub clear : {u : Unit} → f ≡ Ok u → WellFormed x l
+    clear {u} e = told_clear u (subst (λ (f : Finding). Looks x l f) e s)

@@ -1,25 +1,23 @@
 -- What a looking says: what is lent is well formed, or the least number that applies, at its least place.
-use Rattle.std.specs.Prelude.{ℕ, ◌≤◌, ◌<◌, ◌≡◌, Bool, true, false, List, length}
+use Rattle.std.specs.Prelude.{ℕ, ◌≤◌, ◌<◌, ◌≡◌, Bool, true, false, List, length, Result, Ok, Err}
 use Rattle.meaning.specs.Chain.{most_states, most_edges, edge_count}
 use Rattle.meaning.specs.Refusal.{Lent, Entry, Applies, Refused, Finding as Numbers, finding, LookOutcome}
-use Rattle.chain.specs.declared.Chain.{Chain}
-use Rattle.chain.specs.Lent.{lent}
-use Rattle.look.specs.declared.Finding.{Finding}
-use Rattle.look.specs.declared.Finding.TheVariants.{Clear, Refused as Refusing}
+use Rattle.chain.specs.declared.given.Given.{Given}
+use Rattle.chain.specs.declared.refusal.Refusal.{Refusal}
+use Rattle.chain.specs.Given.{with}
+use Rattle.chain.specs.Refusal.{number_of}
 
--- Document 01's numbers for each case.
+-- What a looking answers.
+abbrev pub Finding : Type 0
+Finding = Result Unit Refusal
+
+-- Document 01's numbers for each case. A refusal's number is above 0, so that nothing but Ok says that no number applies.
 abbrev pub told : Finding → Numbers
-told Clear = finding 0 0
-told (Refusing number place) = finding number place
+told (Ok u) = finding 0 0
+told (Err r) = finding (number_of r.fault) r.place
 
--- A refusal's number is above 0, so that nothing but Clear says that no number applies.
-abbrev pub Proper : Finding → Type 0
-Proper Clear = Unit {0}
-Proper (Refusing number place) = 0 < number
-
-pub record Looks (x : Entry) (l : Lent) (r : Finding) : Type 0 where
-  pub outcome : LookOutcome x l (told r)
-  pub proper : Proper r
+abbrev pub Looks : Entry → Lent → Finding → Type 0
+Looks x l r = LookOutcome x l (told r)
 
 -- No number below k applies.
 pub record Upto (x : Entry) (l : Lent) (k : ℕ) : Type 0 where
@@ -27,13 +25,13 @@ pub record Upto (x : Entry) (l : Lent) (k : ℕ) : Type 0 where
 
 -- What is said before the numbers from k on are looked at.
 abbrev pub upto : Entry → Lent → ℕ → Finding → Type 0
-upto x l k Clear = Upto x l k
-upto x l k (Refusing number place) = Refused x l number place
+upto x l k (Ok u) = Upto x l k
+upto x l k (Err r) = Refused x l (number_of r.fault) r.place
 
 -- What is said of the chain's own faults, 3 to 9, whatever else is lent, by an entry whose rows may fall short or not.
-abbrev pub own : Chain → List ℕ → List ℕ → Bool → Finding → Type 0
-own c denominators edges short r =
-    (x : Entry) → x.short ≡ short → (order rewards work : List ℕ) → let l = lent c denominators edges order rewards work in Upto x l 3 → upto x l 10 r
+abbrev pub own : Given → Bool → Finding → Type 0
+own g short r =
+    (x : Entry) → x.short ≡ short → (order rewards work : List ℕ) → let l = with g order rewards work in Upto x l 3 → upto x l 10 r
 
 -- What is given for the length of a table that may not be lent: its length, or n for none.
 abbrev pub counted : Bool → ℕ → ℕ → ℕ → Type 0

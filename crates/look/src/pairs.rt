@@ -4,41 +4,28 @@ ghost use Rattle.meaning.specs.Number.{decides};
 ghost use Rattle.meaning.specs.Chain.{most_states};
 ghost use Rattle.meaning.specs.Refusal.{Same, EndFault, PairFault};
 
-use crate::scan::Place;
 use chain::{Chain, edge};
 
 fn same_ends(edges: &[u64], d: usize, e: usize) -> bool
     ensures { decides (Same edges.now d e) result }
 {
-    if edge::from(edges, d) != edge::from(edges, e) {
-        return false;
-    }
-    if edge::to(edges, d) != edge::to(edges, e) {
-        return false;
-    }
-    true
+    edge::from(edges, d) == edge::from(edges, e) && edge::to(edges, d) == edge::to(edges, e)
 }
 
-// The first edge whose pair stood earlier. The scan is left at the first repeat, and then an edge is left over.
-fn first_repeat(edges: &[u64]) -> Place
+// The first edge whose pair stood earlier: the nested scan that the scope names, left from the inner loop at the first repeat.
+fn first_repeat(edges: &[u64]) -> Option<usize>
     ensures { least (PairFault edges.now) result }
 {
-    let count = edge::count(edges);
-    let mut e = 0;
-    'later: while e < count {
-        let mut d = 0;
-        'earlier: while d < e {
+    let mut first = None;
+    'later: for e in 0..edge::count(edges) {
+        'earlier: for d in 0..e {
             if same_ends(edges, d, e) {
+                first = Some(e);
                 break 'later;
             }
-            d += 1;
         }
-        e += 1;
     }
-    if e < count {
-        return Place::At(e);
-    }
-    Place::Nowhere
+    first
 }
 
 // Whether each edge leads to a state that was not yet seen from its source. Then no pair stood earlier.
@@ -46,10 +33,8 @@ fn distinct(edges: &[u64]) -> bool
     requires { (e : ℕ) → EndFault most_states edges.now e → ⊥ }
     ensures { decides ((e : ℕ) → PairFault edges.now e → ⊥) result }
 {
-    let count = edge::count(edges);
     let mut seen = [0u64; Chain::STATES];
-    let mut e = 0;
-    while e < count {
+    for e in 0..edge::count(edges) {
         let i = edge::from(edges, e) as usize;
         let j = edge::to(edges, e);
         let targets = seen[i];
@@ -57,18 +42,17 @@ fn distinct(edges: &[u64]) -> bool
             return false;
         }
         seen[i] = targets | (1 << j);
-        e += 1;
     }
     true
 }
 
 // Where the first edge is whose pair stood earlier. One pass tells that there is none; only else is each edge compared with all before it.
-pub(crate) fn repeated(edges: &[u64]) -> Place
+pub(crate) fn repeated(edges: &[u64]) -> Option<usize>
     requires { (e : ℕ) → EndFault most_states edges.now e → ⊥ }
     ensures { least (PairFault edges.now) result }
 {
     if distinct(edges) {
-        return Place::Nowhere;
+        return None;
     }
     first_repeat(edges)
 }

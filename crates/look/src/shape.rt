@@ -10,28 +10,13 @@ use chain::{Chain, edge};
 pub fn misshaped(n: usize, denominators: usize, edges: &[u64], order: usize, rewards: usize) -> bool
     ensures { decides (Misshaped paid n denominators (length edges.now) order rewards) result }
 {
-    if n == 0 {
-        return true;
-    }
-    if Chain::STATES < n {
-        return true;
-    }
-    if denominators != n {
-        return true;
-    }
-    if edge::ragged(edges) {
-        return true;
-    }
-    if Chain::EDGES < edge::count(edges) {
-        return true;
-    }
-    if order != n {
-        return true;
-    }
-    if rewards != n {
-        return true;
-    }
-    false
+    n == 0
+        || Chain::STATES < n
+        || denominators != n
+        || edge::ragged(edges)
+        || Chain::EDGES < edge::count(edges)
+        || order != n
+        || rewards != n
 }
 
 // The goal set is empty, or has a goal past the states: at the most states it has no room for one.
@@ -39,11 +24,5 @@ pub(crate) fn goals_wrong(n: usize, goals: u64) -> bool
     requires { n ≤ most_states }
     ensures { decides (GoalFault n goals) result }
 {
-    if goals == 0 {
-        return true;
-    }
-    if n < Chain::STATES {
-        return 0 < goals >> n;
-    }
-    false
+    goals == 0 || (n < Chain::STATES && 0 < goals >> n)
 }

@@ -7,7 +7,7 @@ ghost use Rattle.meaning.specs.Number.{decides};
 ghost use Rattle.meaning.specs.Chain.{most_states, most_edges, edge_count, row_sum};
 ghost use Rattle.meaning.specs.Refusal.{EndFault, WeightFault, WrongSum, SumFault};
 
-use crate::scan::Place;
+use chain::given::Given;
 use chain::table::at;
 use chain::{Chain, edge};
 
@@ -18,13 +18,10 @@ fn row_sums(edges: &[u64]) -> [u64; Chain::STATES]
     requires weights_right { (e : ℕ) → WeightFault edges.now e → ⊥ }
     ensures { (i : ℕ) → i < most_states → get_or result i 0 ≡ row_sum edges.now i }
 {
-    let count = edge::count(edges);
     let mut sums = [0u64; Chain::STATES];
-    let mut e = 0;
-    while e < count {
+    for e in 0..edge::count(edges) {
         let i = edge::from(edges, e) as usize;
         sums[i] += edge::weight(edges, e);
-        e += 1;
     }
     sums
 }
@@ -34,27 +31,23 @@ fn wrong(sum: u64, denominator: u64, short: bool) -> bool
     ensures { decides (WrongSum short sum denominator) result }
 {
     if short {
-        return denominator < sum;
+        denominator < sum
+    } else {
+        sum != denominator
     }
-    sum != denominator
 }
 
 // The first state whose row sum is wrong.
-pub(crate) fn first_wrong(n: usize, denominators: &[u64], edges: &[u64], short: bool) -> Place
-    requires shaped { Shaped n denominators.now edges.now }
-    requires ends_right { (e : ℕ) → EndFault n edges.now e → ⊥ }
-    requires weights_right { (e : ℕ) → WeightFault edges.now e → ⊥ }
-    ensures { least (SumFault short n denominators.now edges.now) result }
+pub(crate) fn first_wrong(g: &Given, short: bool) -> Option<usize>
+    requires shaped { Shaped g.now.chain.states g.now.denominators.now g.now.edges.now }
+    requires ends_right { (e : ℕ) → EndFault g.now.chain.states g.now.edges.now e → ⊥ }
+    requires weights_right { (e : ℕ) → WeightFault g.now.edges.now e → ⊥ }
+    ensures { least (SumFault short g.now.chain.states g.now.denominators.now g.now.edges.now) result }
 {
-    let sums = row_sums(edges);
-    let mut i = 0;
-    while i < n {
-        if wrong(sums[i], denominators[i], short) {
-            return Place::At(i);
-        }
-        i += 1;
-    }
-    Place::Nowhere
+    let sums = row_sums(g.edges);
+    sums.iter()
+        .zip(g.denominators)
+        .position(|(sum, denominator)| wrong(*sum, *denominator, short))
 }
 
 // The denominators of all states there can be, 0 past the last.
@@ -62,45 +55,29 @@ fn whole(denominators: &[u64]) -> [u64; Chain::STATES]
     ensures { Lacks denominators.now [] result }
 {
     let mut left = [0u64; Chain::STATES];
-    let mut i = 0;
-    while i < Chain::STATES {
-        left[i] = at(denominators, i);
-        i += 1;
+    for (i, x) in left.iter_mut().enumerate() {
+        *x = at(denominators, i);
     }
     left
-}
-
-// What is left of a number once a weight is taken out of it.
-fn less(left: u64, weight: u64) -> u64
-    ensures { result ≡ left - weight }
-{
-    if left < weight {
-        return 0;
-    }
-    left - weight
 }
 
 // The weight of an edge that leaves i is not missing there.
 fn take_out(left: &mut [u64], i: usize, weight: u64)
     ensures { TakenOut left.old i weight left.new }
 {
-    if left.len() <= i {
-        return;
+    if i < left.len() {
+        left[i] = left[i].saturating_sub(weight);
     }
-    left[i] = less(left[i], weight);
 }
 
 // The weight that is missing from the row of each state: none where the row exceeds its denominator, and none past the last.
 pub fn missing(denominators: &[u64], edges: &[u64]) -> [u64; Chain::STATES]
     ensures { Lacks denominators.now edges.now result }
 {
-    let count = edge::count(edges);
     let mut left = whole(denominators);
-    let mut e = 0;
-    while e < count {
+    for e in 0..edge::count(edges) {
         let i = edge::from(edges, e) as usize;
         take_out(&mut left, i, edge::weight(edges, e));
-        e += 1;
     }
     left
 }

@@ -1,5 +1,5 @@
 -- The rows that a chain gives are their own words.
-use Rattle.std.proofs.Common.{◌≡◌, ℕ, ◌+◌, ◌*◌, ◌^◌, ◌<◌, ◌≤◌, false, List, [], length, sym, refl, ap, ◌∙◌, subst, ⊎_elim, div-one, arith}
+use Rattle.std.proofs.Common.{◌≡◌, ℕ, ◌+◌, ◌*◌, ◌^◌, ◌<◌, ◌≤◌, false, List, [], length, sym, refl, ap, ◌∙◌, subst, ⊎_elim, div-one, arith, Result, Ok, Err}
 use Rattle.meaning.specs.Chain.{M, Chain, denominator, Goal}
 use Rattle.meaning.specs.Row.{Row, cell}
 use Rattle.meaning.specs.Step.{row, Sets, Right, given}
@@ -16,11 +16,11 @@ use Rattle.theory.specs.Outcomes.Formed.{few_states, denominator_small, order_le
 use Rattle.theory.specs.Outcomes.Whole.{formed_prepared}
 use Rattle.survey.specs.Sets.{Known, sets_of}
 use Rattle.survey.specs.declared.Sets.{Sets as Found}
-use Rattle.chain.specs.declared.Chain.{Chain as Given}
+use Rattle.chain.specs.declared.Chain.{Chain as Frame}
 use Rattle.chain.specs.Lent.{lent}
 use Rattle.elimination.specs.Laying.{Lies, laid}
-use Rattle.elimination.specs.declared.laying.Laid.{Laid}
-use Rattle.elimination.specs.declared.laying.Laid.TheVariants.{Rows, Refused as Refusing}
+use Rattle.chain.specs.Refusal.{number_of}
+use Rattle.chain.specs.declared.refusal.Refusal.{Refusal}
 use Rattle.near.specs.Word.{word, value}
 use Rattle.near.specs.Table.{Stands}
 use Rattle.near.specs.Entry.{Begun}
@@ -65,16 +65,16 @@ module _ (c : Chain) (k : Sets) (fine : Fine c) (right : Right c k) (small : (i 
       (λ j b. omega (arith, no_cell c.states j b))
 
 -- What the laying says, by its answer.
-module _ {l : Lent} {w : List ℕ} {r : Laid} (h : laid l w r) where
-  pub laid_refused : {number place : ℕ} → r ≡ Refusing number place → Refused plain l number place × (w ≡ l.work)
+module _ {l : Lent} {w : List ℕ} {a : Result Found Refusal} (h : laid l w a) where
+  pub laid_refused : {r : Refusal} → a ≡ Err r → Refused plain l (number_of r.fault) r.place × (w ≡ l.work)
   laid_refused e = subst (laid l w) e h
 
-  pub laid_rows : {s : Found} → r ≡ Rows s
+  pub laid_rows : {s : Found} → a ≡ Ok s
       → WellFormed plain l × Known false l.chain s × Lies l.chain.states (near_first l.chain (sets_of s)) l.work w
   laid_rows e = subst (laid l w) e h
 
 -- What the elimination is begun with, once the rows of a well-formed input are laid out.
-pub begun : (c : Given) (d e o w : List ℕ) (s : Found) {v : List ℕ} → WellFormed plain (lent c d e o [] w) → Known false (lent c d e o [] w).chain s
+pub begun : (c : Frame) (d e o w : List ℕ) (s : Found) {v : List ℕ} → WellFormed plain (lent c d e o [] w) → Known false (lent c d e o [] w).chain s
     → Lies c.states (near_first (lent c d e o [] w).chain (sets_of s)) w v → Begun c s d e o v
 unfolding near_stage
 begun c d e o w s {v} formed known lies =

@@ -1,21 +1,19 @@
 -- From the table of words at the end to the figures.
-use Rattle.std.proofs.Common.{◌≡◌, ℕ, ◌+◌, ◌*◌, ◌^◌, ◌<◌, ◌≤◌, Bool, true, false, eqb, List, [], ◌++◌, length, get_or, take, drop, replicate, sym, refl, ap, ◌∙◌, subst, ap₂, ⊎_elim, mul-le-mul, arith, length-take-le}
+use Rattle.std.proofs.Common.{◌≡◌, ℕ, ◌+◌, ◌*◌, ◌^◌, ◌<◌, ◌≤◌, Bool, true, false, eqb, List, [], get_or, sym, refl, ap, ◌∙◌, subst, ⊎_elim, mul-le-mul, arith}
 use Rattle.meaning.specs.Number.{bit, choose}
 use Rattle.meaning.specs.Chain.{Chain, ToGoal, FromStart, Live}
 use Rattle.meaning.specs.Row.{Row, cell}
 use Rattle.meaning.specs.Step.{row, Sets}
 use Rattle.meaning.specs.Near.{near_outside, near_stage, rows_made, Near, near, near_from, near_live, NearFigure}
 use Rattle.meaning.specs.Miss.{miss_from, miss_live, MissFigure}
-use Rattle.meaning.specs.Refusal.{Lent, work_size}
-use Rattle.meaning.specs.Outcome.{cleared}
 use Rattle.theory.specs.Numbers.Sum.{below}
 use Rattle.theory.proofs.Stages.NearDigits.{near_each}
 use Rattle.theory.proofs.Stages.NearLast.{last_goal, last_some}
-use Rattle.chain.specs.declared.Chain.{Chain as Given}
+use Rattle.chain.specs.declared.Chain.{Chain as Frame}
 use Rattle.chain.specs.Lent.{lent}
 use Rattle.survey.specs.Sets.{chain_of, sets_of}
 use Rattle.survey.specs.declared.Sets.{Sets as Found}
-use Rattle.elimination.specs.Table.{part_at, Kept}
+use Rattle.elimination.specs.Table.{part_at}
 use Rattle.near.specs.Word.{word, value}
 use Rattle.near.specs.Row.{value_at}
 use Rattle.near.specs.Step.{outside_at}
@@ -44,7 +42,7 @@ miss_answered T D rows = go (eqb T 0)
     go true = (refl, refl)
     go false = (refl, refl)
 
-module _ (c : Given) (s : Found) (d e o w : List ℕ) (b : Begun c s d e o w) where
+module _ (c : Frame) (s : Found) (d e o w : List ℕ) (b : Begun c s d e o w) where
   abbrev m : Chain
   m = chain_of c d e
 
@@ -141,15 +139,8 @@ module _ (c : Given) (s : Found) (d e o w : List ℕ) (b : Begun c s d e o w) wh
             MissFigure.live k b.walks.ready.right alive (let q = miss_answered (cell last (n + 1)) outside (rows_made m k o n) in told_is (miss_live m k o) miss q.0 q.1 y'),
           )
 
--- The work table once its rows are made zero.
-pub clears : (l : Lent) {v u : List ℕ} → let m = work_size l.chain.states in
-    Kept l.chain.states l.work v → m ≤ length v → u ≡ replicate (length (take m v)) 0 → u ++ drop m v ≡ cleared l
-clears l {v} {u} k h e =
-    let m = work_size l.chain.states in
-    ap₂ (λ (x y : List ℕ). x ++ y) (e ∙ ap (λ z. replicate z 0) (length-take-le m v h)) k.past
-
 -- A figure does not ask for the work table.
-module _ {c : Given} {d e o w v : List ℕ} {a : Near} where
+module _ {c : Frame} {d e o w v : List ℕ} {a : Near} where
   pub near_lent : NearFigure (lent c d e o [] w) a → NearFigure (lent c d e o [] v) a
   near_lent (NearFigure.won g q) = NearFigure.won g q
   near_lent (NearFigure.lost g q) = NearFigure.lost g q

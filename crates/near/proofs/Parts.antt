@@ -1,8 +1,8 @@
 -- Words in their parts.
-use Rattle.std.proofs.Common.{◌≡◌, ℕ, ◌+◌, ◌*◌, ◌/◌, ◌%◌, ◌^◌, ◌<◌, ◌≤◌, List, length, get_or, set, replicate, sym, refl, ap, ◌∙◌, ⊎_elim, arith, length-set, get_or-set_other, get_or-set_same}
+use Rattle.std.proofs.Common.{◌≡◌, ℕ, ◌+◌, ◌*◌, ◌/◌, ◌%◌, ◌^◌, ◌<◌, ◌≤◌, List, length, get_or, set, replicate, sym, refl, ap, ◌∙◌, ⊎_elim, arith}
 use lib.ListN.{length-replicate, get_or-eq_default}
 use lib.Pow.{low, high}
-use Rattle.theory.specs.Numbers.Sum.{same, below}
+use Rattle.theory.specs.Numbers.Sum.{below}
 use Rattle.theory.specs.Numbers.Tab.{tab_at, tab_length, get_d_zeros}
 use Rattle.meaning.specs.Number.{choose, tab_from}
 use Rattle.near.specs.Word.{word, value}
@@ -42,44 +42,6 @@ parted_none =
       small = λ i h. absurd (omega arith);
       left = λ i h l. (get_d_zeros 136 i, get_d_zeros 136 (i + 68));
     }
-
-module _ {r : List ℕ} {j : ℕ} {p : List ℕ} (P : Parted r j p) (few : length r ≤ 68) (h : j < length r) (a b : ℕ) (ea : a ≡ get_or r j 0 % 2 ^ 31)
-    (eb : b ≡ get_or r j 0 / 2 ^ 31) (sb : b < 2 ^ 33)
-  where
-    abbrev q : List ℕ
-    q = set (set p j a) (j + 68) b
-
-    here_low : get_or q j 0 ≡ a
-    here_low = get_or-set_other (set p j a) (j + 68) j b 0 (λ e. omega arith) ∙ get_or-set_same p j a 0 (omega (arith, P.len))
-
-    here_high : get_or q (j + 68) 0 ≡ b
-    here_high = get_or-set_same (set p j a) (j + 68) b 0 (omega (arith, length-set p j a, P.len))
-
-    other_low : (i : ℕ) → i < 68 → (i ≡ j → ⊥) → get_or q i 0 ≡ get_or p i 0
-    other_low i l d = get_or-set_other (set p j a) (j + 68) i b 0 (λ e. omega arith) ∙ get_or-set_other p j i a 0 d
-
-    other_high : (i : ℕ) → (i ≡ j → ⊥) → get_or q (i + 68) 0 ≡ get_or p (i + 68) 0
-    other_high i d = get_or-set_other (set p j a) (j + 68) (i + 68) b 0 (λ e. d (omega arith)) ∙ get_or-set_other p j (i + 68) a 0 (λ e. omega arith)
-
-    pub parted_more : Parted r (j + 1) q
-    parted_more =
-        record {
-          so_far = omega arith;
-          len = length-set (set p j a) (j + 68) b ∙ length-set p j a ∙ P.len;
-          first = λ i l.
-              ⊎_elim (λ (e : i ≡ j). rw e (here_low ∙ ea)) (λ (d : i ≡ j → ⊥). other_low i (omega arith) d ∙ P.first i (apart i l d)) (same i j);
-          behind = λ i l.
-              ⊎_elim (λ (e : i ≡ j). rw e (here_high ∙ eb)) (λ (d : i ≡ j → ⊥). other_high i d ∙ P.behind i (apart i l d)) (same i j);
-          small = λ i l.
-              ⊎_elim (λ (e : i ≡ j). rw e (omega (arith, here_high))) (λ (d : i ≡ j → ⊥). omega (arith, other_high i d, P.small i (apart i l d))) (same i j);
-          left = λ i l m.
-              let d : i ≡ j → ⊥ = λ e. omega arith in
-              let z = P.left i (omega arith) m in
-              (other_low i m d ∙ z.0, other_high i d ∙ z.1);
-        }
-      where
-        apart : (i : ℕ) → i < j + 1 → (i ≡ j → ⊥) → i < j
-        apart i l d = ⊎_elim (λ (x : i < j). x) (λ (x : j ≤ i). absurd (d (omega arith))) (below i j)
 
 module _ {r : List ℕ} {j : ℕ} {p : List ℕ} (P : Parted r j p) (few : length r ≤ 68) (h : length r ≤ j) where
   pub parted_parts : Parts p

@@ -87,20 +87,7 @@ summed p x q y h l k e =
     Q : ℕ
     Q = q * 2 ^ y
 
--- Products of the first digits.
-pub product_small : (a m : ℕ) → m < 2 ^ 31 → a % 2 ^ 31 * m < 2 ^ 62
-product_small a m h =
-    let k : a % 2 ^ 31 ≤ 2147483647 = omega arith in
-    let n : m ≤ 2147483647 = omega arith in
-    omega (arith, mul-le-mul k n)
-
 -- A number is kept as m and an exponent e that is given 33 too high.
-pub product_value : (a m e : ℕ) → 33 ≤ e → value a * (m * 2 ^ (e - 33)) ≡ a % 2 ^ 31 * m * 2 ^ (a / 2 ^ 31 + e - 33)
-unfolding value
-product_value a m e h =
-    let k : a / 2 ^ 31 + e - 33 ≡ a / 2 ^ 31 + (e - 33) = omega arith in
-    rw (k, pow-add 2 (a / 2 ^ 31) (e - 33)) (mul-mul-mul_comm (a % 2 ^ 31) (2 ^ (a / 2 ^ 31)) m (2 ^ (e - 33)))
-
 pub split_value : (w : ℕ) → w % 2 ^ 31 * 2 ^ (w / 2 ^ 31 + 33 - 33) ≡ value w
 unfolding value
 split_value w = let e : w / 2 ^ 31 + 33 - 33 ≡ w / 2 ^ 31 = omega arith in ap (λ z. w % 2 ^ 31 * 2 ^ z) e

@@ -9,7 +9,7 @@ use Rattle.meaning.specs.Near.{digits, near_outside, made_anew, near_removed, ne
 use Rattle.theory.specs.Numbers.Sum.{same, below, sum_ext}
 use Rattle.theory.specs.Numbers.Binary.{digits_none}
 use Rattle.theory.specs.Stages.NearStep.{no_cell, removes, anew_some, anew_none, new_is, old_is}
-use Rattle.chain.specs.declared.Chain.{Chain as Given}
+use Rattle.chain.specs.declared.Chain.{Chain as Frame}
 use Rattle.elimination.specs.Table.{part_at}
 use Rattle.elimination.proofs.Tables.{kept_same, kept_more}
 use Rattle.near.specs.Word.{word, value}
@@ -136,11 +136,11 @@ module _ (m : Chain) (k : Sets) (o : List ℕ) (a : Walkable m k o) (p : ℕ) (h
         go true e = let R = T.gone e in (removed_worded R, omega (arith, removed_rows R))
         go false e = let z = T.stays e in (subst (Worded n (suc p) t) (sym z.0) (record { rows = λ i l. stands_next p (W.rows i l) }), omega (arith, z.1))
 
-pub walked_none : {c : Given} {live : ℕ} {o w : List ℕ} → Walked c live o 0 w w 0
+pub walked_none : {c : Frame} {live : ℕ} {o w : List ℕ} → Walked c live o 0 w w 0
 unfolding rows_made
 walked_none = record { so_far = omega arith; kept = kept_same _ _; few = omega arith; worded = λ d e g a W. (W, refl) }
 
-pub walked_more : {c : Given} {live : ℕ} {o w v u : List ℕ} {p rows more : ℕ} → Walked c live o p w v rows → p < c.states
+pub walked_more : {c : Frame} {live : ℕ} {o w v u : List ℕ} {p rows more : ℕ} → Walked c live o p w v rows → p < c.states
     → Turned c.states (goes c.start live (get_or o p 0)) (get_or o p 0) v u more → Walked c live o (p + 1) w u (rows + more)
 walked_more {c} {live} {o} {w} {v} {u} {p} {rows} {more} z h T =
     record {
@@ -153,5 +153,5 @@ walked_more {c} {live} {o} {w} {v} {u} {p} {rows} {more} z h T =
           rw add-one (y.0, omega (arith, x.1, y.1));
     }
 
-pub walked_all : {c : Given} {live : ℕ} {o w v : List ℕ} {p rows : ℕ} → Walked c live o p w v rows → c.states ≤ p → Walked c live o c.states w v rows
+pub walked_all : {c : Frame} {live : ℕ} {o w v : List ℕ} {p rows : ℕ} → Walked c live o p w v rows → c.states ≤ p → Walked c live o c.states w v rows
 walked_all {c} {p = p} z h = let e : p ≡ c.states = omega (arith, z.so_far) in rw e at z

@@ -4,7 +4,7 @@ use Rattle.meaning.specs.Chain.{most_states}
 use Rattle.meaning.specs.Refusal.{work_size}
 use Rattle.meaning.specs.Near.{near_stage}
 use Rattle.chain.specs.declared.Chain.{Chain}
-use Rattle.survey.specs.declared.Sets.{Sets as Given}
+use Rattle.survey.specs.declared.Sets.{Sets}
 use Rattle.survey.specs.Sets.{chain_of, sets_of}
 use Rattle.elimination.specs.Table.{part_at}
 use Rattle.near.specs.Word.{value}
@@ -25,7 +25,7 @@ pub record Readable (n start rows : ℕ) (w : List ℕ) : Type 0 where
   pub trap_most : value_at (part_at n w start) (n + 1) ≤ value (outside_at n start w)
 
 -- The rows of a well-formed chain are laid out in w, with its own sets.
-pub record Begun (c : Chain) (s : Given) (denominators edges order w : List ℕ) : Type 0 where
+pub record Begun (c : Chain) (s : Sets) (denominators edges order w : List ℕ) : Type 0 where
   pub walks : Walkable (chain_of c denominators edges) (sets_of s) order
   pub length_order : length order ≡ c.states
   pub room : work_size c.states ≤ length w

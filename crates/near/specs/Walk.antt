@@ -4,7 +4,7 @@ use Rattle.meaning.specs.Chain.{M, Chain, denominator}
 use Rattle.meaning.specs.Step.{Sets}
 use Rattle.meaning.specs.Near.{near_stage, rows_made}
 use Rattle.theory.specs.Stages.Last.{Prepared}
-use Rattle.chain.specs.declared.Chain.{Chain as Given}
+use Rattle.chain.specs.declared.Chain.{Chain as Frame}
 use Rattle.survey.specs.Sets.{chain_of}
 use Rattle.elimination.specs.Table.{Kept}
 use Rattle.near.specs.Step.{RemovedWords}
@@ -27,7 +27,7 @@ abbrev pub sets : ℕ → ℕ → Sets
 sets good live = record { good = good; live = live }
 
 -- After p positions: where the table stood for a chain's first rows, it stands for its rows after p positions, and so many rows were made anew.
-pub record Walked (c : Given) (live : ℕ) (o : List ℕ) (p : ℕ) (w v : List ℕ) (rows : ℕ) : Type 0 where
+pub record Walked (c : Frame) (live : ℕ) (o : List ℕ) (p : ℕ) (w v : List ℕ) (rows : ℕ) : Type 0 where
   pub so_far : p ≤ c.states
   pub kept : Kept c.states w v
   pub few : rows ≤ p * c.states

@@ -3,7 +3,7 @@ ghost use Rattle.std.specs.Prelude.{◌≡◌, ◌+◌, ◌-◌, ◌*◌, ◌/�
 ghost use Rattle.meaning.specs.Near.{digits};
 ghost use Rattle.near.specs.Word.{value};
 ghost use Rattle.theory.specs.Numbers.Sure.{quotient, sure, upper_of};
-ghost use Rattle.near.specs.Answer.{Answers, Misses};
+ghost use Rattle.near.specs.Answer.{Answers, Misses, known};
 
 use crate::row::weight_digits;
 use crate::word::{FIRST, digits_of};
@@ -16,6 +16,19 @@ pub struct Between {
     pub twos: u64,
 }
 
+impl Between {
+    // The fractions of a chance that is known.
+    pub(crate) fn exactly(chance: u64) -> Between
+        ensures { result ≡ known chance }
+    {
+        Between {
+            lower: chance,
+            upper: chance,
+            twos: 0,
+        }
+    }
+}
+
 // What the entry answers: the fractions of the chance of reaching a goal, and those of the chance of missing every goal.
 #[derive(Clone, Copy)]
 pub struct Figures {
@@ -23,11 +36,8 @@ pub struct Figures {
     pub miss: Between,
 }
 
-#[derive(Clone, Copy)]
-pub enum Nearly {
-    Found(Figures),
-    Refused { number: u32, place: usize },
-}
+// All parts: 2 ^ 30.
+const ALL: u64 = 1 << 30;
 
 // A number of at most 31 digits, with zeros behind such that it has 31.
 fn full(m: u64) -> u64
@@ -50,7 +60,7 @@ fn parts(rows: u64) -> u64
     requires { rows ≤ 4096 }
     ensures { (result ≡ sure rows) × (2 ^ 29 < result) × (result < 2 ^ 30) }
 {
-    1073741822 - 2 * rows
+    ALL - 2 - 2 * rows
 }
 
 // The upper numerator.
@@ -58,7 +68,7 @@ fn above(q: u64, s: u64) -> u64
     requires { (q < 2 ^ 32) × (2 ^ 29 < s) × (s < 2 ^ 30) }
     ensures { (result ≡ upper_of q s) × (result ≤ 2 ^ 33) }
 {
-    ((q + 1) * 1073741824 + s - 1) / s
+    ((q + 1) * ALL).div_ceil(s)
 }
 
 // The upper numerator, or that of 1 where it is above 1.
@@ -66,11 +76,7 @@ fn capped(u: u64, k: u64) -> u64
     requires { u ≤ 2 ^ 33 }
     ensures { result ≡ min u (2 ^ k) }
 {
-    if 33 <= k {
-        return u;
-    }
-    let one = 1 << k;
-    if u < one { u } else { one }
+    if 33 <= k { u } else { u.min(1 << k) }
 }
 
 // The two fractions, from the Goal g and the D d of the start's last row, and how many rows were made.
@@ -81,7 +87,7 @@ pub(crate) fn bounds(g: u64, d: u64, rows: u64) -> Between
     let q = over(g, d);
     let s = parts(rows);
     let twos = 31 + weight_digits(d) - weight_digits(g);
-    let lower = q * s / 1073741824;
+    let lower = q * s / ALL;
     let upper = capped(above(q, s), twos);
     Between { lower, upper, twos }
 }
@@ -92,11 +98,8 @@ pub(crate) fn missing(t: u64, d: u64, rows: u64) -> Between
     ensures { Misses (value t) (value d) rows result }
 {
     if t == 0 {
-        return Between {
-            lower: 0,
-            upper: 0,
-            twos: 0,
-        };
+        Between::exactly(0)
+    } else {
+        bounds(t, d, rows)
     }
-    bounds(t, d, rows)
 }

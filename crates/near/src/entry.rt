@@ -4,24 +4,27 @@ ghost use Rattle.meaning.specs.Chain.{most_states};
 ghost use Rattle.meaning.specs.Refusal.{work_size};
 ghost use Rattle.meaning.specs.Near.{NearFigure, NearOutcome};
 ghost use Rattle.meaning.specs.Miss.{MissFigure, MissOutcome};
+ghost use Rattle.chain.specs.Given.{with};
 ghost use Rattle.chain.specs.Lent.{lent};
 ghost use Rattle.elimination.specs.Own.{ours, Found};
 ghost use Rattle.elimination.specs.Table.{part_at, Kept};
 ghost use Rattle.near.specs.Word.{value};
 ghost use Rattle.near.specs.Row.{value_at};
 ghost use Rattle.near.specs.Step.{outside_at};
-ghost use Rattle.near.specs.Answer.{Answers, Misses, told_between, told_near, told_miss, known_as, Proper};
+ghost use Rattle.near.specs.Answer.{Answers, Misses, told_between, told_near, told_miss, known_as};
 ghost use Rattle.near.specs.Entry.{Readable, Begun};
 
-use crate::answer::{Between, Figures, Nearly, bounds, missing};
+use crate::answer::{Between, Figures, bounds, missing};
 use crate::row::total;
 use crate::step::pivot_of;
 use crate::walk::eliminate;
 use crate::wide::Gap;
 use chain::Chain;
+use chain::given::Given;
+use chain::refusal::Refusal;
 use chain::set::holds;
-use elimination::laying::{Laid, lay};
-use elimination::work::clear;
+use elimination::laying::lay;
+use elimination::work::clear_work;
 use survey::Sets;
 
 // What is read off the start's row at the end: Goal and Trap over its D.
@@ -34,7 +37,7 @@ fn read_off(work: &[u64], n: usize, start: usize, rows: u64) -> Figures
 {
     let p = pivot_of(work, n, start);
     let m = n + Chain::BESIDE;
-    let d = total(&p[..m], Gap { from: 0, to: 0 });
+    let d = total(&p[..m], Gap::NONE);
     let chance = bounds(p[n], d, rows);
     let miss = missing(p[n + 1], d, rows);
     Figures { chance, miss }
@@ -45,16 +48,8 @@ fn known(goal: u64, miss: u64) -> Figures
     ensures { result ≡ known_as goal miss }
 {
     Figures {
-        chance: Between {
-            lower: goal,
-            upper: goal,
-            twos: 0,
-        },
-        miss: Between {
-            lower: miss,
-            upper: miss,
-            twos: 0,
-        },
+        chance: Between::exactly(goal),
+        miss: Between::exactly(miss),
     }
 }
 
@@ -78,36 +73,22 @@ fn follow(c: Chain, sets: Sets, order: &[u64], work: &mut [u64]) -> Figures
 }
 
 // The chance of reaching a goal, and that of missing every goal, each between two fractions that are near each other in proportion.
-pub fn near(
-    c: Chain,
-    denominators: &[u64],
-    edges: &[u64],
-    order: &[u64],
-    work: &mut [u64],
-) -> Nearly
-    ensures { let l = lent c denominators.now edges.now order.now [] work.old in
-        NearOutcome l (told_near result) work.new × MissOutcome l (told_miss result) work.new × Proper result }
+pub fn near(g: &Given, order: &[u64], work: &mut [u64]) -> Result<Figures, Refusal>
+    ensures { let l = with g.now order.now [] work.old in
+        NearOutcome l (told_near result) work.new × MissOutcome l (told_miss result) work.new }
 {
-    match lay(c, denominators, edges, order, work) {
-        Laid::Refused { number, place } => Nearly::Refused { number, place },
-        Laid::Rows(sets) => {
-            let found = follow(c, sets, order, work);
-            let n = c.states;
-            let m = n * (n + Chain::BESIDE);
-            clear(&mut work[..m]);
-            Nearly::Found(found)
-        }
-    }
+    let sets = lay(g, order, work)?;
+    let found = follow(g.chain, sets, order, work);
+    clear_work(work, g.chain.states);
+    Ok(found)
 }
 
 // The same with a work table of its own, which is not made zero at the end.
-pub fn near_unlent(c: Chain, denominators: &[u64], edges: &[u64], order: &[u64]) -> Nearly
-    ensures { let l = ours c denominators.now edges.now order.now [] in
-        Found (NearOutcome l) (told_near result) × Found (MissOutcome l) (told_miss result) × Proper result }
+pub fn near_unlent(g: &Given, order: &[u64]) -> Result<Figures, Refusal>
+    ensures { let l = ours g.now.chain g.now.denominators.now g.now.edges.now order.now [] in
+        Found (NearOutcome l) (told_near result) × Found (MissOutcome l) (told_miss result) }
 {
     let mut work = [0u64; Chain::WORK];
-    match lay(c, denominators, edges, order, &mut work) {
-        Laid::Refused { number, place } => Nearly::Refused { number, place },
-        Laid::Rows(sets) => Nearly::Found(follow(c, sets, order, &mut work)),
-    }
+    let sets = lay(g, order, &mut work)?;
+    Ok(follow(g.chain, sets, order, &mut work))
 }

@@ -10,7 +10,7 @@ use crate::wide::Gap;
 use crate::word::{FIRST, packed, part, reach};
 use chain::Chain;
 
-// One more than any word leaves out.
+// The exponent of 0, which may be divided by any power of two: above that of each other word, so that `min` needs no case for it.
 const NONE: u64 = 1 << 33;
 
 // How many digits a weight has.
@@ -34,13 +34,8 @@ fn most_on(row: &[u64], m: u64, from: usize, to: usize) -> u64
     ensures { (result ≡ longest (value_at row.now) to) × (result < 2 ^ 34) }
 {
     let mut most = m;
-    let mut j = from;
-    while j < to {
-        let n = weight_digits(row[j]);
-        if most < n {
-            most = n;
-        }
-        j += 1;
+    for j in from..to {
+        most = most.max(weight_digits(row[j]));
     }
     most
 }
@@ -61,10 +56,8 @@ fn added_on(row: &[u64], k: u64, t: u64, from: usize, to: usize) -> u64
     ensures { (result ≡ sum_to (λ (j : ℕ). value_at row.now j / 2 ^ k) to) × (result ≤ to * 2 ^ 56) }
 {
     let mut sum = t;
-    let mut j = from;
-    while j < to {
+    for j in from..to {
         sum += cut(row[j], k);
-        j += 1;
     }
     sum
 }
@@ -79,23 +72,16 @@ fn added(row: &[u64], k: u64, gap: Gap) -> u64
     added_on(row, k, t, gap.to, row.len())
 }
 
-// How many digits are left out where 56 are kept.
-fn past(m: u64) -> u64
-    ensures { result ≡ m - 56 }
-{
-    if m < 56 { 0 } else { m - 56 }
-}
-
 // The word of the sum of the weights of a row, each cut where the largest keeps 56 digits.
 pub(crate) fn total(row: &[u64], gap: Gap) -> u64
     requires { (length row.now ≤ 128) × Within gap (length row.now) × Empty gap row.now }
     ensures { result ≡ word (cut_sum (value_at row.now) (length row.now)) }
 {
-    let k = past(most(row, gap));
+    let k = most(row, gap).saturating_sub(56);
     packed(added(row, k, gap), k)
 }
 
-// A word's exponent; for 0 one more than any word has.
+// A word's exponent: how many digits it leaves out.
 fn exponent_of(w: u64) -> u64
     ensures { result ≡ exponent w }
 {
@@ -108,13 +94,8 @@ fn least_on(row: &[u64], k: u64, from: usize, to: usize) -> u64
     ensures { result ≡ least_exponent (λ (j : ℕ). slice_index row.now j) to }
 {
     let mut least = k;
-    let mut j = from;
-    while j < to {
-        let e = exponent_of(row[j]);
-        if e < least {
-            least = e;
-        }
-        j += 1;
+    for j in from..to {
+        least = least.min(exponent_of(row[j]));
     }
     least
 }
@@ -143,10 +124,8 @@ fn lower_on(row: &mut [u64], k: u64, from: usize, to: usize)
     ensures { let l = row.old in
         Spanned (λ (j : ℕ). less_by k (slice_index l j)) from to l row.new }
 {
-    let mut j = from;
-    while j < to {
+    for j in from..to {
         row[j] = less(row[j], k);
-        j += 1;
     }
 }
 
@@ -177,13 +156,9 @@ pub(crate) fn parts(row: &[u64]) -> [u64; 2 * Chain::WIDTH]
     ensures { Parts result × ((j : ℕ) → slice_index (joined result) j ≡ slice_index row.now j) }
 {
     let mut p = [0u64; 2 * Chain::WIDTH];
-    let mut j = 0;
-    while j < row.len() {
-        let w = row[j];
-        let e = left_out(w);
-        p[j] = w % FIRST;
-        p[j + Chain::WIDTH] = e;
-        j += 1;
+    for (j, w) in row.iter().enumerate() {
+        p[j] = *w % FIRST;
+        p[j + Chain::WIDTH] = left_out(*w);
     }
     p
 }

@@ -13,75 +13,76 @@ ghost use Rattle.near.specs.Step.{leads_to, renewed_words, RenewedOn, RemovedBy,
 use crate::row::{parts, settle, total};
 use crate::wide::{Gap, replace};
 use chain::Chain;
-use elimination::work::clear;
+use elimination::part::load;
+use elimination::work::{clear, row_start};
 
-// A row once s is removed, which is not that of s. Answers how many rows are made anew, 1 or 0.
-fn renew(part: &mut [u64], s: usize, d: u64, pivot: &[u64], gap: Gap) -> u64
-    requires shape { (length part.old ≤ 68) × (s < length part.old) × Within gap (length part.old) × Parts pivot.now }
-    requires gap_empty { Empty gap (slice_set part.old s 0) × Empty gap (joined pivot.now) }
-    ensures { let z = part.old in
-        (part.new ≡ renewed_words s d (joined pivot.now) z) × (result ≡ only (leads_to s z) 1) × (result ≤ 1) }
-{
-    if part[s] == 0 {
-        return 0;
+// What is removed: the state s, the D of its row, a copy of the row in its parts, without its weight to itself, and the gap at its turn.
+#[derive(Clone, Copy)]
+pub(crate) struct Removal<'a> {
+    pub(crate) s: usize,
+    pub(crate) d: u64,
+    pub(crate) pivot: &'a [u64],
+    pub(crate) gap: Gap,
+}
+
+impl Removal<'_> {
+    // Renews a row, which is not that of s. Answers how many rows are made anew, 1 or 0.
+    fn renew(&self, part: &mut [u64]) -> u64
+        requires shape { let r = self.now in
+            (length part.old ≤ 68) × (r.s < length part.old) × Within r.gap (length part.old) × Parts r.pivot.now }
+        requires gap_empty { let r = self.now in Empty r.gap (slice_set part.old r.s 0) × Empty r.gap (joined r.pivot.now) }
+        ensures { let z = part.old in
+            let r = self.now in
+            (part.new ≡ renewed_words r.s r.d (joined r.pivot.now) z) × (result ≡ only (leads_to r.s z) 1) × (result ≤ 1) }
+    {
+        if part[self.s] == 0 {
+            return 0;
+        }
+        replace(part, self);
+        1
     }
-    replace(part, pivot, s, d, gap);
-    1
-}
 
-// Where row i of the table begins. It ends within the table.
-pub(crate) fn row_start(n: usize, i: usize) -> usize
-    requires { (i < n) × (n ≤ most_states) }
-    ensures { (result ≡ i * width n) × (result + width n ≤ work_size n) }
-{
-    i * (n + Chain::BESIDE)
-}
-
-// Renews row i of the table. The rest of the work table is as it was.
-fn renew_row(work: &mut [u64], i: usize, n: usize, s: usize, d: u64, pivot: &[u64], gap: Gap) -> u64
-    requires few_states { (n ≤ most_states) × (work_size n ≤ length work.old) × (i < n) × (s < n) × Parts pivot.now }
-    requires within { Within gap n × Empty gap (slice_set (part_at n work.old i) s 0) × Empty gap (joined pivot.now) }
-    ensures { let w = work.old in
-        let z = part_at n w i in
-        Changed n w i (renewed_words s d (joined pivot.now) z) work.new × (result ≡ only (leads_to s z) 1) × (result ≤ 1) }
-{
-    let a = row_start(n, i);
-    let e = a + n + Chain::BESIDE;
-    renew(&mut work[a..e], s, d, pivot, gap)
-}
-
-// Renews the rows from `from` to before `to`, and answers how many were made anew.
-fn renew_on(
-    work: &mut [u64],
-    n: usize,
-    s: usize,
-    d: u64,
-    pivot: &[u64],
-    gap: Gap,
-    from: usize,
-    to: usize,
-) -> u64
-    requires few_states { (n ≤ most_states) × (work_size n ≤ length work.old) × (s < n) × Parts pivot.now × (from ≤ to) × (to ≤ n) }
-    requires within { Within gap n × ((i : ℕ) → from ≤ i → i < to → Empty gap (slice_set (part_at n work.old i) s 0)) × Empty gap (joined pivot.now) }
-    ensures { RenewedOn n s d (joined pivot.now) from to work.old work.new result }
-{
-    let mut rows = 0;
-    let mut i = from;
-    while i < to {
-        rows += renew_row(work, i, n, s, d, pivot, gap);
-        i += 1;
+    // Renews row i of the table. The rest of the work table is as it was.
+    fn renew_row(&self, work: &mut [u64], n: usize, i: usize) -> u64
+        requires few_states { let r = self.now in
+            (n ≤ most_states) × (work_size n ≤ length work.old) × (i < n) × (r.s < n) × Parts r.pivot.now }
+        requires within { let r = self.now in
+            Within r.gap n × Empty r.gap (slice_set (part_at n work.old i) r.s 0) × Empty r.gap (joined r.pivot.now) }
+        ensures { let w = work.old in
+            let r = self.now in
+            let z = part_at n w i in
+            Changed n w i (renewed_words r.s r.d (joined r.pivot.now) z) work.new × (result ≡ only (leads_to r.s z) 1) × (result ≤ 1) }
+    {
+        let a = row_start(n, i);
+        let e = a + n + Chain::BESIDE;
+        self.renew(&mut work[a..e])
     }
-    rows
-}
 
-// Renews the rows of the table, and answers how many were made anew. Those of states that are gone have no weight, and stay.
-fn renew_all(work: &mut [u64], n: usize, s: usize, d: u64, pivot: &[u64], gap: Gap) -> u64
-    requires few_states { (n ≤ most_states) × (work_size n ≤ length work.old) × (s < n) × Parts pivot.now }
-    requires cleared { Cleared n s gap work.old × Empty gap (joined pivot.now) }
-    ensures { RenewedOn n s d (joined pivot.now) 0 n work.old work.new result }
-{
-    let rows = renew_on(work, n, s, d, pivot, gap, 0, gap.from);
-    rows + renew_on(work, n, s, d, pivot, gap, gap.to, n)
+    // Renews the rows from `from` to before `to`, and answers how many were made anew.
+    fn renew_on(&self, work: &mut [u64], n: usize, from: usize, to: usize) -> u64
+        requires few_states { let r = self.now in
+            (n ≤ most_states) × (work_size n ≤ length work.old) × (r.s < n) × Parts r.pivot.now × (from ≤ to) × (to ≤ n) }
+        requires within { let r = self.now in
+            Within r.gap n × ((i : ℕ) → from ≤ i → i < to → Empty r.gap (slice_set (part_at n work.old i) r.s 0)) × Empty r.gap (joined r.pivot.now) }
+        ensures { let r = self.now in RenewedOn n r.s r.d (joined r.pivot.now) from to work.old work.new result }
+    {
+        let mut rows = 0;
+        for i in from..to {
+            rows += self.renew_row(work, n, i);
+        }
+        rows
+    }
+
+    // Renews the rows of the table, and answers how many were made anew. Those of states that are gone have no weight, and stay.
+    fn renew_all(&self, work: &mut [u64], n: usize) -> u64
+        requires few_states { let r = self.now in
+            (n ≤ most_states) × (work_size n ≤ length work.old) × (r.s < n) × Parts r.pivot.now }
+        requires cleared { let r = self.now in Cleared n r.s r.gap work.old × Empty r.gap (joined r.pivot.now) }
+        ensures { let r = self.now in RenewedOn n r.s r.d (joined r.pivot.now) 0 n work.old work.new result }
+    {
+        let rows = self.renew_on(work, n, 0, self.gap.from);
+        rows + self.renew_on(work, n, self.gap.to, n)
+    }
 }
 
 // A copy of the row of s, without its weight to itself.
@@ -89,12 +90,7 @@ fn pivot(part: &[u64], s: usize) -> [u64; Chain::WIDTH]
     requires { (length part.now ≤ width most_states) × (s < length part.now) }
     ensures { (length result ≡ width most_states) × ((j : ℕ) → slice_index result j ≡ slice_index (slice_set part.now s 0) j) }
 {
-    let mut p = [0u64; Chain::WIDTH];
-    let mut j = 0;
-    while j < part.len() {
-        p[j] = part[j];
-        j += 1;
-    }
+    let mut p = load(part);
     p[s] = 0;
     p
 }
@@ -130,7 +126,13 @@ fn remove_by(work: &mut [u64], n: usize, s: usize, pivot: &mut [u64], gap: Gap) 
     let d = total(pivot, gap);
     let p = parts(pivot);
     clear_row(work, n, s);
-    renew_all(work, n, s, d, &p, gap)
+    let by = Removal {
+        s,
+        d,
+        pivot: &p,
+        gap,
+    };
+    by.renew_all(work, n)
 }
 
 // Removes the state s from the table, and answers how many rows were made anew.

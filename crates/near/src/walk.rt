@@ -15,10 +15,7 @@ use chain::set::holds;
 fn goes(s: usize, start: usize, live: u64) -> bool
     ensures { result ≡ goes start live s }
 {
-    if s == start {
-        return false;
-    }
-    holds(live, s)
+    s != start && holds(live, s)
 }
 
 // The gap with the column of s, where it can be one with it.
@@ -27,15 +24,12 @@ fn widened(gap: Gap, s: usize) -> Gap
     ensures { Widened gap s result }
 {
     if gap.from == gap.to {
-        return Gap { from: s, to: s + 1 };
+        Gap { from: s, to: s + 1 }
+    } else if s == gap.to {
+        Gap { to: s + 1, ..gap }
+    } else {
+        gap
     }
-    if s == gap.to {
-        return Gap {
-            from: gap.from,
-            to: s + 1,
-        };
-    }
-    gap
 }
 
 // The gap at the turn of s, which goes or does not.
@@ -43,10 +37,7 @@ fn gap_at(gap: Gap, s: usize, go: bool) -> Gap
     requires { s < most_states }
     ensures { (go ≡ true → Widened gap s result) × (go ≡ false → result ≡ gap) }
 {
-    if go {
-        return widened(gap, s);
-    }
-    gap
+    if go { widened(gap, s) } else { gap }
 }
 
 // The turn of the state s. Answers how many rows were made anew.
@@ -55,9 +46,10 @@ fn turn(work: &mut [u64], c: Chain, live: u64, s: usize, gap: Gap) -> u64
     ensures { Turned c.states (goes c.start live s) s work.old work.new result }
 {
     if goes(s, c.start, live) {
-        return remove(work, c.states, s, gap);
+        remove(work, c.states, s, gap)
+    } else {
+        0
     }
-    0
 }
 
 // Takes the states in their order, and answers how many rows were made anew.
@@ -66,15 +58,12 @@ pub(crate) fn eliminate(work: &mut [u64], c: Chain, live: u64, order: &[u64]) ->
     requires order_fits { (p : ℕ) → p < c.states → slice_index order.now p < c.states }
     ensures { Walked c live order.now c.states work.old work.new result }
 {
-    let n = c.states;
     let mut rows = 0;
-    let mut gap = Gap { from: 0, to: 0 };
-    let mut p = 0;
-    while p < n {
-        let s = order[p] as usize;
+    let mut gap = Gap::NONE;
+    for s in order {
+        let s = *s as usize;
         gap = gap_at(gap, s, goes(s, c.start, live));
         rows += turn(work, c, live, s, gap);
-        p += 1;
     }
     rows
 }

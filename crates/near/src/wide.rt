@@ -5,7 +5,8 @@ ghost use Rattle.near.specs.Split.{Small, value_of};
 ghost use Rattle.near.specs.Row.{value_at, replaced_words, Parts, joined};
 ghost use Rattle.near.specs.Gap.{Spanned, Empty, Within};
 
-use crate::word::{Split, lone, mix, split_of};
+use crate::step::Removal;
+use crate::word::{Split, lone, mix};
 use chain::Chain;
 
 // The columns from `from` to before `to`: of states that are gone, so that no row has a weight there.
@@ -13,6 +14,11 @@ use chain::Chain;
 pub(crate) struct Gap {
     pub(crate) from: usize,
     pub(crate) to: usize,
+}
+
+impl Gap {
+    // No column.
+    pub(crate) const NONE: Gap = Gap { from: 0, to: 0 };
 }
 
 // The word of the sum of two products, with no work where nothing is there.
@@ -35,24 +41,23 @@ fn blend(row: &mut [u64], pivot: &[u64], d: u64, w: u64, from: usize, to: usize)
     ensures { let l = row.old in
         Spanned (λ (j : ℕ). word (value_at l j * value d + value w * value_at (joined pivot.now) j)) from to l row.new }
 {
-    let by = split_of(d);
-    let weight = split_of(w);
-    let mut j = from;
-    while j < to {
+    let by = Split::of(d);
+    let weight = Split::of(w);
+    for j in from..to {
         row[j] = cell(row[j], by, pivot[j], pivot[j + Chain::WIDTH], weight);
-        j += 1;
     }
 }
 
-// A row once state s is removed: pivot is a copy of its row in its parts, without its weight to itself, and d its D. Nothing stands in the gap but the weight to s.
-pub(crate) fn replace(row: &mut [u64], pivot: &[u64], s: usize, d: u64, gap: Gap)
-    requires shape { (length row.old ≤ 68) × (s < length row.old) × Within gap (length row.old) × Parts pivot.now }
-    requires gap_empty { Empty gap (slice_set row.old s 0) × Empty gap (joined pivot.now) }
-    ensures { row.new ≡ replaced_words s d (joined pivot.now) row.old }
+// A row once a state is removed. Nothing stands in the gap but the weight to the state.
+pub(crate) fn replace(row: &mut [u64], by: &Removal)
+    requires shape { let r = by.now in
+        (length row.old ≤ 68) × (r.s < length row.old) × Within r.gap (length row.old) × Parts r.pivot.now }
+    requires gap_empty { let r = by.now in Empty r.gap (slice_set row.old r.s 0) × Empty r.gap (joined r.pivot.now) }
+    ensures { let r = by.now in row.new ≡ replaced_words r.s r.d (joined r.pivot.now) row.old }
 {
-    let w = row[s];
-    row[s] = 0;
+    let w = row[by.s];
+    row[by.s] = 0;
     let m = row.len();
-    blend(row, pivot, d, w, 0, gap.from);
-    blend(row, pivot, d, w, gap.to, m);
+    blend(row, by.pivot, by.d, w, 0, by.gap.from);
+    blend(row, by.pivot, by.d, w, by.gap.to, m);
 }

@@ -2,9 +2,7 @@
 ghost use Rattle.std.specs.Prelude.{◌≡◌, ◌+◌, ◌-◌, ◌*◌, ◌/◌, ◌%◌, ◌^◌, ◌<◌, ◌≤◌, max, ◌⊎◌};
 ghost use Rattle.meaning.specs.Near.{digits};
 ghost use Rattle.near.specs.Word.{word, value};
-ghost use Rattle.near.specs.Split.{Small, value_of};
-
-use std::num::wrapping_sub_u64;
+ghost use Rattle.near.specs.Split.{Small, Summand, value_of};
 
 // Above all that a word's first digits can be: 2 ^ 31.
 pub(crate) const FIRST: u64 = 1 << 31;
@@ -12,11 +10,35 @@ pub(crate) const FIRST: u64 = 1 << 31;
 // The least number that has 31 digits.
 const LONG: u64 = 1 << 30;
 
+// A number in two parts: its first digits, and how many follow them, 33 too high. So are the two parts of a word, and the product of two of them.
+#[derive(Clone, Copy)]
+pub(crate) struct Split {
+    first: u64,
+    behind: u64,
+}
+
+impl Split {
+    const ZERO: Split = Split {
+        first: 0,
+        behind: 33,
+    };
+
+    // A word in its two parts.
+    pub(crate) fn of(w: u64) -> Split
+        ensures { (value_of result ≡ value w) × Small result }
+    {
+        Split {
+            first: w % FIRST,
+            behind: (w >> 31) + 33,
+        }
+    }
+}
+
 // How many binary digits a number has.
 pub(crate) fn digits_of(p: u64) -> u64
     ensures { (result ≡ digits p) × (result ≤ 64) }
 {
-    64 - u64::leading_zeros(p) as u64
+    64 - u64::from(p.leading_zeros())
 }
 
 // How many binary digits p * 2 ^ x has.
@@ -27,16 +49,14 @@ pub(crate) fn reach(p: u64, x: u64) -> u64
     if p == 0 { 0 } else { x + digits_of(p) }
 }
 
-// How many digits two numbers are cut by such that the larger keeps 62. It is given 33 too high, as x and y are.
-fn cut_at(p: u64, x: u64, q: u64, y: u64) -> u64
-    requires { (33 ≤ x) × (x < 2 ^ 35) × (33 ≤ y) × (y < 2 ^ 35) }
-    ensures { (result ≡ max (digits (p * 2 ^ (x - 33))) (digits (q * 2 ^ (y - 33))) - 62 + 33) × (result < 2 ^ 36)
-        × (digits (p * 2 ^ x) ≤ result + 62) × (digits (q * 2 ^ y) ≤ result + 62) }
+// How many digits two numbers are cut by such that the larger keeps 62. It is given 33 too high, as theirs are.
+fn cut_at(a: Split, b: Split) -> u64
+    requires { Summand a × Summand b }
+    ensures { (result ≡ max (digits (value_of a)) (digits (value_of b)) - 62 + 33) × (result < 2 ^ 36)
+        × (digits (a.first * 2 ^ a.behind) ≤ result + 62) × (digits (b.first * 2 ^ b.behind) ≤ result + 62) }
 {
-    let a = reach(p, x);
-    let b = reach(q, y);
-    let m = if a < b { b } else { a };
-    if m < 95 { 33 } else { m - 62 }
+    let most = reach(a.first, a.behind).max(reach(b.first, b.behind));
+    most.max(95) - 62
 }
 
 // p * 2 ^ x without its last k digits.
@@ -67,81 +87,67 @@ pub(crate) fn packed(s: u64, k: u64) -> u64
     ((k + c) << 31) + (s >> c)
 }
 
-// The word of p * 2 ^ x + q * 2 ^ y, where x and y are given 33 too high, whatever the two are: each is cut such that the larger keeps 62 digits.
-fn sum_cut(p: u64, x: u64, q: u64, y: u64) -> u64
-    requires { (p < 2 ^ 62) × (33 ≤ x) × (x < 2 ^ 35) × (q < 2 ^ 62) × (33 ≤ y) × (y < 2 ^ 35) }
-    ensures { result ≡ word (p * 2 ^ (x - 33) + q * 2 ^ (y - 33)) }
+// The word of a sum, whatever the two numbers are: each is cut such that the larger keeps 62 digits.
+fn sum_cut(a: Split, b: Split) -> u64
+    requires { Summand a × Summand b }
+    ensures { result ≡ word (value_of a + value_of b) }
 {
-    let k = cut_at(p, x, q, y);
-    packed(part(p, x, k) + part(q, y, k), k - 33)
+    let k = cut_at(a, b);
+    packed(
+        part(a.first, a.behind, k) + part(b.first, b.behind, k),
+        k - 33,
+    )
 }
 
 // The same, where the sum may have few digits: mostly it is that of first weights, which leave out none.
-fn sum_short(p: u64, x: u64, q: u64, y: u64) -> u64
-    requires { (p < 2 ^ 62) × (33 ≤ x) × (x < 2 ^ 35) × (q < 2 ^ 62) × (33 ≤ y) × (y < 2 ^ 35) }
-    ensures { result ≡ word (p * 2 ^ (x - 33) + q * 2 ^ (y - 33)) }
+fn sum_short(a: Split, b: Split) -> u64
+    requires { Summand a × Summand b }
+    ensures { result ≡ word (value_of a + value_of b) }
 {
-    if x + y == 66 {
-        return packed(p + q, 0);
+    if a.behind + b.behind == 66 {
+        return packed(a.first + b.first, 0);
     }
-    sum_cut(p, x, q, y)
+    sum_cut(a, b)
 }
 
-// The word of s * 2 ^ k, where s has 31 digits or more; k is given 33 too high, which is what its digits are shifted by.
-fn packed_long(s: u64, k: u64) -> u64
-    requires { (33 ≤ k) × (k < 2 ^ 36) × (31 ≤ digits s) }
-    ensures { result ≡ word (s * 2 ^ (k - 33)) }
+// The word of a number whose first part has 31 digits or more. They are moved up to be 64 and then down by 33, so that 31 stay; `behind` has the 33.
+fn packed_long(s: Split) -> u64
+    requires { (33 ≤ s.behind) × (s.behind < 2 ^ 36) × (31 ≤ digits s.first) }
+    ensures { result ≡ word (value_of s) }
 {
-    let z = 64 - digits_of(s);
-    ((k - z) << 31) + ((s << z) >> 33)
+    let z = 64 - digits_of(s.first);
+    ((s.behind - z) << 31) + ((s.first << z) >> 33)
 }
 
-// The same. Mostly x is no less than y: without its last x digits the sum is p and what is left of q then, and mostly has its 31 digits.
-fn sum(p: u64, x: u64, q: u64, y: u64) -> u64
-    requires { (p < 2 ^ 62) × (33 ≤ x) × (x < 2 ^ 35) × (q < 2 ^ 62) × (33 ≤ y) × (y < 2 ^ 35) }
-    ensures { result ≡ word (p * 2 ^ (x - 33) + q * 2 ^ (y - 33)) }
+// The word of a sum. Mostly the first number leaves out no less than the second: without so many last digits the sum is its first part and what is
+// left of the second then, and mostly has its 31 digits.
+fn sum(a: Split, b: Split) -> u64
+    requires { Summand a × Summand b }
+    ensures { result ≡ word (value_of a + value_of b) }
 {
-    let c = wrapping_sub_u64(x, y);
+    let c = a.behind.wrapping_sub(b.behind);
     if 64 <= c {
-        return sum_short(p, x, q, y);
+        return sum_short(a, b);
     }
-    let s = p + (q >> c);
-    if s < LONG {
-        return sum_short(p, x, q, y);
+    let first = a.first + (b.first >> c);
+    if first < LONG {
+        return sum_short(a, b);
     }
-    packed_long(s, x)
+    packed_long(Split {
+        first,
+        behind: a.behind,
+    })
 }
 
-// A word in two parts: its first digits, and how many it leaves out, 33 too high.
-#[derive(Clone, Copy)]
-pub(crate) struct Split {
-    pub(crate) first: u64,
-    pub(crate) behind: u64,
-}
-
-pub(crate) fn split_of(w: u64) -> Split
-    ensures { (value_of result ≡ value w) × Small result }
+// The product of p * 2 ^ y and a word.
+fn times(p: u64, y: u64, w: Split) -> Split
+    requires { (p < 2 ^ 31) × (y < 2 ^ 33) × Small w }
+    ensures { (value_of result ≡ value_of w * (p * 2 ^ y)) × Summand result }
 {
     Split {
-        first: w % FIRST,
-        behind: (w >> 31) + 33,
+        first: p * w.first,
+        behind: y + w.behind,
     }
-}
-
-// The product of the first digits of a word and those of another.
-fn product(a: u64, m: u64) -> u64
-    requires { m < 2 ^ 31 }
-    ensures { (result ≡ a % 2 ^ 31 * m) × (result < 2 ^ 62) }
-{
-    (a % FIRST) * m
-}
-
-// The product of the first digits of two weights.
-fn times(p: u64, m: u64) -> u64
-    requires { (p < 2 ^ 31) × (m < 2 ^ 31) }
-    ensures { (result ≡ p * m) × (result < 2 ^ 62) }
-{
-    p * m
 }
 
 // The word of one product, of p * 2 ^ y and w.
@@ -149,12 +155,11 @@ pub(crate) fn lone(p: u64, y: u64, w: Split) -> u64
     requires { (p < 2 ^ 31) × (y < 2 ^ 33) × Small w }
     ensures { result ≡ word (value_of w * (p * 2 ^ y)) }
 {
-    let s = times(p, w.first);
-    let f = y + w.behind;
-    if s < LONG {
-        return sum_cut(s, f, 0, 33);
+    let s = times(p, y, w);
+    if s.first < LONG {
+        return sum_cut(s, Split::ZERO);
     }
-    packed_long(s, f)
+    packed_long(s)
 }
 
 // The word of the sum of two products: of the word x and d, and of p * 2 ^ y and w.
@@ -162,7 +167,5 @@ pub(crate) fn mix(x: u64, d: Split, p: u64, y: u64, w: Split) -> u64
     requires { Small d × (p < 2 ^ 31) × (y < 2 ^ 33) × Small w }
     ensures { result ≡ word (value x * value_of d + value_of w * (p * 2 ^ y)) }
 {
-    let e = (x >> 31) + d.behind;
-    let f = y + w.behind;
-    sum(product(x, d.first), e, times(p, w.first), f)
+    sum(times(x % FIRST, x >> 31, d), times(p, y, w))
 }

@@ -1,61 +1,35 @@
 // Near chances of the chain in a file, from its own start or from another state.
 #![tactic(auto)]
 
-ghost use Rattle.std.specs.Prelude.{◌≡◌};
-ghost use Rattle.meaning.specs.Block.{Input};
 ghost use Rattle.meaning.specs.FileNear.{FileNear};
 ghost use Rattle.chainfile.specs.Input.{input};
-ghost use Rattle.opening.specs.Book.{Opened};
-ghost use Rattle.near.specs.Answer.{told_near, told_miss, Proper};
-ghost use Rattle.nearfile.specs.From.{from_of, start_of};
+ghost use Rattle.near.specs.Answer.{told_near, told_miss};
+ghost use Rattle.nearfile.specs.From.{from_of, NearFrom};
 
 use chain::Chain;
-use near::answer::Nearly;
+use chain::given::Given;
+use chain::refusal::Refusal;
+use near::answer::Figures;
 use near::entry::near_unlent;
-use opening::Opening;
-
-// Where the chance is asked from: the file's own start, or a number that takes its place, whether it is a state or not.
-#[derive(Clone, Copy)]
-pub enum From {
-    Start,
-    State(u64),
-}
-
-fn start(from: From, own: usize) -> usize
-    ensures { result ≡ start_of from own }
-{
-    match from {
-        From::Start => own,
-        From::State(i) => i as usize,
-    }
-}
+use opening::Opened;
 
 // The near chances of an opened file.
-fn near_of(opened: Opening, table: &[u64], from: From) -> Nearly
-    ensures { (f : Input) → Opened f opened table.now → FileNear f (from_of from) (told_near result) (told_miss result) × Proper result }
+fn near_of(opened: &Opened, from: Option<u64>) -> Result<Figures, Refusal>
+    ensures { NearFrom opened.now from result }
 {
-    match opened {
-        Opening::Refused { number, place } => Nearly::Refused { number, place },
-        Opening::Chain(book) => {
-            let chain = book.chain;
-            let c = Chain::new(chain.states, start(from, chain.start), chain.goals);
-            let denominators = opening::denominators(table, book);
-            let edges = opening::edges(table, book);
-            near_unlent(c, denominators, edges, opening::order(table, book))
-        }
-    }
+    let given = opened.given;
+    let own = given.chain;
+    let chain = Chain {
+        start: from.map_or(own.start, |i| i as usize),
+        ..own
+    };
+    near_unlent(&Given { chain, ..given }, opened.order)
 }
 
-// Those of the chain file of which `kept` holds the first bytes and `more` counts the others. Its tables lie in a frame of its own, so that a caller
-// who asks something else too does not hold both.
-#[inline(never)]
-pub fn near(kept: &[u8], more: u64, from: From) -> Nearly
-    ensures { FileNear (input kept.now more) (from_of from) (told_near result) (told_miss result) × Proper result }
+// Those of the chain file of which `kept` holds the first bytes and `more` counts the others. They are asked from the file's own start, or from a
+// number that takes its place, whether it is a state or not.
+pub fn near(kept: &[u8], more: u64, from: Option<u64>) -> Result<Figures, Refusal>
+    ensures { FileNear (input kept.now more) (from_of from) (told_near result) (told_miss result) }
 {
-    if opening::long(kept, more) {
-        let mut table = [0u64; opening::LARGEST];
-        return near_of(opening::of(kept, more, &mut table), &table, from);
-    }
-    let mut table = [0u64; opening::SMALL];
-    near_of(opening::of(kept, more, &mut table), &table, from)
+    opening::with(kept, more, &mut |opened| near_of(opened, from))
 }

@@ -1,8 +1,7 @@
 // Reads a chain file on standard input and prints its report.
 #![tactic(auto)]
 
-use input::Reading;
-use report::{Printed, report};
+use report::report;
 
 fn main(rt: HostRuntime) {
     if input::words(&rt) != 0 {
@@ -14,15 +13,15 @@ fn main(rt: HostRuntime) {
     }
     let mut kept = [0u8; chainfile::LONGEST];
     let came = match input::read(&mut rt.stdin(), &mut kept) {
-        Reading::Came(came) => came,
-        Reading::Failed(why) => {
+        Ok(came) => came,
+        Err(why) => {
             output::fail(&mut rt.stderr(), b"nightchance: standard input", why);
             return;
         }
     };
     let length = came.length;
     let mut buffer = [0u8; report::REPORT_ROOM];
-    if let Printed::Length(n) = report(&kept[..length], came.more, &mut buffer) {
+    if let Ok(n) = report(&kept[..length], came.more, &mut buffer) {
         output::print(
             &mut rt.stdout(),
             &mut rt.stderr(),

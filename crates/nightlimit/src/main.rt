@@ -1,9 +1,7 @@
 // Takes the word LIMIT, reads a chain file on standard input, and prints whether its chance is within the limit.
 #![tactic(auto)]
 
-use input::Reading;
 use limit::Limit;
-use report::Printed;
 use std::io::{Read, Write};
 
 fn usage(people: &mut impl Write) {
@@ -15,7 +13,7 @@ fn usage(people: &mut impl Write) {
 
 fn print(out: &mut impl Write, people: &mut impl Write, file: &[u8], more: u64, m: Limit) {
     let mut buffer = [0u8; lines::LIMIT_ROOM];
-    if let Printed::Length(n) = lines::limit(file, more, m, &mut buffer) {
+    if let Ok(n) = lines::limit(file, more, m, &mut buffer) {
         output::print(out, people, &buffer[..n], b"nightlimit: standard output");
     }
 }
@@ -23,8 +21,8 @@ fn print(out: &mut impl Write, people: &mut impl Write, file: &[u8], more: u64, 
 fn read(file: &mut impl Read, out: &mut impl Write, people: &mut impl Write, m: Limit) {
     let mut kept = [0u8; chainfile::LONGEST];
     let came = match input::read(file, &mut kept) {
-        Reading::Came(came) => came,
-        Reading::Failed(why) => {
+        Ok(came) => came,
+        Err(why) => {
             output::fail(people, b"nightlimit: standard input", why);
             return;
         }

@@ -2,10 +2,7 @@
 #![tactic(auto)]
 
 use chain::Chain;
-use input::Reading;
 use lines::near;
-use nearfile::From;
-use report::Printed;
 use std::env::Env;
 use std::io::Write;
 
@@ -19,22 +16,22 @@ fn usage(people: &mut impl Write) {
     );
 }
 
-// Where the words ask the chance from. A word too many counts as a wrong state.
-fn asked(rt: &impl Env, people: &mut impl Write) -> From {
+// The state that the words ask the chance from, none where it is the file's own start. A word too many counts as a wrong state.
+fn asked(rt: &impl Env, people: &mut impl Write) -> Option<u64> {
     let words = input::words(rt);
     if words == 0 {
-        return From::Start;
+        return None;
     }
     if 1 < words {
         usage(people);
-        return From::State(OUT);
+        return Some(OUT);
     }
-    From::State(input::word_number(rt, 1, OUT))
+    Some(input::word_number(rt, 1, OUT))
 }
 
-fn print(out: &mut impl Write, people: &mut impl Write, file: &[u8], more: u64, from: From) {
+fn print(out: &mut impl Write, people: &mut impl Write, file: &[u8], more: u64, from: Option<u64>) {
     let mut buffer = [0u8; lines::NEAR_ROOM];
-    if let Printed::Length(n) = near(file, more, from, &mut buffer) {
+    if let Ok(n) = near(file, more, from, &mut buffer) {
         output::print(out, people, &buffer[..n], b"nightnear: standard output");
     }
 }
@@ -48,8 +45,8 @@ fn main(rt: HostRuntime) {
     let from = asked(&rt, &mut people);
     let mut kept = [0u8; chainfile::LONGEST];
     let came = match input::read(&mut rt.stdin(), &mut kept) {
-        Reading::Came(came) => came,
-        Reading::Failed(why) => {
+        Ok(came) => came,
+        Err(why) => {
             output::fail(&mut people, b"nightnear: standard input", why);
             return;
         }

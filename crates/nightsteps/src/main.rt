@@ -1,8 +1,7 @@
 // Reads a chain file on standard input and prints its step list and its chance.
 #![tactic(auto)]
 
-use input::Reading;
-use report::{Printed, steps};
+use report::steps;
 
 fn main(rt: HostRuntime) {
     if input::words(&rt) != 0 {
@@ -14,15 +13,15 @@ fn main(rt: HostRuntime) {
     }
     let mut kept = [0u8; chainfile::LONGEST];
     let came = match input::read(&mut rt.stdin(), &mut kept) {
-        Reading::Came(came) => came,
-        Reading::Failed(why) => {
+        Ok(came) => came,
+        Err(why) => {
             output::fail(&mut rt.stderr(), b"nightsteps: standard input", why);
             return;
         }
     };
     let length = came.length;
     let mut buffer = [0u8; report::STEPS_ROOM];
-    if let Printed::Length(n) = steps(&kept[..length], came.more, &mut buffer) {
+    if let Ok(n) = steps(&kept[..length], came.more, &mut buffer) {
         output::print(
             &mut rt.stdout(),
             &mut rt.stderr(),

@@ -1,9 +1,7 @@
 // Takes the word K, reads a chain file on standard input, and prints the chance of having reached a goal within K steps.
 #![tactic(auto)]
 
-use input::Reading;
 use lines::within;
-use report::Printed;
 use std::io::{Read, Write};
 
 // What a word counts as that says no number: more than the most steps.
@@ -18,7 +16,7 @@ fn usage(people: &mut impl Write) {
 
 fn print(out: &mut impl Write, people: &mut impl Write, file: &[u8], more: u64, steps: u64) {
     let mut buffer = [0u8; lines::WITHIN_ROOM];
-    if let Printed::Length(n) = within(file, more, steps, &mut buffer) {
+    if let Ok(n) = within(file, more, steps, &mut buffer) {
         output::print(out, people, &buffer[..n], b"nightwithin: standard output");
     }
 }
@@ -26,8 +24,8 @@ fn print(out: &mut impl Write, people: &mut impl Write, file: &[u8], more: u64, 
 fn read(file: &mut impl Read, out: &mut impl Write, people: &mut impl Write, steps: u64) {
     let mut kept = [0u8; chainfile::LONGEST];
     let came = match input::read(file, &mut kept) {
-        Reading::Came(came) => came,
-        Reading::Failed(why) => {
+        Ok(came) => came,
+        Err(why) => {
             output::fail(people, b"nightwithin: standard input", why);
             return;
         }

@@ -1,52 +1,48 @@
 -- Bytes cut out of what is kept, and looked at all at once for one that is not 0.
-use Prim.Native.Nat.{ℕ, ◌+◌, ◌-◌, ◌≤◌, ◌<◌, min}
+use Prim.Native.Nat.{ℕ, zero, suc, ◌+◌, ◌-◌, ◌≤◌, ◌<◌, min}
 use mathlib.Core.Path.{◌≡◌, refl, sym, ap, ◌∙◌}
-use mathlib.Core.Bool.{Bool, true, false}
+use mathlib.Core.Bool.{Bool, true, false, not}
 use mathlib.Core.Logic.{⊎_elim}
-use mathlib.Core.List.{List}
+use mathlib.Core.List.{List, [], ◌∷◌}
 use native.Mathlib.Omega.{arith}
-use lib.Bits.{bit_or, or_add_and, and_le_l, and_le_r}
+use lib.Bits.{bit_or, or_add_and, and_le_r, or_comm}
+use lib.Dec.{eqb}
 use lib.ListN.{length, get_or, take, drop, length-drop, get_or-eq_default}
 use lib.Seq.{get_or-take, get_or-drop, length-take-le}
+use borrow.Author.Tests.{eq-eqb, ne_eqb}
+use Rattle.std.specs.List.{fold}
 use Rattle.meaning.specs.File.{NonZero}
 use Rattle.meaning.specs.Number.{decides}
-use Rattle.theory.specs.Numbers.Sum.{same, below, last_or_below}
+use Rattle.theory.specs.Numbers.Sum.{same, below}
 use Rattle.octets.specs.Input.{input}
 
--- The union of two is 0 only where both are.
-or_nought : (x y : ℕ) → bit_or x y ≡ 0 → (x ≡ 0) × (y ≡ 0)
-or_nought x y e = (omega (arith, or_add_and x y, and_le_r x y), omega (arith, or_add_and x y, and_le_l x y))
+-- The union of all bytes is 0 only where all of them are.
+or_nought : (x y : ℕ) → bit_or x y ≡ 0 → x ≡ 0
+or_nought x y e = omega (arith, or_add_and x y, and_le_r x y)
 
--- After i of the bytes: the union of them is 0 where all of them are, and only there.
-pub record Looked (bytes : List ℕ) (i all : ℕ) : Type 0 where
-  pub upto : i ≤ length bytes
-  pub nought : all ≡ 0 → (j : ℕ) → j < i → get_or bytes j 0 ≡ 0
-  pub some : (all ≡ 0 → ⊥) → NonZero (input bytes 0) 0 i
+some : (l : List ℕ) (a : ℕ) → a ≡ 0 → (fold bit_or a l ≡ 0 → ⊥) → NonZero (input l 0) 0 (length l)
+some [] a z d = absurd (d z)
+some (x ∷ l) a z d =
+    ⊎_elim
+    (λ (e : x ≡ 0). let s = some l (bit_or a x) (omega (arith, or_add_and a x)) d in (suc s.0, (omega arith, (omega (arith, s.1.1.0), s.1.1.1))))
+    (λ (e : x ≡ 0 → ⊥). (0, (omega arith, (omega arith, e))))
+    (same x 0)
 
-module _ {bytes : List ℕ} where
-  pub none : Looked bytes 0 0
-  none = record { upto = omega arith; nought = λ _ j h. absurd (omega arith); some = λ d. absurd (d refl) }
+start : (l : List ℕ) (a : ℕ) → fold bit_or a l ≡ 0 → a ≡ 0
+start [] a e = e
+start (x ∷ l) a e = or_nought a x (start l (bit_or a x) e)
 
-  module _ {i all : ℕ} (g : Looked bytes i all) where
-    pub more : {b : ℕ} → i < length bytes → b ≡ get_or bytes i 0 → Looked bytes (i + 1) (bit_or all b)
-    more {b} h e =
-        record {
-          upto = omega arith;
-          nought = λ z j l.
-              let both = or_nought all b z in
-              last_or_below {j = j} {n = i} (omega arith) (λ q. rw (q, ← e) both.1) (g.nought both.0 j);
-          some = λ d.
-              ⊎_elim
-              (λ (z : all ≡ 0). (i, (omega arith, (omega arith, λ q. d (rw (z, e) q)))))
-              (λ (n : all ≡ 0 → ⊥). let s = g.some n in (s.0, (omega arith, (omega (arith, s.1.1.0), s.1.1.1))))
-              (same all 0);
-        }
+none : (l : List ℕ) (a j : ℕ) → fold bit_or a l ≡ 0 → j < length l → get_or l j 0 ≡ 0
+none [] a j e h = absurd (omega arith)
+none (x ∷ l) a zero e h = or_nought x a (or_comm x a ∙ start l (bit_or a x) e)
+none (x ∷ l) a (suc j) e h = none l (bit_or a x) j e (omega arith)
 
-    pub found : length bytes ≤ i → (all ≡ 0 → ⊥) → NonZero (input bytes 0) 0 (length bytes)
-    found h d = let s = g.some d in (s.0, (omega arith, (omega (arith, s.1.1.0, g.upto), s.1.1.1)))
-
-    pub blank : length bytes ≤ i → all ≡ 0 → NonZero (input bytes 0) 0 (length bytes) → ⊥
-    blank h z s = s.1.1.1 (g.nought z s.0 (omega (arith, s.1.1.0)))
+pub looked : (l : List ℕ) {all : ℕ} → all ≡ fold bit_or 0 l → decides (NonZero (input l 0) 0 (length l)) (not (eqb all 0))
+looked l {all} e =
+    ⊎_elim
+    (λ (z : all ≡ 0). rw (eq-eqb all 0 z) (λ s. s.1.1.1 (none l 0 s.0 (sym e ∙ z) (omega (arith, s.1.1.0)))))
+    (λ (d : all ≡ 0 → ⊥). rw (ne_eqb all 0 d) (some l 0 refl (λ z. d (e ∙ z))))
+    (same all 0)
 
 -- The bytes from `low` on and before e.
 abbrev pub cut : ℕ → ℕ → List ℕ → List ℕ

@@ -1,50 +1,23 @@
--- Steps of writing: a loop that copies, one byte, and two steps joined into one.
-use Prim.Native.Nat.{ℕ, ◌+◌, ◌≤◌, ◌<◌}
+-- Steps of writing: a text that is put in, and two steps joined into one.
+use Prim.Native.Nat.{ℕ, ◌+◌, ◌-◌, ◌≤◌}
 use native.Mathlib.Nat.{zero-add}
-use native.Mathlib.Numerals.{add-one}
 use native.Mathlib.Omega.{arith}
-use mathlib.Core.Path.{◌≡◌, refl, ap, ◌∙◌}
-use mathlib.Core.List.{List, [], ◌∷◌, ◌++◌, append_assoc}
-use lib.ListN.{length, take, drop, get_or, set, length-append, length-drop, length-set}
-use lib.Seq.{length-take-le, take-length, take_at, drop_at, drop-drop, set_split, append_snoc, paste, paste-zero, paste-suc}
+use mathlib.Core.Path.{◌≡◌, ap, ◌∙◌}
+use mathlib.Core.List.{List, ◌++◌, append_assoc}
+use lib.ListN.{length, take, drop, length-append, length-drop}
+use lib.Seq.{length-take-le, take_at, drop_at, drop-drop}
+use borrow.Rule.Slice.PartMut.{put_mid}
 use Rattle.octets.specs.Written.{Written}
 
--- After i bytes of the text are copied to the place.
-pub record Copied (before : List ℕ) (place : ℕ) (text : List ℕ) (i : ℕ) (after : List ℕ) : Type 0 where
-  pub upto : i ≤ length text
-  pub same : length after ≡ length before
-  pub bytes : after ≡ paste before place text i
-
-module _ {before text : List ℕ} {place : ℕ} where
-  pub none : Copied before place text 0 before
-  none = record { upto = omega arith; same = refl; bytes = paste-zero before place text }
-
-  module _ {i : ℕ} {after : List ℕ} (c : Copied before place text i after) (room : place + length text ≤ length before) where
-    pub more : i < length text → Copied before place text (i + 1) (set after (place + i) (get_or text i 0))
-    more h =
-        let r : place + i < length before = omega arith in
-        record {
-          upto = omega arith;
-          same = length-set after (place + i) (get_or text i 0) ∙ c.same;
-          bytes = rw (c.bytes, add-one i) (paste-suc before place text i 0 r h);
-        }
-
-    pub all : length text ≤ i → Written before place text after (place + i)
-    all h =
-        let e : i ≡ length text = omega (arith, c.upto) in
-        record {
-          past = ap (λ z. place + z) e;
-          room = omega (arith, e);
-          bytes = c.bytes ∙ ap (λ z. take place before ++ z ++ drop (place + i) before) (ap (λ z. take z text) e ∙ take-length text);
-        }
-
-pub one : (before : List ℕ) (place x : ℕ) → place < length before
-    → Written before place (x ∷ []) (set before place x) (place + 1)
-one before place x h =
+-- A text that is put into a part of the buffer.
+pub put : {before text bytes : List ℕ} {place next : ℕ} → next ≡ place + length text → next ≤ length before → bytes ≡ text
+    → Written before place text (put_mid place (next - place) before bytes) next
+put {before} {text} {bytes} {place} {next} past room is =
+    let e : place + (next - place) ≡ next = omega arith in
     record {
-      past = refl;
-      room = omega arith;
-      bytes = rw (set_split, append_snoc, add-one place);
+      past = past;
+      room = room;
+      bytes = rw (is, append_assoc, drop-drop (next - place) place before, e);
     }
 
 -- A buffer keeps its length.

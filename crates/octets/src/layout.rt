@@ -4,16 +4,10 @@ use chain::Chain;
 // The bytes of a block.
 pub const BLOCK: usize = 512;
 
-// The versions of a block, and its kinds in their turn.
+// The versions of a block.
 pub const FIRST: u64 = 1;
 
 pub const SECOND: u64 = 2;
-
-pub const HEAD: u64 = 1;
-
-pub const STATE: u64 = 2;
-
-pub const EDGE: u64 = 3;
 
 // What stands in a block, each from its first byte on.
 pub const KIND: usize = 0;

@@ -12,19 +12,10 @@ mod store;
 
 pub use store::put_number;
 
-pub fn wide(x: u8) -> u64
-    ensures { (result ≡ x) × (result < 256) }
-{
-    x as u64
-}
-
 pub fn byte(kept: &[u8], at: usize) -> u64
     ensures { (result ≡ get_or kept.now at 0) × (result < 256) }
 {
-    if at < kept.len() {
-        return wide(kept[at]);
-    }
-    0
+    u64::from(kept.get(at).copied().unwrap_or(0))
 }
 
 // The number in a few bytes, little-endian.
@@ -35,11 +26,9 @@ fn whole_number(bytes: &[u8]) -> u64
 {
     let mut number = 0;
     let mut unit = 1;
-    let mut i = 0;
-    while i < bytes.len() {
-        number += wide(bytes[i]) * unit;
+    for byte in bytes {
+        number += u64::from(*byte) * unit;
         unit *= 256;
-        i += 1;
     }
     number
 }
@@ -49,13 +38,12 @@ fn few_bytes(kept: &[u8], at: usize, width: usize) -> u64
     requires { width ≤ 4 }
     ensures { (result ≡ number_at (input kept.now 0) at width) × (result < 256 ^ width) }
 {
-    if kept.len() < at {
-        return 0;
+    let left = &kept[end(kept, at)..];
+    if left.len() < width {
+        whole_number(left)
+    } else {
+        whole_number(&left[..width])
     }
-    if kept.len() - at < width {
-        return whole_number(&kept[at..]);
-    }
-    whole_number(&kept[at..at + width])
 }
 
 // The number in `width` bytes from byte `at` on, of which no more than four are read.
@@ -63,46 +51,28 @@ pub fn number(kept: &[u8], at: usize, width: usize) -> u64
     ensures { let few = min width 4 in
         (result ≡ number_at (input kept.now 0) at few) × (result < 256 ^ few) }
 {
-    if layout::QUAD < width {
-        return few_bytes(kept, at, layout::QUAD);
-    }
-    few_bytes(kept, at, width)
+    few_bytes(kept, at, width.min(layout::QUAD))
 }
 
 // Number i of a row of numbers of 4 bytes.
 pub fn four_byte_number(bytes: &[u8], i: usize) -> u64
     ensures { result ≡ four_byte_number bytes.now i }
 {
-    if bytes.len() / layout::QUAD < i {
-        return 0;
-    }
-    few_bytes(bytes, layout::QUAD * i, layout::QUAD)
+    few_bytes(bytes, i.saturating_mul(layout::QUAD), layout::QUAD)
 }
 
 // What is kept up to byte `high` ends here: there, or where all that is kept ends.
 pub fn end(kept: &[u8], high: usize) -> usize
     ensures { result ≡ min high (length kept.now) }
 {
-    if kept.len() < high {
-        return kept.len();
-    }
-    high
+    high.min(kept.len())
 }
 
 // Some byte is not 0. All are looked at, whatever the first ones are, so that the compiler can take many at once.
 fn some_written(bytes: &[u8]) -> bool
     ensures { let all = bytes.now in decides (NonZero (input all 0) 0 (length all)) result }
 {
-    let mut all = 0;
-    let mut i = 0;
-    while i < bytes.len() {
-        all |= bytes[i];
-        i += 1;
-    }
-    if all != 0 {
-        return true;
-    }
-    false
+    bytes.iter().fold(0, |all, byte| all | *byte) != 0
 }
 
 // A byte from `low` on and before `high` is not 0.
@@ -110,8 +80,5 @@ pub fn written(kept: &[u8], low: usize, high: usize) -> bool
     ensures { decides (NonZero (input kept.now 0) low high) result }
 {
     let e = end(kept, high);
-    if e < low {
-        return false;
-    }
-    some_written(&kept[low..e])
+    low <= e && some_written(&kept[low..e])
 }

@@ -1,39 +1,16 @@
 -- Numbers that are put into a table, and what the parts of a flat table then hold.
 use Prim.Native.Nat.{ℕ, ◌+◌, ◌*◌, ◌-◌, ◌≤◌, ◌<◌}
-use mathlib.Core.Path.{◌≡◌, refl, sym, ap, subst, ◌∙◌}
+use mathlib.Core.Path.{◌≡◌, sym, ap, ◌∙◌}
 use mathlib.Core.Logic.{⊎_elim}
 use mathlib.Core.List.{List}
 use native.Mathlib.Omega.{arith}
-use lib.ListN.{length, get_or, set, take, drop, length-set, length-drop, length-append, get_or-append}
-use lib.Seq.{ext_get_or, get_or-set_same, get_or-set_other, get_or-append-add, get_or-drop, get_or-take, length-take-le}
+use lib.ListN.{length, get_or, take, drop, length-drop, length-append, get_or-append}
+use lib.Seq.{ext_get_or, get_or-append-add, get_or-drop, get_or-take, length-take-le}
 use Rattle.meaning.specs.Number.{filled}
 use Rattle.meaning.specs.Chain.{most_states}
-use Rattle.theory.specs.Numbers.Sum.{below, last_or_below}
+use Rattle.theory.specs.Numbers.Sum.{below}
 use Rattle.opening.specs.Sizes.{edges_at}
 use Rattle.opening.specs.Split.{Placed, states_part, split, stored}
-
-module _ {at : ℕ} {numbers before : List ℕ} where
-  pub none : Placed at 0 numbers before before
-  none = record { upto = omega arith; size = refl; new = λ j h. absurd (omega arith); below = λ j h. refl; above = λ j h. refl }
-
-  pub more : {k : ℕ} {table : List ℕ} → Placed at k numbers before table → k < length numbers → at + k < length before
-      → Placed at (k + 1) numbers before (set table (at + k) (get_or numbers k 0))
-  more {k} {table} w l h =
-      let v = get_or numbers k 0 in
-      record {
-        upto = omega arith;
-        size = simp length-set w.size;
-        new =
-            λ j b.
-            last_or_below {j = j} {n = k} (omega arith)
-            (λ z. rw z (get_or-set_same table (at + k) v 0 (omega (arith, w.size))))
-            (λ l. get_or-set_other table (at + k) (at + j) v 0 (λ z. omega arith) ∙ w.new j (omega arith));
-        below = λ j b. get_or-set_other table (at + k) j v 0 (λ z. omega arith) ∙ w.below j (omega arith);
-        above = λ j b. get_or-set_other table (at + k) j v 0 (λ z. omega arith) ∙ w.above j (omega arith);
-      }
-
-  pub all : {k : ℕ} {table : List ℕ} → Placed at k numbers before table → length numbers ≤ k → Placed at (length numbers) numbers before table
-  all {k} {table} w h = subst (λ k. Placed at k numbers before table) (omega (arith, w.upto)) w
 
 -- A cell of a part, and how long it is.
 part_cell : (from : ℕ) (table : List ℕ) (j : ℕ) → j < most_states → get_or (states_part from table) j 0 ≡ get_or table (from + j) 0

@@ -8,18 +8,17 @@ use lib.Seq.{take_at, drop_at, drop-drop, drop-length, take_all, take-append-le,
 use Rattle.meaning.specs.Number.{tab_from, filled}
 use Rattle.meaning.specs.Chain.{most_states}
 use Rattle.meaning.specs.Block.{Input, head_states, head_edges, denominator_in, reward_in, order_in}
-use Rattle.meaning.specs.File.{denominators_in, rewards_in, orders_in, edges_in, Tables, Reading as Numbers, reading}
+use Rattle.meaning.specs.File.{denominators_in, rewards_in, orders_in, edges_in, Tables, Reading as Numbers}
 use Rattle.theory.specs.Files.FileOne.{file_numbers}
-use Rattle.theory.specs.Files.Right.{bounded}
 use Rattle.theory.specs.Numbers.Tab.{tab_length}
-use Rattle.chain.specs.declared.Chain.{Chain as Frame}
-use Rattle.chainfile.specs.Tells.{Narrow, ShortFor, OpenOutcome, told as told_reading, tables}
-use Rattle.chainfile.specs.declared.Reading.{Reading}
-use Rattle.chainfile.specs.declared.Reading.TheVariants as reader
+use Rattle.chain.specs.declared.refusal.Refusal.{Refusal}
+use Rattle.chain.proofs.Faults.{above_0}
+use Rattle.chainfile.specs.Tells.{Narrow, ShortFor, OpenOutcome, told, tables}
+use Rattle.chainfile.specs.declared.Book.{Book}
 use Rattle.opening.specs.Sizes.{edges_at}
 use Rattle.opening.specs.Split.{states_part, split, stored}
 use Rattle.opening.specs.Opened.{OpeningOutcome}
-use Rattle.opening.specs.declared.book.Opening.TheVariants.{Chain, Refused}
+use Rattle.std.proofs.Common.{Ok, Err}
 use Rattle.opening.proofs.Placing.{part_length}
 
 -- A list stands at the front of the table that it fills.
@@ -39,13 +38,6 @@ made table = tables (replicate most_states 0) (lent_edges table) (replicate most
 -- The flat table where that part is back.
 abbrev pub back : List ℕ → List ℕ → List ℕ
 back table edges = take edges_at table ++ (edges ++ drop (length table - edges_at) (drop edges_at table))
-
--- The tables for the states have room for a chain's.
-pub record Room (c : Frame) (t : Tables) : Type 0 where
-  pub few : c.states ≤ most_states
-  pub denominators : c.states ≤ length t.denominators
-  pub order : c.states ≤ length t.order
-  pub rewards : c.states ≤ length t.rewards
 
 module _ (f : Input) (table : List ℕ) (room : edges_at ≤ length table) where
   all_lent : lent_edges table ≡ drop edges_at table
@@ -80,9 +72,6 @@ module _ (f : Input) (table : List ℕ) (room : edges_at ≤ length table) where
       let e = edges_back edges in
       λ i. tables (d i) (e i) (o i) (r i)
 
-  pub back_long : (edges : List ℕ) → edges_at ≤ length (back table edges)
-  back_long edges = omega (arith, front, length-append (take edges_at table) (edges ++ drop (length table - edges_at) (drop edges_at table)))
-
   -- The parts are as long as the tables that are made.
   states_long : (from : ℕ) → from + most_states ≤ edges_at → length (replicate {A = ℕ} most_states 0) ≡ length (states_part from table)
   states_long from h = length-replicate {A = ℕ} most_states 0 ∙ sym (part_length from table (omega arith))
@@ -100,46 +89,26 @@ module _ (f : Input) (table : List ℕ) (room : edges_at ≤ length table) where
       let e = ap (λ (t : Tables). t.edges) d ∙ all_lent in
       split_back after.edges ∙ (λ i. tables (split table).denominators (e i) (split table).order (split table).rewards)
 
-  pub refused_read : {r : Reading} {after : Tables} {n p : ℕ} → OpenOutcome f (made table) (told_reading r) after → r ≡ reader.Refused n p
-      → OpeningOutcome f table (Refused n p) (back table after.edges)
-  refused_read {after = after} (OpenOutcome.refused n' p' w e d) q =
-      OpeningOutcome.read room (OpenOutcome.refused n' p' w (sym (ap told_reading q) ∙ e) (same d))
-  refused_read (OpenOutcome.narrow w s e d) q =
-      OpeningOutcome.read room (OpenOutcome.narrow w (subst (λ A. A) narrow_is s) (sym (ap told_reading q) ∙ e) (same d))
-  refused_read (OpenOutcome.accepted w s e d) q =
-      absurd (omega (arith, ap (λ (a : Numbers). a.states) (sym (ap told_reading q) ∙ e), bounded f (w.blocks 0 (omega arith))))
+  -- A refusal of the reader is one of the opening.
+  pub refused_read : {x : Refusal} {after : Tables} → OpenOutcome f (made table) (told (Err x)) after → OpeningOutcome f table (Err x) (back table after.edges)
+  refused_read (OpenOutcome.refused n p w e d) = OpeningOutcome.read room (OpenOutcome.refused n p w e (same d))
+  refused_read (OpenOutcome.narrow w s e d) = OpeningOutcome.read room (OpenOutcome.narrow w (subst (λ A. A) narrow_is s) e (same d))
+  refused_read {x} (OpenOutcome.accepted w s e d) = absurd (omega (arith, ap (λ (a : Numbers). a.number) e, above_0 x.fault))
 
   -- The numbers of the states are put where they belong.
-  pub chain_read : {r : Reading} {after : Tables} {c : Frame} {count : ℕ} {stored_in : List ℕ} → OpenOutcome f (made table) (told_reading r) after
-      → r ≡ reader.Chain c count
-      → split stored_in
-      ≡ stored (take c.states after.denominators) (take c.states after.order) (take c.states after.rewards) (split (back table after.edges))
-      → OpeningOutcome f table (Chain (record { chain = c; edges = count })) stored_in
-  chain_read (OpenOutcome.refused n p w e d) q s = absurd (omega (arith, ap (λ (a : Numbers). a.number) (sym (ap told_reading q) ∙ e), file_numbers w))
-  chain_read (OpenOutcome.narrow w n e d) q s = absurd (omega (arith, ap (λ (a : Numbers). a.number) (sym (ap told_reading q) ∙ e)))
-  chain_read {after = after} {c} {count} (OpenOutcome.accepted w n e d) q s =
-      let z : told_reading (reader.Chain c count) ≡ reading f = sym (ap told_reading q) ∙ e in
-      let size : (g : ℕ → ℕ) → c.states ≡ length (tab_from 0 (head_states f) g) = λ g. ap (λ (a : Numbers). a.states) z ∙ sym (tab_length 0 (head_states f) g) in
+  pub chain_read : {b : Book} {after : Tables} {stored_in : List ℕ} → let n = b.chain.states in
+      OpenOutcome f (made table) (told (Ok b)) after
+      → split stored_in ≡ stored (take n after.denominators) (take n after.order) (take n after.rewards) (split (back table after.edges))
+      → OpeningOutcome f table (Ok b) stored_in
+  chain_read (OpenOutcome.refused n p w e d) s = absurd (omega (arith, ap (λ (a : Numbers). a.number) e, file_numbers w))
+  chain_read (OpenOutcome.narrow w n e d) s = absurd (omega (arith, ap (λ (a : Numbers). a.number) e))
+  chain_read {b} {after} (OpenOutcome.accepted w n e d) s =
+      let size : (g : ℕ → ℕ) → b.chain.states ≡ length (tab_from 0 (head_states f) g) = λ g. ap (λ (a : Numbers). a.states) e ∙ sym (tab_length 0 (head_states f) g) in
       let fd = (at (denominators_in f) _ _ (size (denominator_in f)) (ap (λ (t : Tables). t.denominators) d)).1 in
       let fo = (at (orders_in f) _ _ (size (order_in f)) (ap (λ (t : Tables). t.order) d)).1 in
       let fr = (at (rewards_in f) _ _ (size (reward_in f)) (ap (λ (t : Tables). t.rewards) d)).1 in
       let fe = ap (λ (t : Tables). t.edges) d ∙ ap (filled (edges_in f)) all_lent in
-      let b = split_back after.edges in
+      let t = split_back after.edges in
       OpeningOutcome.read room
-      (OpenOutcome.accepted w (λ h. n (subst (λ A. A) (sym narrow_is) h)) z
-      (s ∙ (λ i. stored (fd i) (fo i) (fr i) (b i)) ∙ (λ i. tables (filled (denominators_in f) (split table).denominators) (fe i) (filled (orders_in f) (split table).order) (filled (rewards_in f) (split table).rewards))))
-
-  -- The tables that are made have the numbers of the states at their front.
-  pub states_room : {r : Reading} {after : Tables} {c : Frame} {count : ℕ} → OpenOutcome f (made table) (told_reading r) after → r ≡ reader.Chain c count → Room c after
-  states_room (OpenOutcome.refused n p w e d) q = absurd (omega (arith, ap (λ (a : Numbers). a.number) (sym (ap told_reading q) ∙ e), file_numbers w))
-  states_room (OpenOutcome.narrow w n e d) q = absurd (omega (arith, ap (λ (a : Numbers). a.number) (sym (ap told_reading q) ∙ e)))
-  states_room {after = after} {c} {count} (OpenOutcome.accepted w n e d) q =
-      let few : c.states ≡ head_states f = ap (λ (a : Numbers). a.states) (sym (ap told_reading q) ∙ e) in
-      let b = bounded f (w.blocks 0 (omega arith)) in
-      let size : (g : ℕ → ℕ) → c.states ≡ length (tab_from 0 (head_states f) g) = λ g. few ∙ sym (tab_length 0 (head_states f) g) in
-      record {
-        few = omega arith;
-        denominators = (at (denominators_in f) _ _ (size (denominator_in f)) (ap (λ (t : Tables). t.denominators) d)).0;
-        order = (at (orders_in f) _ _ (size (order_in f)) (ap (λ (t : Tables). t.order) d)).0;
-        rewards = (at (rewards_in f) _ _ (size (reward_in f)) (ap (λ (t : Tables). t.rewards) d)).0;
-      }
+      (OpenOutcome.accepted w (λ h. n (subst (λ A. A) (sym narrow_is) h)) e
+      (s ∙ (λ i. stored (fd i) (fo i) (fr i) (t i)) ∙ (λ i. tables (filled (denominators_in f) (split table).denominators) (fe i) (filled (orders_in f) (split table).order) (filled (rewards_in f) (split table).rewards))))

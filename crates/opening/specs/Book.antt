@@ -1,5 +1,5 @@
 -- The parts of a flat table, and what they hold.
-use Rattle.std.specs.Prelude.{ℕ, ◌*◌, ◌≤◌, ◌≡◌, List, [], take, drop, ltb}
+use Rattle.std.specs.Prelude.{ℕ, ◌*◌, ◌≤◌, ◌≡◌, List, [], take, drop, ltb, Result, Ok, Err}
 use Rattle.meaning.specs.Number.{choose}
 use Rattle.meaning.specs.Chain.{most_states, most_edges, edge_size, edge_count}
 use Rattle.meaning.specs.Refusal.{own_work}
@@ -8,9 +8,9 @@ use Rattle.meaning.specs.File.{FileRefused, Accepted, paid_in}
 use Rattle.chain.specs.declared.Chain.{Chain as Frame}
 use Rattle.chain.specs.Lent.{lent}
 use Rattle.opening.specs.Sizes.{edges_at}
-use Rattle.opening.specs.declared.book.Book.{Book}
-use Rattle.opening.specs.declared.book.Opening.{Opening}
-use Rattle.opening.specs.declared.book.Opening.TheVariants.{Chain, Refused}
+use Rattle.chain.specs.Refusal.{number_of}
+use Rattle.chain.specs.declared.refusal.Refusal.{Refusal}
+use Rattle.chainfile.specs.declared.Book.{Book}
 
 abbrev pub denominators_of : Book → List ℕ → List ℕ
 denominators_of b table = take b.chain.states (drop 0 table)
@@ -39,6 +39,6 @@ pub record Held (f : Input) (b : Book) (table : List ℕ) : Type 0 where
   pub holds : Holds f b.chain (denominators_of b table) (edges_of b table) (order_of b table) (rewards_of b table)
 
 -- What is opened is what the file holds.
-pub record Opened (f : Input) (r : Opening) (table : List ℕ) : Type 0 where
-  pub refused : {number place : ℕ} → r ≡ Refused number place → FileRefused f number place
-  pub held : {b : Book} → r ≡ Chain b → Held f b table
+pub record Opened (f : Input) (r : Result Book Refusal) (table : List ℕ) : Type 0 where
+  pub refused : {x : Refusal} → r ≡ Err x → FileRefused f (number_of x.fault) x.place
+  pub held : {b : Book} → r ≡ Ok b → Held f b table

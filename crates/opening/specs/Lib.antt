@@ -2,3 +2,4 @@ pub mod Sizes
 pub mod Book
 pub mod Split
 pub mod Opened
+pub mod Asked

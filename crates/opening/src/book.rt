@@ -1,4 +1,5 @@
 // What is opened, and how the flat table is laid out.
+use chain::given::Given;
 use chain::{Chain, edge};
 use octets::layout;
 
@@ -14,15 +15,10 @@ pub const LARGEST: usize = EDGES + edge::MOST;
 
 pub const SMALL: usize = EDGES + edge::SIZE * (6 * layout::FULL);
 
-// The chain but for its tables, and how many edges it has.
+// The chain of an opened file, with all its tables.
 #[derive(Clone, Copy)]
-pub struct Book {
-    pub chain: Chain,
-    pub edges: usize,
-}
-
-#[derive(Clone, Copy)]
-pub enum Opening {
-    Chain(Book),
-    Refused { number: u32, place: usize },
+pub struct Opened<'a> {
+    pub given: Given<'a>,
+    pub order: &'a [u64],
+    pub rewards: &'a [u64],
 }

@@ -2,21 +2,16 @@
 ghost use Rattle.std.specs.Prelude.{◌≡◌, take, drop};
 ghost use Rattle.opening.specs.Book.{denominators_of, order_of, rewards_of, edges_of};
 
-use crate::book::{Book, EDGES, ORDER, REWARDS};
+use crate::book::{EDGES, ORDER, REWARDS};
 use chain::edge;
+use chainfile::Book;
 
 // The n numbers from a place on, or as many of them as the table has.
 pub fn part(table: &[u64], from: usize, n: usize) -> &[u64]
     ensures { result.now ≡ take n (drop from table.now) }
 {
-    if table.len() < from {
-        return &table[..0];
-    }
-    let rest = &table[from..];
-    if rest.len() < n {
-        return rest;
-    }
-    &rest[..n]
+    let rest = &table[from.min(table.len())..];
+    &rest[..n.min(rest.len())]
 }
 
 pub fn denominators(table: &[u64], book: Book) -> &[u64]
@@ -44,7 +39,8 @@ pub fn edges(table: &[u64], book: Book) -> &[u64]
     let rest = part(table, EDGES, table.len());
     let count = book.edges;
     if edge::count(rest) < count {
-        return &rest[..0];
+        &[]
+    } else {
+        &rest[..edge::SIZE * count]
     }
-    &rest[..edge::SIZE * count]
 }

@@ -9,11 +9,7 @@ fn place(table: &mut [u64], at: usize, numbers: &[u64])
     requires { at + length numbers.now ≤ length table.old }
     ensures { Placed at (length numbers.now) numbers.now table.old table.new }
 {
-    let mut i = 0;
-    while i < numbers.len() {
-        table[at + i] = numbers[i];
-        i += 1;
-    }
+    table[at..at + numbers.len()].copy_from_slice(numbers);
 }
 
 // The numbers of the states, each list at the front of its part.

@@ -4,7 +4,7 @@
 ghost use Rattle.std.specs.Prelude.{IsTrue};
 ghost use Rattle.std.specs.Io.KnownBytes.{Appends};
 
-use report::Printed;
+use figures::Answer;
 use std::io::{Cursor, Error, Write};
 
 // Writes a text and answers whether all of it was written. Where it was not, people get a line of what the caller names and why.
@@ -52,7 +52,13 @@ pub fn fail<P: Write>(people: &mut P, what: &[u8], why: Error) {
 // Writes the line of a refusal for people, for programs whose standard output is a file.
 pub fn complain<P: Write>(people: &mut P, number: u32, place: usize) {
     let mut line = [0u8; report::ANSWER_ROOM];
-    if let Printed::Length(n) = report::answer(number, place, 0, 0, &mut line) {
+    let refused = Answer {
+        number,
+        place,
+        numerator: 0,
+        denominator: 0,
+    };
+    if let Ok(n) = report::answer(refused, &mut line) {
         tell(people, &line[..n]);
     }
 }

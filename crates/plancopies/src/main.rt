@@ -2,7 +2,8 @@
 #![tactic(auto)]
 
 use copies::{Plan, chance};
-use report::{Printed, answer};
+use figures::Answer;
+use report::answer;
 use std::env::Env;
 use std::io::Write;
 
@@ -48,15 +49,14 @@ fn main(rt: HostRuntime) {
     }
     remind(&rt, &mut people);
     let planned = chance(plan(&rt));
-    let place = planned.place as usize;
+    let told = Answer {
+        number: planned.number,
+        place: planned.place as usize,
+        numerator: planned.numerator,
+        denominator: planned.denominator,
+    };
     let mut buffer = [0u8; report::ANSWER_ROOM];
-    if let Printed::Length(n) = answer(
-        planned.number,
-        place,
-        planned.numerator,
-        planned.denominator,
-        &mut buffer,
-    ) {
+    if let Ok(n) = answer(told, &mut buffer) {
         output::print(
             &mut rt.stdout(),
             &mut people,

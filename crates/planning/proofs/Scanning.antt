@@ -27,7 +27,7 @@ use Rattle.octets.proofs.Storing.{stored}
 use Rattle.text.specs.Pieces.{Named}
 use Rattle.text.proofs.Naming.{named_written, named_past}
 use Rattle.report.specs.Stands.{Stands}
-use Rattle.report.proofs.ChainLines.{stands}
+use Rattle.report.proofs.Refusals.{stands}
 use Rattle.lines.specs.Widths.{Fitted}
 use Rattle.egorstream.specs.Limits.{verdict_number, limited_as, Limits}
 use Rattle.egorstream.specs.declared.limits.Limited.{Limited}

@@ -12,7 +12,7 @@ use Rattle.theory.specs.Outcomes.NearOne.{near_outcome}
 use Rattle.octets.specs.Written.{Written}
 use Rattle.octets.proofs.Steps.{kept, join}
 use Rattle.report.specs.Stands.{Stands}
-use Rattle.report.proofs.ChainLines.{stands}
+use Rattle.report.proofs.Refusals.{stands}
 use Rattle.lines.specs.Widths.{Fitted}
 use Rattle.planning.specs.Line.{chances_of}
 

@@ -14,7 +14,8 @@ use Rattle.meaning.specs.PlanTable.{Weights, copies_line, table_text, PlanTable,
 use Rattle.meaning.specs.Fewest.{FewestReport, FewestOutcome}
 use Rattle.theory.specs.Plans.Told.{plan_near_one, plan_table_one, fewest_report_one}
 use Rattle.report.specs.Stands.{told}
-use Rattle.report.specs.declared.Printed.{Printed}
+use Rattle.std.proofs.Common.{Result}
+use Rattle.chain.specs.declared.refusal.Refusal.{Refusal}
 use Rattle.report.proofs.Unique.{unique}
 use Rattle.egorstream.proofs.Nearing.{tells_one}
 use Rattle.egorstream.specs.declared.nearly.Nearness.{Nearness}
@@ -24,27 +25,10 @@ use Rattle.planning.specs.Line.{fewest_line, open_line}
 pub near_unique : {j : Plan} (r r' : Nearness) → PlanNears j r → PlanNears j r' → r ≡ r'
 near_unique r r' x y = let e = plan_near_one x.outcome y.outcome in tells_one r r' e.0 e.1 x.tells y.tells
 
-table_some : {x : Weights} (t : List ℕ) → PlanTable x t → 0 < length t
-unfolding table_text
-table_some t (PlanTable.refused n p f e) = omega (arith, ap length e)
-table_some t (PlanTable.told s a h e) =
-    let line = copies_line (bytes_of "copies ") 32 (a 32) in omega (arith, ap length e, length-append (table_text a 31) line)
-
-pub table_unique : {x : Weights} {before after after' : List ℕ} (r r' : Printed) → PlanTableOutcome x before (told r) after
+pub table_unique : {x : Weights} {before after after' : List ℕ} (r r' : Result ℕ Refusal) → PlanTableOutcome x before (told r) after
     → PlanTableOutcome x before (told r') after' → (r ≡ r') × (after ≡ after')
-table_unique = unique table_some (λ t t'. plan_table_one)
+table_unique = unique (λ t t'. plan_table_one)
 
-fewest_some : {x : Weights} {m : Limit} (t : List ℕ) → FewestReport x m t → 0 < length t
-fewest_some t (FewestReport.refused n p f e) = omega (arith, ap length e)
-fewest_some t (FewestReport.no_limit_lem s n e) = omega (arith, ap length e)
-fewest_some t (FewestReport.told s h a v all fewest first f e) =
-    omega (arith, ap length e, length-append (fewest_line a fewest) (open_line fewest first), go (leb fewest most_copies))
-  where
-    go : (b : Bool)
-        → 0 < length (choose b (copies_line (bytes_of "copies ") fewest (a fewest)) (copies_line (bytes_of "none ") most_copies (a most_copies)))
-    go true = omega arith
-    go false = omega arith
-
-pub fewest_unique : {x : Weights} {m : Limit} {before after after' : List ℕ} (r r' : Printed) → FewestOutcome x m before (told r) after
+pub fewest_unique : {x : Weights} {m : Limit} {before after after' : List ℕ} (r r' : Result ℕ Refusal) → FewestOutcome x m before (told r) after
     → FewestOutcome x m before (told r') after' → (r ≡ r') × (after ≡ after')
-fewest_unique = unique fewest_some (λ t t'. fewest_report_one)
+fewest_unique = unique (λ t t'. fewest_report_one)

@@ -16,9 +16,10 @@ ghost use Rattle.planning.specs.Scan.{Scanned, open_room};
 use crate::asked::{BROKEN, KEPT, verdict};
 use crate::line::plan_line;
 use crate::tabled::COPIES;
-use crate::weights::{Weights, weighed, with_copies};
+use crate::weights::{Weights, refused, weighed, with_copies};
+use chain::refusal::{Fault, Refusal};
 use limit::{Limit, sound};
-use report::{Printed, answer};
+use report::answer;
 use text::{named, put};
 
 // Room for any line of a plan, and any that follows.
@@ -45,16 +46,17 @@ fn scan(w: Weights, m: Limit) -> Found
     ensures { Scanned (told_weights w) (toldLimit m) result.fewest result.first }
 {
     let mut first = 1;
-    let mut c = 1;
-    while c <= COPIES {
+    for c in 1..=COPIES {
         let said = verdict(with_copies(w, c), m);
         if said == KEPT {
             return Found { fewest: c, first };
         }
-        c += 1;
-        first = follows(said, c, first);
+        first = follows(said, c + 1, first);
     }
-    Found { fewest: c, first }
+    Found {
+        fewest: COPIES + 1,
+        first,
+    }
 }
 
 fn fewest_line(buffer: &mut [u8], w: Weights, fewest: u64) -> usize
@@ -88,21 +90,18 @@ fn both(buffer: &mut [u8], w: Weights, m: Limit) -> usize
 }
 
 // A line or two at the front of the buffer: the fewest copies with their figures, and from where on it cannot be said. 31 comes before 35.
-pub fn fewest(w: Weights, m: Limit, buffer: &mut [u8]) -> Printed
+pub fn fewest(w: Weights, m: Limit, buffer: &mut [u8]) -> Result<usize, Refusal>
     ensures { FewestOutcome (told_weights w) (toldLimit m) buffer.old (told result) buffer.new }
 {
     if buffer.len() < FEWEST_ROOM {
-        return Printed::Refused {
-            number: 2,
-            place: 0,
-        };
+        return Err(Refusal::from(Fault::Room));
     }
     let wrong = weighed(w);
     if wrong.number != 0 {
-        return answer(wrong.number, wrong.place as usize, 0, 0, buffer);
+        return answer(refused(wrong.number, wrong.place), buffer);
     }
     if sound(m) {
-        return Printed::Length(both(buffer, w, m));
+        return Ok(both(buffer, w, m));
     }
-    answer(35, 0, 0, 0, buffer)
+    answer(refused(35, 0), buffer)
 }

@@ -6,8 +6,9 @@ ghost use Rattle.report.specs.Stands.{Stands, told};
 ghost use Rattle.planning.specs.Told.{told_weights};
 
 use crate::line::plan_line;
-use crate::weights::{Weights, weighed, with_copies};
-use report::{Printed, answer};
+use crate::weights::{Weights, refused, weighed, with_copies};
+use chain::refusal::{Fault, Refusal};
+use report::answer;
 
 // The most copies of a plan.
 pub(crate) const COPIES: u64 = 32;
@@ -20,27 +21,22 @@ fn rows(buffer: &mut [u8], w: Weights) -> usize
     ensures { Stands (PlanTable (told_weights w)) buffer.old result buffer.new }
 {
     let mut end = 0;
-    let mut c = 0;
-    while c < COPIES {
-        c += 1;
-        end = plan_line(buffer, end, b"copies ", with_copies(w, c));
+    for c in 0..COPIES {
+        end = plan_line(buffer, end, b"copies ", with_copies(w, c + 1));
     }
     end
 }
 
 // A line for each number of copies, at the front of the buffer; or the line of a refusal.
-pub fn table(w: Weights, buffer: &mut [u8]) -> Printed
+pub fn table(w: Weights, buffer: &mut [u8]) -> Result<usize, Refusal>
     ensures { PlanTableOutcome (told_weights w) buffer.old (told result) buffer.new }
 {
     if buffer.len() < TABLE_ROOM {
-        return Printed::Refused {
-            number: 2,
-            place: 0,
-        };
+        return Err(Refusal::from(Fault::Room));
     }
     let wrong = weighed(w);
     if wrong.number != 0 {
-        return answer(wrong.number, wrong.place as usize, 0, 0, buffer);
+        return answer(refused(wrong.number, wrong.place), buffer);
     }
-    Printed::Length(rows(buffer, w))
+    Ok(rows(buffer, w))
 }

@@ -2,10 +2,13 @@
 ghost use Rattle.std.specs.Prelude.{◌≡◌};
 ghost use Rattle.meaning.specs.PlanTable.{with_copies};
 ghost use Rattle.copies.specs.Told.{told_plan};
+ghost use Rattle.meaning.specs.Outcome.{refusal};
+ghost use Rattle.figures.specs.Told.{told_answer};
 ghost use Rattle.planning.specs.Told.{told_weights, Weighed};
 
 use copies::{LONGEST, Plan, file};
 use egorstream::Written;
+use figures::Answer;
 
 #[derive(Clone, Copy)]
 pub struct Weights {
@@ -31,4 +34,16 @@ pub(crate) fn weighed(w: Weights) -> Written
 {
     let mut buffer = [0u8; LONGEST];
     file(with_copies(w, 1), &mut buffer)
+}
+
+// The answer that is printed of a refusal.
+pub(crate) fn refused(number: u32, place: u32) -> Answer
+    ensures { told_answer result ≡ refusal number place }
+{
+    Answer {
+        number,
+        place: place as usize,
+        numerator: 0,
+        denominator: 0,
+    }
 }

@@ -2,7 +2,6 @@
 #![tactic(auto)]
 
 use planning::{TABLE_ROOM, Weights, table};
-use report::Printed;
 use std::env::Env;
 use std::io::Write;
 
@@ -47,7 +46,7 @@ fn main(rt: HostRuntime) {
     }
     remind(&rt, &mut people);
     let mut buffer = [0u8; TABLE_ROOM];
-    if let Printed::Length(n) = table(weights(&rt), &mut buffer) {
+    if let Ok(n) = table(weights(&rt), &mut buffer) {
         output::print(
             &mut rt.stdout(),
             &mut people,

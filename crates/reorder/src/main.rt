@@ -1,9 +1,6 @@
 // Reads a chain file on standard input and writes the file of the same chain with the chosen order; a refusal's line goes to standard error.
 #![tactic(auto)]
 
-use chainwriter::Writing;
-use input::Reading;
-
 fn main(rt: HostRuntime) {
     if input::words(&rt) != 0 {
         output::tell(
@@ -14,8 +11,8 @@ fn main(rt: HostRuntime) {
     }
     let mut kept = [0u8; chainfile::LONGEST];
     let came = match input::read(&mut rt.stdin(), &mut kept) {
-        Reading::Came(came) => came,
-        Reading::Failed(why) => {
+        Ok(came) => came,
+        Err(why) => {
             output::fail(&mut rt.stderr(), b"reorder: standard input", why);
             return;
         }
@@ -23,7 +20,7 @@ fn main(rt: HostRuntime) {
     let length = came.length;
     let mut buffer = [0u8; reordering::ROOM];
     match reordering::reorder(&kept[..length], came.more, &mut buffer) {
-        Writing::Length(n) => {
+        Ok(n) => {
             output::print(
                 &mut rt.stdout(),
                 &mut rt.stderr(),
@@ -31,6 +28,6 @@ fn main(rt: HostRuntime) {
                 b"reorder: standard output",
             );
         }
-        Writing::Refused { number, place } => output::complain(&mut rt.stderr(), number, place),
+        Err(r) => output::complain(&mut rt.stderr(), r.fault.number(), r.place),
     }
 }

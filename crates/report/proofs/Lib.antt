@@ -2,8 +2,9 @@ pub mod Lengths
 pub mod Texts
 pub mod Brief
 pub mod Room
+pub mod Lasting
+pub mod Refusals
 pub mod ChainLines
 pub mod Unique
 pub mod StepLines
 pub mod StepsText
-pub mod Refusals

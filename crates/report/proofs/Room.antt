@@ -3,6 +3,7 @@ use Prim.Native.Nat.{ℕ, ◌≤◌}
 use native.Mathlib.Omega.{arith}
 use mathlib.Core.List.{List}
 use lib.ListN.{length}
+use mathlib.Core.Path.{subst}
 use Rattle.meaning.specs.Chain.{most_states, most_edges}
 use Rattle.meaning.specs.Refusal.{Lent}
 use Rattle.meaning.specs.Outcome.{
@@ -15,28 +16,33 @@ use Rattle.meaning.specs.Outcome.{
   RewardOutcome,
   BoundsOutcome,
 }
-use Rattle.meaning.specs.Report.{lines_text, report_room}
+use Rattle.meaning.specs.Report.{answer_text, line_text, lines_text, report_room}
 use Rattle.theory.specs.Outcomes.Small.{chance_small, reward_small, bounds_small}
-use Rattle.theory.specs.Files.Lengths.{Brief}
+use Rattle.theory.specs.Files.Lengths.{Brief, chain_brief}
+use Rattle.text.specs.Puts.{Puts}
 use Rattle.figures.specs.Told.{Tells, told_answer}
 use Rattle.figures.specs.declared.answer.Answer.{Answer as Told}
 use Rattle.report.proofs.Lengths.{lines_short, Wide}
-use Rattle.report.proofs.Brief.{refused_brief, stopped_brief}
+use Rattle.report.proofs.Brief.{stopped_brief}
 
 -- What is told of an answer has room in its types.
 pub wide : {r : Told} {a : Answer} → Tells r a → Wide (told_answer r)
 wide t = record { number = t.number; place = t.place; numerator = t.numerator; denominator = t.denominator }
 
+pub retold : (name : List ℕ) {before after : List ℕ} {place next : ℕ} {r : Told} {a : Answer} → Tells r a
+    → Puts before place (line_text name (answer_text (told_answer r))) after next → Puts before place (line_text name (answer_text a)) after next
+retold name {before} {after} {place} {next} t w = subst (λ a. Puts before place (line_text name (answer_text a)) after next) t.same w
+
 nought : Brief 0 0
 nought = record { two = omega arith; four = omega arith }
 
 chance_brief : {l : Lent} {a : Answer} {w : List ℕ} → ChanceOutcome l a w → Brief a.number a.place
-chance_brief (Outcome.refused number place r e s) = rw e (refused_brief number place r).1
+chance_brief (Outcome.refused number place r e s) = rw e (chain_brief r)
 chance_brief (Outcome.stopped number place f t e s) = rw e (stopped_brief f t)
 chance_brief (Outcome.answered f t (ChanceFigure.chance p q h e) s) = rw e nought
 
-pub reward_brief : {l : Lent} {a : Answer} {w : List ℕ} → RewardOutcome l a w → Brief a.number a.place
-reward_brief (Outcome.refused number place r e s) = rw e (refused_brief number place r).1
+reward_brief : {l : Lent} {a : Answer} {w : List ℕ} → RewardOutcome l a w → Brief a.number a.place
+reward_brief (Outcome.refused number place r e s) = rw e (chain_brief r)
 reward_brief (Outcome.stopped number place f t e s) = rw e (stopped_brief f t.1)
 reward_brief (Outcome.answered f t (RewardFigure.missed m e) s) = rw e nought
 reward_brief (Outcome.answered f t (RewardFigure.expected u p q h e) s) = rw e nought

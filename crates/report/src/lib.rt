@@ -1,122 +1,99 @@
-// The report of a chain file, its step list as a text, the line of a face of the dice, and the line of an answer alone.
+// The report of a chain file, its step list as a text, the line of a face of the dice, and the line of an answer alone: each at the front of a lent
+// buffer, and its length is answered, or that the buffer has too little room. Of a file `kept` holds the first bytes and `more` counts the others.
 #![tactic(auto)]
 
-ghost use Rattle.std.specs.Prelude.{◌≤◌, length};
+ghost use Rattle.std.specs.Prelude.{◌≤◌, ◌≡◌, length, MatchResult};
 ghost use Rattle.meaning.specs.Report.{report_room, Report, ReportOutcome, steps_room, StepsReport, StepsReportOutcome, FaceOutcome, AnswerOutcome};
-ghost use Rattle.engines.specs.Answer.{told_chance};
+ghost use Rattle.chain.specs.Refusal.{number_of};
 ghost use Rattle.chainfile.specs.Input.{input};
-ghost use Rattle.report.specs.Stands.{Stands, told, answer_of};
+ghost use Rattle.figures.specs.Told.{told_answer};
+ghost use Rattle.report.specs.Stands.{Stands, Writes, told};
+ghost use Rattle.report.specs.Lines.{Lasts, Ends};
 
 use chain::Chain;
-use engines::answer::Chance;
-use figures::{Answer, Question};
+use chain::refusal::{Fault, Refusal};
 
 mod print;
 mod records;
 
+pub use figures::Answer;
 pub use print::{ANSWER_ROOM, BOUNDS_LINE, FACE_ROOM, REPORT_ROOM, STEPS_ROOM};
 
-// What a text in a lent buffer answers: how long it is, or that the buffer is refused.
-#[derive(Clone, Copy)]
-pub enum Printed {
-    Length(usize),
-    Refused { number: u32, place: usize },
-}
-
-// What the reader refuses ends the report, and what the entry for the reward refuses by 1 to 11; what the other entries could refuse so, that
-// entry refuses too.
-fn file_lines(kept: &[u8], more: u64, buffer: &mut [u8]) -> usize
-    requires { report_room ≤ length buffer.old }
-    ensures { Stands (Report (input kept.now more)) buffer.old result buffer.new }
+// A refusal ends a report with a single line; but 12 stands in its own line, in place of the fraction: then nothing is ended.
+fn ended<T: Copy>(answer: Result<T, Refusal>) -> Result<(), Refusal>
+    ensures { MatchResult result (λ _. Lasts answer) (λ r. (answer ≡ Err r) × Ends (number_of r.fault)) }
 {
-    let found = figures::ask(kept, more, Question::Report);
-    if print::ends(found.number) {
-        return print::refusal_line(buffer, 0, found.number, found.place);
+    match answer {
+        Err(r) if print::ends(r.fault.number()) => Err(r),
+        _ => Ok(()),
     }
-    let reward = found.reward;
-    if print::ends(reward.number) {
-        return print::refusal_line(buffer, 0, reward.number, reward.place);
-    }
-    print::seven_lines(buffer, 0, found)
 }
 
-// The report of a chain file of which `kept` holds the first bytes and `more` counts the others, at the front of the buffer.
-pub fn report(kept: &[u8], more: u64, buffer: &mut [u8]) -> Printed
+// The seven lines. What the reader refuses ends the report, and what the entry for the reward refuses by 1 to 11; what the other entries could
+// refuse so, that entry refuses too.
+fn file_lines(kept: &[u8], more: u64, buffer: &mut [u8]) -> Result<usize, Refusal>
+    requires { report_room ≤ length buffer.old }
+    ensures { Writes (Report (input kept.now more)) buffer.old result buffer.new }
+{
+    let found = figures::report(kept, more)?;
+    ended(found.reward)?;
+    let bounds = found.bounds?;
+    Ok(print::seven_lines(buffer, 0, found, bounds))
+}
+
+pub fn report(kept: &[u8], more: u64, buffer: &mut [u8]) -> Result<usize, Refusal>
     ensures { ReportOutcome (input kept.now more) buffer.old (told result) buffer.new }
 {
     if buffer.len() < print::REPORT_ROOM {
-        return Printed::Refused {
-            number: 2,
-            place: 0,
-        };
+        return Err(Refusal::from(Fault::Room));
     }
-    Printed::Length(file_lines(kept, more, buffer))
+    match file_lines(kept, more, buffer) {
+        Ok(n) => Ok(n),
+        Err(r) => answer(Answer::from(r), buffer),
+    }
 }
 
-// A line for each record and then the chance, with room for the records of the largest chain; or the line of a refusal but 12.
-fn steps_lines(kept: &[u8], more: u64, buffer: &mut [u8]) -> usize
+// A line for each record and then the chance, with room for the records of the largest chain.
+fn steps_lines(kept: &[u8], more: u64, buffer: &mut [u8]) -> Result<usize, Refusal>
     requires { steps_room ≤ length buffer.old }
-    ensures { Stands (StepsReport (input kept.now more)) buffer.old result buffer.new }
+    ensures { Writes (StepsReport (input kept.now more)) buffer.old result buffer.new }
 {
     let t = figures::steps(kept, more, Chain::STATES);
-    let answered = t.chance;
-    let chance = Answer::of_chance(answered);
-    if print::ends(chance.number) {
-        return print::refusal_line(buffer, 0, chance.number, chance.place);
-    }
+    ended(t.chance)?;
     let numbers = t.numbers;
     let end = records::record_lines(buffer, &numbers);
-    print::answer_line(buffer, end, b"chance ", chance)
+    Ok(print::answer_line(buffer, end, b"chance ", Answer::from(t.chance)))
 }
 
 // The step list and the chance of a chain file, in the same way.
-pub fn steps(kept: &[u8], more: u64, buffer: &mut [u8]) -> Printed
+pub fn steps(kept: &[u8], more: u64, buffer: &mut [u8]) -> Result<usize, Refusal>
     ensures { StepsReportOutcome (input kept.now more) buffer.old (told result) buffer.new }
 {
     if buffer.len() < print::STEPS_ROOM {
-        return Printed::Refused {
-            number: 2,
-            place: 0,
-        };
+        return Err(Refusal::from(Fault::Room));
     }
-    Printed::Length(steps_lines(kept, more, buffer))
+    match steps_lines(kept, more, buffer) {
+        Ok(n) => Ok(n),
+        Err(r) => answer(Answer::from(r), buffer),
+    }
 }
 
-// The line of a face of the dice, with its chance or why there is none, at the front of the buffer.
-pub fn face(face: u64, chance: Chance, buffer: &mut [u8]) -> Printed
-    ensures { FaceOutcome face (told_chance chance) buffer.old (told result) buffer.new }
+// The line of a face of the dice, with its chance or why there is none.
+pub fn face(face: u64, chance: Answer, buffer: &mut [u8]) -> Result<usize, Refusal>
+    ensures { FaceOutcome face (told_answer chance) buffer.old (told result) buffer.new }
 {
     if buffer.len() < print::FACE_ROOM {
-        return Printed::Refused {
-            number: 2,
-            place: 0,
-        };
+        return Err(Refusal::from(Fault::Room));
     }
-    Printed::Length(print::face_line(buffer, 0, face, Answer::of_chance(chance)))
+    Ok(print::face_line(buffer, 0, face, chance))
 }
 
-// The line of an answer alone, from its four numbers, at the front of the buffer.
-pub fn answer(
-    number: u32,
-    place: usize,
-    numerator: u64,
-    denominator: u64,
-    buffer: &mut [u8],
-) -> Printed
-    ensures { let a = answer_of number place numerator denominator in
-        AnswerOutcome a buffer.old (told result) buffer.new }
+// The line of an answer alone.
+pub fn answer(a: Answer, buffer: &mut [u8]) -> Result<usize, Refusal>
+    ensures { AnswerOutcome (told_answer a) buffer.old (told result) buffer.new }
 {
     if buffer.len() < print::ANSWER_ROOM {
-        return Printed::Refused {
-            number: 2,
-            place: 0,
-        };
+        return Err(Refusal::from(Fault::Room));
     }
-    let a = Answer {
-        number,
-        place,
-        numerator,
-        denominator,
-    };
-    Printed::Length(print::answer_line(buffer, 0, b"", a))
+    Ok(print::answer_line(buffer, 0, b"", a))
 }

@@ -1,6 +1,5 @@
 // The lines of the report, from pieces. Each answers the place after what it wrote; where there is room for the line, it is written.
-ghost use Rattle.std.specs.Prelude.{◌++◌};
-ghost use Rattle.meaning.specs.Text.{bytes_of, decimal};
+ghost use Rattle.meaning.specs.Text.{decimal};
 ghost use Rattle.meaning.specs.Report.{refused_text, answer_text, named_text, line_text, face_text};
 ghost use Rattle.meaning.specs.Number.{decides};
 ghost use Rattle.text.specs.Puts.{Puts};
@@ -9,7 +8,8 @@ ghost use Rattle.report.specs.Lines.{told_lines, counts_text, Ends};
 
 use crate::records::RECORD_LINE;
 use chain::Chain;
-use figures::{Answer, Counts, Figures};
+use engines::answer::Bounds;
+use figures::{Answer, Counts, Report};
 use text::{bounds_line, fraction, number, put};
 
 // Room for any report, each line at its longest: a line has a name, what stands in it, and a byte for its end.
@@ -48,7 +48,7 @@ fn refused(buffer: &mut [u8], at: usize, code: u32, place: usize) -> usize
     ensures { Puts buffer.old at (refused_text code place) buffer.new result }
 {
     let first = put(buffer, at, b"refused ");
-    let second = number(buffer, first, code as u64);
+    let second = number(buffer, first, u64::from(code));
     let third = put(buffer, second, b" at ");
     number(buffer, third, place as u64)
 }
@@ -97,25 +97,21 @@ fn count_lines(buffer: &mut [u8], at: usize, counts: Counts) -> usize
 }
 
 // The seven lines.
-pub(crate) fn seven_lines(buffer: &mut [u8], at: usize, found: Figures) -> usize
-    ensures { Puts buffer.old at (told_lines found) buffer.new result }
+pub(crate) fn seven_lines(buffer: &mut [u8], at: usize, found: Report, bounds: Bounds) -> usize
+    ensures { Puts buffer.old at (told_lines found bounds) buffer.new result }
 {
-    let counts = found.counts;
-    let chance = found.chance;
-    let reward = found.reward;
-    let limits = found.bounds;
-    let fifth = count_lines(buffer, at, counts);
-    let sixth = answer_line(buffer, fifth, b"chance ", chance);
-    let seventh = answer_line(buffer, sixth, b"reward ", reward);
-    bounds_line(buffer, seventh, limits.p, limits.q, limits.s, limits.t)
-}
-
-// The single line of a refusal.
-pub(crate) fn refusal_line(buffer: &mut [u8], at: usize, code: u32, place: usize) -> usize
-    ensures { Puts buffer.old at (refused_text code place ++ bytes_of "\n") buffer.new result }
-{
-    let end = refused(buffer, at, code, place);
-    put(buffer, end, b"\n")
+    let Bounds { lower, upper } = bounds;
+    let fifth = count_lines(buffer, at, found.counts);
+    let sixth = answer_line(buffer, fifth, b"chance ", Answer::from(found.chance));
+    let seventh = answer_line(buffer, sixth, b"reward ", Answer::from(found.reward));
+    bounds_line(
+        buffer,
+        seventh,
+        lower.numerator,
+        lower.denominator,
+        upper.numerator,
+        upper.denominator,
+    )
 }
 
 // The line of a face of the dice.

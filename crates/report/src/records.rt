@@ -1,10 +1,10 @@
 // The lines of a step list.
-ghost use Rattle.std.specs.Prelude.{◌*◌, ◌≤◌, length};
+ghost use Rattle.std.specs.Prelude.{◌*◌, ◌≤◌, ◌<◌, length};
 ghost use Rattle.meaning.specs.Chain.{most_states};
 ghost use Rattle.meaning.specs.Report.{record_text, records_text};
 ghost use Rattle.octets.specs.Written.{Written};
 ghost use Rattle.text.specs.Puts.{Puts};
-ghost use Rattle.engines.specs.Trace.{count_in, records_in};
+ghost use Rattle.engines.specs.Trace.{count_in, record_in, records_in};
 ghost use Rattle.report.specs.Lines.{record_room};
 
 use crate::print::{count_line, named};
@@ -13,21 +13,17 @@ use engines::answer::Trace;
 // Room for any line: names, a byte for its end, and numbers of 64 bits, which have 20 digits.
 pub(crate) const RECORD_LINE: usize = (6 + 20) + (6 + 20) + (9 + 20) + (9 + 20) + 1;
 
-fn record_line(
-    buffer: &mut [u8],
-    at: usize,
-    state: u64,
-    rows: u64,
-    columns: u64,
-    divisor: u64,
-) -> usize
-    ensures { let text = record_text state rows columns divisor in
+fn record_line(buffer: &mut [u8], at: usize, numbers: &[u64; Trace::NUMBERS], i: usize) -> usize
+    requires { i < most_states }
+    ensures { let r = record_in numbers.now i in
+        let text = record_text r.state r.rows r.columns r.divisor in
         Puts buffer.old at text buffer.new result × (length text ≤ record_room) }
 {
-    let second = named(buffer, at, b"state ", state);
-    let third = named(buffer, second, b" rows ", rows);
-    let fourth = named(buffer, third, b" columns ", columns);
-    count_line(buffer, fourth, b" divisor ", divisor)
+    let k = Trace::RECORD * i;
+    let second = named(buffer, at, b"state ", numbers[k + 1]);
+    let third = named(buffer, second, b" rows ", numbers[k + 2]);
+    let fourth = named(buffer, third, b" columns ", numbers[k + 3]);
+    count_line(buffer, fourth, b" divisor ", numbers[k + 4])
 }
 
 // A line for each record of a trace, from the front of the buffer on.
@@ -37,18 +33,8 @@ pub(crate) fn record_lines(buffer: &mut [u8], numbers: &[u64; Trace::NUMBERS]) -
 {
     let count = numbers[0] as usize;
     let mut at = 0;
-    let mut i = 0;
-    while i < count {
-        let k = Trace::RECORD * i;
-        at = record_line(
-            buffer,
-            at,
-            numbers[k + 1],
-            numbers[k + 2],
-            numbers[k + 3],
-            numbers[k + 4],
-        );
-        i += 1;
+    for i in 0..count {
+        at = record_line(buffer, at, numbers, i);
     }
     at
 }

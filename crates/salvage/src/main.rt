@@ -1,8 +1,6 @@
 // Reads a chain file on standard input and prints what is left of it.
 #![tactic(auto)]
 
-use input::Reading;
-use report::Printed;
 use salvaging::salvage;
 
 fn main(rt: HostRuntime) {
@@ -15,15 +13,15 @@ fn main(rt: HostRuntime) {
     }
     let mut kept = [0u8; chainfile::LONGEST];
     let came = match input::read(&mut rt.stdin(), &mut kept) {
-        Reading::Came(came) => came,
-        Reading::Failed(why) => {
+        Ok(came) => came,
+        Err(why) => {
             output::fail(&mut rt.stderr(), b"salvage: standard input", why);
             return;
         }
     };
     let length = came.length;
     let mut buffer = [0u8; salvaging::ROOM];
-    if let Printed::Length(n) = salvage(&kept[..length], came.more, &mut buffer) {
+    if let Ok(n) = salvage(&kept[..length], came.more, &mut buffer) {
         output::print(
             &mut rt.stdout(),
             &mut rt.stderr(),

@@ -16,8 +16,7 @@ use Rattle.meaning.specs.Left.{short_rows, LeftOutcome}
 use Rattle.meaning.specs.Block.{Input, demanded}
 use Rattle.meaning.specs.File.{most_blocks}
 use Rattle.meaning.specs.Text.{bytes_of}
-use Rattle.meaning.specs.Report.{refused_text, AnswerOutcome}
-use Rattle.meaning.specs.Salvage.{Opened, Lost, left_chain, left_in, IndexOf, PlaceIn, edge, other, pair_text, lost_text, short_text, verdict, Salvaged, SalvagedOutcome, short_room, salvage_room}
+use Rattle.meaning.specs.Salvage.{Opened, Lost, left_chain, left_in, IndexOf, PlaceIn, edge, other, pair_text, lost_text, short_text, verdict, Salvaged, short_room}
 use Rattle.theory.specs.Numbers.Sum.{below}
 use Rattle.theory.specs.Numbers.Join.{join_past}
 use Rattle.theory.specs.Outcomes.Small.{left_small}
@@ -30,9 +29,6 @@ use Rattle.chainfile.specs.Input.{input}
 use Rattle.chainfile.specs.Index.{Whole}
 use Rattle.look.specs.Sums.{Lacks}
 use Rattle.look.proofs.Refuse.{refused_some}
-use Rattle.report.specs.Stands.{told, answer_of}
-use Rattle.report.proofs.Refusals.{refusal_told}
-use Rattle.report.specs.declared.Printed.{Printed}
 use Rattle.salvaging.specs.Lines.{bounds_line, numbers_text, left_text, Fits}
 use Rattle.salvaging.specs.Holds.{PlaceTold}
 
@@ -53,12 +49,6 @@ module _ {x : Entry} {short : Bool} {l : Lent} {work : List ℕ} where
   bounds_refused (answered f t (BoundsFigure.lost g e) s) = absurd (omega (arith, ap (λ (a : Bounds). a.lower_denominator) e))
   bounds_refused (answered f t (BoundsFigure.live k r v p q s t' b e) z) =
       absurd (omega (arith, ap (λ (a : Bounds). a.lower_denominator) e, b.0.lowest.whole))
-
--- A refusal is told as the report tells it.
-pub refusal_line : {f : Input} {before after : List ℕ} (number place : ℕ) (r : Printed) → salvage_room ≤ length before → 0 < number
-    → ((t : List ℕ) → t ≡ refused_text number place ++ bytes_of "\n" → Salvaged f t)
-    → AnswerOutcome (answer_of number place 0 0) before (told r) after → SalvagedOutcome f before (told r) after
-refusal_line number place r room = refusal_told number place r (omega arith) room
 
 -- The place of a refusal of what is left is the one that is told.
 pub place_told : {kept : List ℕ} {more number place r : ℕ} {v : ℕ → ℕ} → PlaceTold (input kept 0) v number place r

@@ -1,14 +1,14 @@
 // The lines of what is left of a file, from pieces. Each answers the place after what it wrote; where there is room for the line, it is written.
 ghost use Rattle.std.specs.Prelude.{◌++◌, ◌≤◌, length};
-ghost use Rattle.meaning.specs.Outcome.{between};
 ghost use Rattle.meaning.specs.Text.{bytes_of, decimal};
 ghost use Rattle.meaning.specs.Salvage.{salvage_room};
 ghost use Rattle.octets.specs.Written.{Written};
 ghost use Rattle.text.specs.Puts.{Puts};
+ghost use Rattle.engines.specs.Answer.{told_bounds};
 ghost use Rattle.salvaging.specs.Lines.{bounds_line, number_text, numbers_text, left_text, Fits};
 
 use chain::Chain;
-use chain::fraction::Fraction;
+use engines::answer::Bounds;
 use octets::layout;
 use report::BOUNDS_LINE;
 use text::{number, put};
@@ -24,11 +24,11 @@ const EDGE_BLOCKS: usize = (Chain::EDGES + layout::FULL - 1) / layout::FULL;
 pub const ROOM: usize = BOUNDS_LINE + EDGE_BLOCKS * LOST_LINE + Chain::STATES * SHORT_LINE;
 
 // The line of the bounds, at the front of a buffer that has room for any text.
-pub(crate) fn bounds_line(buffer: &mut [u8], lower: Fraction, upper: Fraction) -> usize
+pub(crate) fn bounds_line(buffer: &mut [u8], bounds: Bounds) -> usize
     requires { salvage_room ≤ length buffer.old }
-    ensures { let a = between lower.numerator lower.denominator upper.numerator upper.denominator in
-        Written buffer.old 0 (bounds_line a) buffer.new result }
+    ensures { Written buffer.old 0 (bounds_line (told_bounds (Ok bounds))) buffer.new result }
 {
+    let Bounds { lower, upper } = bounds;
     text::bounds_line(
         buffer,
         0,
@@ -65,28 +65,19 @@ fn number_lines(buffer: &mut [u8], at: usize, word: &[u8], numbers: &[u64]) -> u
         Puts buffer.old at (numbers_text word.now n (length n)) buffer.new result }
 {
     let mut next = at;
-    let mut i = 0;
-    while i < numbers.len() {
-        next = number_line(buffer, next, word, i, numbers[i]);
-        i += 1;
+    for (i, x) in numbers.iter().enumerate() {
+        next = number_line(buffer, next, word, i, *x);
     }
     next
 }
 
 // The bounds, the lost blocks and the rows that fell short, in the same way.
-pub(crate) fn left_lines(
-    buffer: &mut [u8],
-    lower: Fraction,
-    upper: Fraction,
-    lost: &[u64],
-    short: &[u64],
-) -> usize
+pub(crate) fn left_lines(buffer: &mut [u8], bounds: Bounds, lost: &[u64], short: &[u64]) -> usize
     requires room { salvage_room ≤ length buffer.old }
-    requires fits { Fits (between lower.numerator lower.denominator upper.numerator upper.denominator) lost.now short.now }
-    ensures { let a = between lower.numerator lower.denominator upper.numerator upper.denominator in
-        Written buffer.old 0 (left_text a lost.now short.now) buffer.new result }
+    requires fits { Fits (told_bounds (Ok bounds)) lost.now short.now }
+    ensures { Written buffer.old 0 (left_text (told_bounds (Ok bounds)) lost.now short.now) buffer.new result }
 {
-    let first = bounds_line(buffer, lower, upper);
+    let first = bounds_line(buffer, bounds);
     let second = number_lines(buffer, first, b"lost ", lost);
     number_lines(buffer, second, b"short ", short)
 }

@@ -1,9 +1,6 @@
 // Reads a chain file on standard input and prints it as a text.
 #![tactic(auto)]
 
-use input::Reading;
-use report::Printed;
-
 fn main(rt: HostRuntime) {
     if input::words(&rt) != 0 {
         output::tell(
@@ -14,15 +11,15 @@ fn main(rt: HostRuntime) {
     }
     let mut kept = [0u8; chainfile::LONGEST];
     let came = match input::read(&mut rt.stdin(), &mut kept) {
-        Reading::Came(came) => came,
-        Reading::Failed(why) => {
+        Ok(came) => came,
+        Err(why) => {
             output::fail(&mut rt.stderr(), b"showchain: standard input", why);
             return;
         }
     };
     let length = came.length;
     let mut buffer = [0u8; showing::ROOM];
-    if let Printed::Length(n) = showing::show(&kept[..length], came.more, &mut buffer) {
+    if let Ok(n) = showing::show(&kept[..length], came.more, &mut buffer) {
         output::print(
             &mut rt.stdout(),
             &mut rt.stderr(),

@@ -1,16 +1,13 @@
 // The text form of chain files, written: a chain file is shown as a text.
 #![tactic(auto)]
 
-ghost use Rattle.std.specs.Prelude.{◌≤◌, length};
-ghost use Rattle.meaning.specs.Block.{Input};
-ghost use Rattle.meaning.specs.Translate.{shown_room, ShowOutcome, TextedOutcome};
+ghost use Rattle.meaning.specs.Translate.{ShowOutcome, TextedOutcome};
 ghost use Rattle.chainfile.specs.Input.{input};
-ghost use Rattle.opening.specs.Book.{Opened};
 ghost use Rattle.report.specs.Stands.{told};
 
 use chain::Chain;
-use opening::Opening;
-use report::Printed;
+use chain::refusal::{Fault, Refusal};
+use report::Answer;
 
 mod print;
 
@@ -26,65 +23,26 @@ pub const ROOM: usize = (7 + 21)
     + (5 + Chain::STATES * 21 + 1)
     + Chain::EDGES * EDGE_LINE;
 
-// Writes the text of an opened file.
-fn written(opened: Opening, table: &[u64], buffer: &mut [u8]) -> Printed
-    requires room { shown_room ≤ length buffer.old }
-    requires opened { (f : Input) × Opened f opened table.now }
-    ensures { let t = table.now in
-        ((f : Input) → Opened f opened t → TextedOutcome f buffer.old (told result) buffer.new) }
-{
-    match opened {
-        Opening::Refused { number, place } => Printed::Refused { number, place },
-        Opening::Chain(book) => {
-            let count = book.edges;
-            let denominators = opening::denominators(table, book);
-            let edges = opening::edges(table, book);
-            let order = opening::order(table, book);
-            let rewards = opening::rewards(table, book);
-            Printed::Length(print::lines(
-                book.chain,
-                denominators,
-                count,
-                edges,
-                order,
-                rewards,
-                buffer,
-            ))
-        }
-    }
-}
-
 // Writes the text of the chain file of which `kept` holds the first bytes and `more` counts the others, at the front of the buffer, and answers
 // its length. A refusal leaves the whole buffer.
-pub fn text(kept: &[u8], more: u64, buffer: &mut [u8]) -> Printed
+pub fn text(kept: &[u8], more: u64, buffer: &mut [u8]) -> Result<usize, Refusal>
     ensures { TextedOutcome (input kept.now more) buffer.old (told result) buffer.new }
 {
     if buffer.len() < ROOM {
-        return Printed::Refused {
-            number: 2,
-            place: 0,
-        };
+        return Err(Refusal::from(Fault::Room));
     }
-    if opening::long(kept, more) {
-        let mut table = [0u64; opening::LARGEST];
-        return written(opening::of(kept, more, &mut table), &table, buffer);
-    }
-    let mut table = [0u64; opening::SMALL];
-    written(opening::of(kept, more, &mut table), &table, buffer)
+    opening::with(kept, more, &mut |opened| Ok(print::lines(opened, buffer)))
 }
 
 // Shows it: a refusal's line is written where there is no text.
-pub fn show(kept: &[u8], more: u64, buffer: &mut [u8]) -> Printed
+pub fn show(kept: &[u8], more: u64, buffer: &mut [u8]) -> Result<usize, Refusal>
     ensures { ShowOutcome (input kept.now more) buffer.old (told result) buffer.new }
 {
     if buffer.len() < ROOM {
-        return Printed::Refused {
-            number: 2,
-            place: 0,
-        };
+        return Err(Refusal::from(Fault::Room));
     }
     match text(kept, more, buffer) {
-        Printed::Refused { number, place } => report::answer(number, place, 0, 0, buffer),
-        Printed::Length(n) => Printed::Length(n),
+        Ok(n) => Ok(n),
+        Err(r) => report::answer(Answer::from(r), buffer),
     }
 }

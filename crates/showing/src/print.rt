@@ -1,16 +1,17 @@
 // The lines of a chain's text. Each function asks for the room of what it writes at its longest, with numbers of 64 bits, and answers the place
 // after it.
-ghost use Rattle.std.specs.Prelude.{◌≡◌, [], ◌++◌, ◌+◌, ◌*◌, ◌≤◌, length};
+ghost use Rattle.std.specs.Prelude.{[], ◌++◌, ◌+◌, ◌*◌, ◌≤◌, length};
 ghost use Rattle.meaning.specs.Text.{bytes_of};
 ghost use Rattle.meaning.specs.Report.{named_text};
 ghost use Rattle.meaning.specs.Chain.{edge_count};
-ghost use Rattle.meaning.specs.ChainText.{state_line, spaced, order_line, edge_line, text_of, chain_text};
+ghost use Rattle.meaning.specs.ChainText.{spaced, order_line, text_of, chain_text};
 ghost use Rattle.meaning.specs.Translate.{shown_room};
-ghost use Rattle.chain.specs.Lent.{lent};
+ghost use Rattle.chain.specs.Given.{with};
 ghost use Rattle.octets.specs.Written.{Written};
-ghost use Rattle.showing.specs.Print.{Put, state_lines, edge_lines};
+ghost use Rattle.showing.specs.Print.{Put, state_line_of, state_lines, edge_line_of, edge_lines};
 
-use chain::{Chain, edge, set, table};
+use chain::{edge, set, table};
+use opening::Opened;
 use text::{named, put};
 
 fn count_line(buffer: &mut [u8], at: usize, name: &[u8], x: u64) -> usize
@@ -22,61 +23,45 @@ fn count_line(buffer: &mut [u8], at: usize, name: &[u8], x: u64) -> usize
     put(buffer, end, b"\n")
 }
 
-fn state_line(
-    buffer: &mut [u8],
-    at: usize,
-    i: u64,
-    denominator: u64,
-    reward: u64,
-    goal: bool,
-) -> usize
+fn state_line(buffer: &mut [u8], at: usize, opened: &Opened, i: usize) -> usize
     requires { at + 93 ≤ length buffer.old }
-    ensures { Put buffer.old at (state_line i denominator reward goal ++ bytes_of "\n") 93 buffer.new result }
+    ensures { Put buffer.old at (state_line_of opened.now i ++ bytes_of "\n") 93 buffer.new result }
 {
-    let second = named(buffer, at, b"state ", i);
-    let third = named(buffer, second, b" denominator ", denominator);
-    let fourth = named(buffer, third, b" reward ", reward);
-    if goal {
-        return put(buffer, fourth, b" goal\n");
+    let g = &opened.given;
+    let second = named(buffer, at, b"state ", i as u64);
+    let third = named(
+        buffer,
+        second,
+        b" denominator ",
+        table::at(g.denominators, i),
+    );
+    let fourth = named(buffer, third, b" reward ", table::at(opened.rewards, i));
+    if set::holds(g.chain.goals, i) {
+        put(buffer, fourth, b" goal\n")
+    } else {
+        put(buffer, fourth, b"\n")
     }
-    put(buffer, fourth, b"\n")
 }
 
-fn edge_line(buffer: &mut [u8], at: usize, from: u64, to: u64, weight: u64, reward: u64) -> usize
+fn edge_line(buffer: &mut [u8], at: usize, edges: &[u64], e: usize) -> usize
     requires { at + 103 ≤ length buffer.old }
-    ensures { Put buffer.old at (edge_line from to weight reward ++ bytes_of "\n") 103 buffer.new result }
+    ensures { Put buffer.old at (edge_line_of edges.now e ++ bytes_of "\n") 103 buffer.new result }
 {
-    let second = named(buffer, at, b"edge ", from);
-    let third = named(buffer, second, b" ", to);
-    let fourth = named(buffer, third, b" weight ", weight);
-    let end = named(buffer, fourth, b" reward ", reward);
+    let second = named(buffer, at, b"edge ", edge::from(edges, e));
+    let third = named(buffer, second, b" ", edge::to(edges, e));
+    let fourth = named(buffer, third, b" weight ", edge::weight(edges, e));
+    let end = named(buffer, fourth, b" reward ", edge::reward(edges, e));
     put(buffer, end, b"\n")
 }
 
-fn state_lines(
-    buffer: &mut [u8],
-    at: usize,
-    n: usize,
-    goals: u64,
-    denominators: &[u64],
-    rewards: &[u64],
-) -> usize
-    requires { at + n * 93 ≤ length buffer.old }
-    ensures { let text = state_lines goals denominators.now rewards.now n in
-        Put buffer.old at (text_of text) (n * 93) buffer.new result }
+fn state_lines(buffer: &mut [u8], at: usize, opened: &Opened) -> usize
+    requires { at + opened.now.given.chain.states * 93 ≤ length buffer.old }
+    ensures { let n = opened.now.given.chain.states in
+        Put buffer.old at (text_of (state_lines opened.now n)) (n * 93) buffer.new result }
 {
     let mut next = at;
-    let mut i = 0;
-    while i < n {
-        next = state_line(
-            buffer,
-            next,
-            i as u64,
-            table::at(denominators, i),
-            table::at(rewards, i),
-            set::holds(goals, i),
-        );
-        i += 1;
+    for i in 0..opened.given.chain.states {
+        next = state_line(buffer, next, opened, i);
     }
     next
 }
@@ -87,10 +72,8 @@ fn order_numbers(buffer: &mut [u8], at: usize, order: &[u64]) -> usize
         Put buffer.old at (spaced order) (length order * 21) buffer.new result }
 {
     let mut next = at;
-    let mut p = 0;
-    while p < order.len() {
-        next = named(buffer, next, b" ", order[p]);
-        p += 1;
+    for state in order {
+        next = named(buffer, next, b" ", *state);
     }
     next
 }
@@ -110,40 +93,25 @@ fn edge_lines(buffer: &mut [u8], at: usize, count: usize, edges: &[u64]) -> usiz
     ensures { Put buffer.old at (text_of (edge_lines edges.now count)) (count * 103) buffer.new result }
 {
     let mut next = at;
-    let mut e = 0;
-    while e < count {
-        next = edge_line(
-            buffer,
-            next,
-            edge::from(edges, e),
-            edge::to(edges, e),
-            edge::weight(edges, e),
-            edge::reward(edges, e),
-        );
-        e += 1;
+    for e in 0..count {
+        next = edge_line(buffer, next, edges, e);
     }
     next
 }
 
 // The text of a chain with its tables, at the front of the buffer.
-pub(crate) fn lines(
-    c: Chain,
-    denominators: &[u64],
-    count: usize,
-    edges: &[u64],
-    order: &[u64],
-    rewards: &[u64],
-    buffer: &mut [u8],
-) -> usize
-    requires { (shown_room ≤ length buffer.old) × (c.states ≤ 64) × (length order.now ≤ 64) × (count ≤ 4096) }
-    ensures { let l = lent c denominators.now edges.now order.now rewards.now in
-        edge_count edges.now ≡ count → Written buffer.old 0 (chain_text (l [])) buffer.new result }
+pub(crate) fn lines(opened: &Opened, buffer: &mut [u8]) -> usize
+    requires { (shown_room ≤ length buffer.old) × (opened.now.given.chain.states ≤ 64) × (length opened.now.order.now ≤ 64) × (edge_count opened.now.given.edges.now ≤ 4096) }
+    ensures { let l = with opened.now.given opened.now.order.now opened.now.rewards.now [] in
+        Written buffer.old 0 (chain_text l) buffer.new result }
 {
-    let n = c.states;
-    let first = count_line(buffer, 0, b"states ", n as u64);
+    let g = &opened.given;
+    let c = g.chain;
+    let count = edge::count(g.edges);
+    let first = count_line(buffer, 0, b"states ", c.states as u64);
     let second = count_line(buffer, first, b"edges ", count as u64);
     let third = count_line(buffer, second, b"start ", c.start as u64);
-    let fourth = state_lines(buffer, third, n, c.goals, denominators, rewards);
-    let fifth = order_line(buffer, fourth, order);
-    edge_lines(buffer, fifth, count, edges)
+    let fourth = state_lines(buffer, third, opened);
+    let fifth = order_line(buffer, fourth, opened.order);
+    edge_lines(buffer, fifth, count, g.edges)
 }

@@ -1,10 +1,11 @@
 -- A list with the first records of a trace at its front.
 use mathlib.Core.Path.{◌≡◌, refl, sym, ap, ◌∙◌}
-use Prim.Native.Nat.{ℕ, zero, suc, ◌+◌, ◌<◌}
+use Prim.Native.Nat.{ℕ, zero, suc, ◌+◌, ◌≤◌, ◌<◌}
+use native.Mathlib.Omega.{arith}
 use native.Mathlib.Numerals.{add-one}
-use mathlib.Core.List.{List, [], ◌∷◌, ◌++◌, map, map-append}
-use lib.ListN.{length, get_or, set, drop}
-use lib.Seq.{drop-cons, set_at, append_snoc}
+use mathlib.Core.List.{List, [], ◌∷◌, ◌++◌, map, map-append, append-nil}
+use lib.ListN.{length, get_or, set, take, drop, drop_of_length-le}
+use lib.Seq.{length-take-le, drop-cons, set_at, append_snoc}
 use Rattle.meaning.specs.Number.{tab_from, filled}
 use Rattle.theory.specs.Numbers.Tab.{tab_length, tab_more}
 
@@ -22,6 +23,13 @@ module _ {ℓ} {A : Type ℓ} where
         (append_snoc (tab_from 0 k f) (f k) (drop (suc k) l)
         ∙ sym (set_at (tab_from 0 k f) (get_or l k (f k)) (drop (suc k) l) (f k) k old)
         ∙ ap (λ (z : List A). set (tab_from 0 k f ++ z) k (f k)) (sym (drop-cons l k (f k) h) ∙ ap (λ (j : ℕ). drop j l) (sym old)))
+
+    -- The first k entries, which were lent and have come back.
+    pub listed_whole : (k : ℕ) → k ≤ length l → {x : List A} → x ≡ filled (tab_from 0 k f) (take k l) → x ++ drop k l ≡ filled (tab_from 0 k f) l
+    listed_whole k h e =
+        let n : length (tab_from 0 k f) ≡ k = tab_length 0 k f in
+        let m : length (take k l) ≤ k = omega (arith, length-take-le k l h) in
+        rw (e, n, drop_of_length-le (take k l) m, append-nil) refl
 
 -- The same with each entry in other words.
 module _ {ℓ ℓ'} {A : Type ℓ} {B : Type ℓ'} (g : A → B) where

@@ -1,7 +1,8 @@
 // The step list for the desk: records that the caller lends.
 #![tactic(auto)]
 
-use engines::answer::Chance;
+use chain::fraction::Fraction;
+use chain::refusal::Refusal;
 
 pub mod entry;
 pub mod list;
@@ -19,6 +20,6 @@ pub struct StepRecord {
 // The chance entry's answer, and how many records were written.
 #[derive(Clone, Copy)]
 pub struct Steps {
-    pub chance: Chance,
+    pub chance: Result<Fraction, Refusal>,
     pub count: usize,
 }

@@ -14,13 +14,6 @@ use Rattle.theory.specs.Numbers.Sum.{below}
 use Rattle.look.specs.Sums.{Lacks}
 use Rattle.survey.specs.Sets.{Exactly, Marked, MarkedTo}
 
-pub marked_none : (set i missing : ℕ) → missing ≡ 0 → Marked set i missing set
-marked_none set i missing e = record { is = λ k. (inl, λ m. out k m) }
-  where
-    out : (k : ℕ) → (bit set k ≡ 1) ⊎ ((k ≡ i) × (0 < missing)) → bit set k ≡ 1
-    out k (inl b) = b
-    out k (inr h) = absurd (omega (arith, h.1, e))
-
 pub marked_one : (set i missing one : ℕ) → one ≡ 2 ^ i → (missing ≡ 0 → ⊥) → Marked set i missing (bit_or set one)
 marked_one set i missing one e some = rw e (record { is = λ k. (λ b. there k ((in_either set (2 ^ i) k).0 b), λ m. (in_either set (2 ^ i) k).1 (back k m)) })
   where

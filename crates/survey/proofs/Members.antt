@@ -1,17 +1,17 @@
 -- What is in the sets of a chain.
-use Prim.Native.Nat.{ℕ, ◌^◌}
-use mathlib.Core.Path.{◌≡◌, refl, sym, subst, ◌∙◌}
+use Prim.Native.Nat.{ℕ, ◌%◌, ◌^◌, ◌<◌}
+use mathlib.Core.Path.{◌≡◌, refl, sym, ap, subst, ◌∙◌}
 use mathlib.Core.Logic.Iff
 use mathlib.Core.Logic.{⊎_elim}
 use mathlib.Core.Bool.{Bool, true, false, not}
 use mathlib.Core.List.{List}
 use native.Mathlib.Omega.{arith}
-use native.Mathlib.Nat.{zero-div}
+use native.Mathlib.Nat.{zero-div, mod-eq_of_lt}
 use lib.Bits.{bit_and, bit_xor}
 use lib.Dec.{eqb}
 use borrow.Author.Tests.{eqb-true, eqb-false}
 use Rattle.meaning.specs.Number.{bit}
-use Rattle.meaning.specs.Chain.{Chain, End, PathTo, FromStart, LiveTo}
+use Rattle.meaning.specs.Chain.{most_states, Chain, End, PathTo, FromStart, LiveTo}
 use Rattle.meaning.specs.Step.{RightTo}
 use Rattle.meaning.specs.Survey.{Misses}
 use Rattle.theory.specs.Numbers.Bits.{in_both, in_first, in_one, set_apart}
@@ -46,6 +46,10 @@ module _ (c : Chain) where
 
   pub start_grown : (set : ℕ) → Exactly (Grown (way false c.goals c.edges) (2 ^ c.start)) set → Exactly (FromStart c) set
   start_grown set f i = Iff.trans (f i) (from_start, to_start)
+
+-- The set of one state.
+pub one : {i r : ℕ} → r ≡ 2 ^ (i % most_states) → i < most_states → r ≡ 2 ^ i
+one {i} e h = e ∙ ap (λ k. 2 ^ k) (mod-eq_of_lt h)
 
 -- A state is open where it is in what is left of the set once the barrier is taken out.
 pub open_set : (barrier set i : ℕ) → decides (Open barrier set i) (not (eqb (bit_and (bit_xor set (bit_and set barrier)) (2 ^ i)) 0))

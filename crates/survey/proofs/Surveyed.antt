@@ -9,7 +9,7 @@ use lib.Count.{ones}
 use Rattle.meaning.specs.Number.{bit}
 use Rattle.meaning.specs.Chain.{most_states, Chain, Goal, End, FromStart, LiveTo}
 use Rattle.meaning.specs.Refusal.{Lent, bare_of, EndFault, Applies, Refused, WellFormed}
-use Rattle.meaning.specs.Survey.{Survey as Numbers, no_survey, SurveyOutcome, refused, surveyed}
+use Rattle.meaning.specs.Survey.{SurveyOutcome, refused, surveyed}
 use Rattle.theory.specs.Outcomes.Formed.{few_states, goals_in_lem, start_in, from_in_lem, to_in_lem}
 use Rattle.theory.specs.Numbers.Bits.{set_below}
 use Rattle.theory.specs.Chains.Counted.{count_ones}
@@ -19,7 +19,10 @@ use Rattle.survey.specs.Sets.{sets_of, Known}
 use Rattle.survey.specs.Told.{told}
 use Rattle.survey.specs.declared.Sets.{Sets as Found}
 use Rattle.survey.specs.declared.Survey.{Survey}
-use Rattle.survey.specs.declared.Survey.TheVariants as survey
+use Rattle.std.proofs.Common.{Result, Ok, Err}
+use Rattle.chain.specs.declared.refusal.Refusal.{Refusal}
+use Rattle.chain.specs.Refusal.{number_of}
+use Rattle.chain.proofs.Faults.{one_refusal}
 
 -- A test as its answer.
 answers : {P : Type 0} (b : Bool) → decides P b → (b ≡ true) ↔ P
@@ -38,7 +41,7 @@ module _ (short : Bool) (l : Lent) (formed : WellFormed (bare_of short) l) where
   ends_fit e (h, inl k) = omega (arith, from_in_lem (bare_of short) l formed e h, few_states (bare_of short) l formed)
   ends_fit e (h, inr k) = omega (arith, to_in_lem (bare_of short) l formed e h, few_states (bare_of short) l formed)
 
-  pub counted : (s : Found) → Known short c s → SurveyOutcome short l (told (survey.Found s (ones c.goals) (ones s.live)))
+  pub counted : (s : Found) → Known short c s → SurveyOutcome short l (told (Ok (record { sets = s; goals = ones c.goals; live = ones s.live })))
   counted s known =
       let live = s.live in
       surveyed formed (sets_of s) known.right s.missed (answers s.missed known.missed) (ones c.goals) (ones live)
@@ -58,56 +61,44 @@ decided : {P : Type 0} (b : Bool) → (b ≡ true) ↔ P → decides P b
 decided true t = t.0 refl
 decided false t = λ p. let e = t.1 p in let z : ◌≡◌ {A = ℕ} 0 1 = cc in omega arith
 
-module _ (short : Bool) (l : Lent) {r : Survey} (o : SurveyOutcome short l (told r)) where
-  pub refusing : {number place : ℕ} → r ≡ survey.Refused number place → Refused (bare_of short) l number place
-  refusing {number} {place} q =
-      elim (subst (λ r. SurveyOutcome short l (told r)) q o) [
+module _ (short : Bool) (l : Lent) {a : Result Survey Refusal} (o : SurveyOutcome short l (told a)) where
+  pub refusing : {r : Refusal} → a ≡ Err r → Refused (bare_of short) l (number_of r.fault) r.place
+  refusing {r} q =
+      elim (subst (λ (a : Result Survey Refusal). SurveyOutcome short l (told a)) q o) [
         | refused n p z e ↦
-            let a : number ≡ n = ap (λ s. s.number) e in let b : place ≡ p = ap (λ s. s.place) e in rw (a, b) z
+            let a : number_of r.fault ≡ n = ap (λ s. s.number) e in let b : r.place ≡ p = ap (λ s. s.place) e in rw (a, b) z
         | surveyed w k t m d g j a b e ↦ absurd (omega (arith, goals_some (bare_of short) l w g a, ap (λ s. s.goals) e))
       ]
 
-  pub found : {s : Found} {goals live : ℕ} → r ≡ survey.Found s goals live → WellFormed (bare_of short) l × Known short l.chain s
+  pub found : {s : Survey} → a ≡ Ok s → WellFormed (bare_of short) l × Known short l.chain s.sets
   found {s} q =
-      elim (subst (λ r. SurveyOutcome short l (told r)) q o) [
+      elim (subst (λ (a : Result Survey Refusal). SurveyOutcome short l (told a)) q o) [
         | refused n p z e ↦
             let a : 0 ≡ n = ap (λ s. s.number) e in absurd (subst (λ k. Applies (bare_of short) l k p) (sym a) z.applies)
         | surveyed w k t m d g j a b e ↦
-            let u : sets_of s ≡ k = ap (λ s. s.sets) e in
-            let v : s.missed ≡ m = ap (λ s. s.missed) e in
+            let u : sets_of s.sets ≡ k = ap (λ s. s.sets) e in
+            let v : s.sets.missed ≡ m = ap (λ s. s.missed) e in
             (w, record { right = rw u t; missed = rw v (decided m d) })
       ]
 
 -- A survey and a refusal have no numbers in common.
-apart : (short : Bool) (l : Lent) (s : Found) (goals live number place : ℕ) → SurveyOutcome short l (told (survey.Found s goals live))
-    → told (survey.Found s goals live) ≡ no_survey number place → ⊥
-apart short l s goals live number place (refused k p r e) q =
-    let z : k ≡ 0 = ap (λ s. s.number) (sym e) in
-    subst (λ k. Applies (bare_of short) l k p) z r.applies
-apart short l s goals live number place (surveyed w k t m d g j a b e) q =
+apart : (short : Bool) (l : Lent) (s : Survey) (r : Refusal) → SurveyOutcome short l (told (Ok s)) → told (Ok s) ≡ told (Err r) → ⊥
+apart short l s r (refused k p z e) q =
+    let z' : k ≡ 0 = ap (λ s. s.number) (sym e) in
+    subst (λ k. Applies (bare_of short) l k p) z' z.applies
+apart short l s r (surveyed w k t m d g j a b e) q =
     omega (arith, goals_some (bare_of short) l w g a, ap (λ s. s.goals) e, ap (λ s. s.goals) q)
 
-module _ {a b : Numbers} (e : a ≡ b) where
-  good : a.sets.good ≡ b.sets.good
-  good = ap (λ s. s.sets.good) e
-
-  alive : a.sets.live ≡ b.sets.live
-  alive = ap (λ s. s.sets.live) e
-
-  missed : a.missed ≡ b.missed
-  missed = ap (λ s. s.missed) e
-
 -- Two surveys that are promised of one input are the same.
-pub survey_unique : (short : Bool) (l : Lent) (r r' : Survey) → SurveyOutcome short l (told r) → SurveyOutcome short l (told r') → r ≡ r'
-survey_unique short l (survey.Found s g k) (survey.Found s' g' k') o o' =
+pub survey_unique : (short : Bool) (l : Lent) (a b : Result Survey Refusal) → SurveyOutcome short l (told a) → SurveyOutcome short l (told b) → a ≡ b
+survey_unique short l (Ok s) (Ok t) o o' =
     let e = survey_one o o' in
-    let a = good e in
-    let b = alive e in
-    let m = missed e in
-    let x = ap (λ s. s.goals) e in
-    let y = ap (λ s. s.live) e in
-    λ i. survey.Found (record { good = a i; live = b i; missed = m i }) (x i) (y i)
-survey_unique short l (survey.Found s g k) (survey.Refused n p) o o' = absurd (apart short l s g k n p o (survey_one o o'))
-survey_unique short l (survey.Refused n p) (survey.Found s g k) o o' = absurd (apart short l s g k n p o' (survey_one o' o))
-survey_unique short l (survey.Refused n p) (survey.Refused n' p') o o' =
-    let e = survey_one o o' in λ i. survey.Refused (ap (λ s. s.number) e i) (ap (λ s. s.place) e i)
+    λ i. Ok (record {
+      sets = record { good = ap (λ s. s.sets.good) e i; live = ap (λ s. s.sets.live) e i; missed = ap (λ s. s.missed) e i };
+      goals = ap (λ s. s.goals) e i;
+      live = ap (λ s. s.live) e i;
+    })
+survey_unique short l (Ok s) (Err r) o o' = absurd (apart short l s r o (survey_one o o'))
+survey_unique short l (Err r) (Ok s) o o' = absurd (apart short l s r o' (survey_one o' o))
+survey_unique short l (Err r) (Err s) o o' =
+    let e = survey_one o o' in ap (λ r. Err r) (one_refusal r s (ap (λ s. s.number) e) (ap (λ s. s.place) e))

@@ -4,13 +4,17 @@ use Rattle.meaning.specs.Number.{bit, decides}
 use Rattle.meaning.specs.Chain.{Chain, End}
 use Rattle.meaning.specs.Step.{Sets, RightTo}
 use Rattle.meaning.specs.Survey.{Misses}
-use Rattle.chain.specs.declared.Chain.{Chain as Given}
+use Rattle.chain.specs.declared.Chain.{Chain as Frame}
+use Rattle.chain.specs.declared.given.Given.{Given}
 use Rattle.chain.specs.Lent.{lent}
 use Rattle.survey.specs.declared.Sets.{Sets as Found}
 
 -- The chain of an input with these denominators and edges.
-abbrev pub chain_of : Given → List ℕ → List ℕ → Chain
+abbrev pub chain_of : Frame → List ℕ → List ℕ → Chain
 chain_of c denominators edges = (lent c denominators edges [] [] []).chain
+
+abbrev pub chain_in : Given → Chain
+chain_in g = chain_of g.chain g.denominators.now g.edges.now
 
 -- The set has the states with the property P, and no other.
 abbrev pub Exactly : (ℕ → Type 0) → ℕ → Type 0

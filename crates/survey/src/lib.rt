@@ -4,11 +4,11 @@
 
 ghost use Rattle.std.specs.Prelude.{false, []};
 ghost use Rattle.meaning.specs.Survey.{SurveyOutcome};
-ghost use Rattle.chain.specs.Lent.{lent};
+ghost use Rattle.chain.specs.Given.{with};
 ghost use Rattle.survey.specs.Told.{told};
 
-use chain::Chain;
-use look::Finding;
+use chain::given::Given;
+use chain::refusal::Refusal;
 
 pub mod looking;
 mod reach;
@@ -21,33 +21,31 @@ pub struct Sets {
     pub missed: bool,
 }
 
-// What a survey answers; told gives document 01's numbers for each case.
+// What a survey finds: the sets, how many of the states are goals and how many are live, the start included where it is live. told gives document
+// 01's numbers.
 #[derive(Clone, Copy)]
-pub enum Survey {
-    Found { sets: Sets, goals: u32, live: u32 },
-    Refused { number: u32, place: usize },
+pub struct Survey {
+    pub sets: Sets,
+    pub goals: u32,
+    pub live: u32,
 }
 
-// The sets of a chain, whose rows may fall short or not, and how many of its states are goals and how many are live, the start included where it is
-// live.
-pub fn along(c: Chain, denominators: &[u64], edges: &[u64], short: bool) -> Survey
-    ensures { SurveyOutcome short (lent c denominators.now edges.now [] [] []) (told result) }
+// The survey of a chain whose rows may fall short or not.
+pub fn along(g: &Given, short: bool) -> Result<Survey, Refusal>
+    ensures { SurveyOutcome short (with g.now [] [] []) (told result) }
 {
-    if let Finding::Refused { number, place } = look::alone(c, denominators, edges, short) {
-        return Survey::Refused { number, place };
-    }
-    let sets = reach::sets(c, denominators, edges, short);
-    let live = sets.live;
-    Survey::Found {
+    look::alone(g, short)?;
+    let sets = reach::sets(g, short);
+    Ok(Survey {
         sets,
-        goals: u64::count_ones(c.goals),
-        live: u64::count_ones(live),
-    }
+        goals: g.chain.goals.count_ones(),
+        live: sets.live.count_ones(),
+    })
 }
 
 // The same where no row may fall short.
-pub fn of(c: Chain, denominators: &[u64], edges: &[u64]) -> Survey
-    ensures { SurveyOutcome false (lent c denominators.now edges.now [] [] []) (told result) }
+pub fn of(g: &Given) -> Result<Survey, Refusal>
+    ensures { SurveyOutcome false (with g.now [] [] []) (told result) }
 {
-    along(c, denominators, edges, false)
+    along(g, false)
 }

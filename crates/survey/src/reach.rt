@@ -4,19 +4,13 @@ ghost use Rattle.meaning.specs.Chain.{most_states, edge_count, End, FromStart};
 ghost use Rattle.meaning.specs.Refusal.{EndFault};
 ghost use Rattle.meaning.specs.Number.{decides};
 ghost use Rattle.survey.specs.Grow.{tail, Open, way, Grown, Joined, AfterPass, in_turn};
-ghost use Rattle.survey.specs.Sets.{chain_of, Exactly, Marked, MarkedTo, Alive, Astray, Known};
+ghost use Rattle.survey.specs.Sets.{chain_of, chain_in, Exactly, Marked, MarkedTo, Alive, Astray, Known};
 
 use crate::Sets;
+use chain::bits::alone;
+use chain::given::Given;
 use chain::{Chain, edge};
 use look::sums::missing;
-
-// The set of one state.
-fn alone(i: usize) -> u64
-    requires { i < most_states }
-    ensures { result ≡ 2 ^ i }
-{
-    1 << i
-}
 
 // Edges that leave state i lead on: it is in the set, and not in the barrier.
 fn is_open(barrier: u64, set: u64, i: usize) -> bool
@@ -69,10 +63,8 @@ fn pass(back: bool, barrier: u64, set: u64, edges: &[u64]) -> u64
 {
     let count = edge::count(edges);
     let mut larger = set;
-    let mut e = 0;
-    while e < count {
+    for e in 0..count {
         larger = join(back, barrier, larger, edges, turn(back, count, e));
-        e += 1;
     }
     larger
 }
@@ -107,24 +99,22 @@ fn with_short(set: u64, lacks: &[u64; Chain::STATES]) -> u64
     ensures { Exactly (MarkedTo set lacks.now most_states) result }
 {
     let mut marks = set;
-    let mut i = 0;
-    while i < Chain::STATES {
-        marks = marked(marks, i, lacks[i]);
-        i += 1;
+    for (i, lack) in lacks.iter().enumerate() {
+        marks = marked(marks, i, *lack);
     }
     marks
 }
 
 // Where paths end: in the goals and, where rows may fall short, in the states whose rows do.
-fn ends(c: Chain, denominators: &[u64], edges: &[u64], short: bool) -> u64
-    requires { (c.states ≤ most_states) × (length denominators.now ≡ c.states) }
-    ensures { Exactly (End short (chain_of c denominators.now edges.now)) result }
+fn ends(g: &Given, short: bool) -> u64
+    requires { (g.now.chain.states ≤ most_states) × (length g.now.denominators.now ≡ g.now.chain.states) }
+    ensures { Exactly (End short (chain_in g.now)) result }
 {
     if !short {
-        return c.goals;
+        return g.chain.goals;
     }
-    let lacks = missing(denominators, edges);
-    with_short(c.goals, &lacks)
+    let lacks = missing(g.denominators, g.edges);
+    with_short(g.chain.goals, &lacks)
 }
 
 // The states with a path to an end: they grow from the ends, backwards.
@@ -161,16 +151,16 @@ fn astray(good: u64, reached: u64) -> bool
 }
 
 // The sets of a chain, whose rows may fall short or not.
-pub(crate) fn sets(c: Chain, denominators: &[u64], edges: &[u64], short: bool) -> Sets
-    requires start_fits { (c.start < most_states) × (c.states ≤ most_states) × (length denominators.now ≡ c.states) }
-    requires ends_right { (e : ℕ) → EndFault most_states edges.now e → ⊥ }
-    ensures { Known short (chain_of c denominators.now edges.now) result }
+pub(crate) fn sets(g: &Given, short: bool) -> Sets
+    requires start_fits { (g.now.chain.start < most_states) × (g.now.chain.states ≤ most_states) × (length g.now.denominators.now ≡ g.now.chain.states) }
+    requires ends_right { (e : ℕ) → EndFault most_states g.now.edges.now e → ⊥ }
+    ensures { Known short (chain_in g.now) result }
 {
-    let good = good(ends(c, denominators, edges, short), edges);
-    let reached = reached(c, edges);
+    let good = good(ends(g, short), g.edges);
+    let reached = reached(g.chain, g.edges);
     Sets {
         good,
-        live: alive(good, reached, c.goals),
+        live: alive(good, reached, g.chain.goals),
         missed: astray(good, reached),
     }
 }

@@ -1,31 +1,27 @@
--- The digits of a number, counted from its last one on.
-use Prim.Native.Nat.{ℕ, ◌+◌, ◌/◌, ◌^◌, ◌≤◌, ◌<◌}
+-- How many digits a number has, by the largest power of ten that it reaches.
+use Prim.Native.Nat.{ℕ, zero, suc, max, ◌+◌, ◌*◌, ◌/◌, ◌^◌, ◌≤◌, ◌<◌}
 use mathlib.Core.Path.{◌≡◌}
 use mathlib.Core.Logic.{⊎_elim}
+use native.Mathlib.Nat.{pow-succ', one-le-pow, pow-le-pow_right}
 use native.Mathlib.Omega.{arith}
 use lib.ListN.{length}
 use Rattle.meaning.specs.Text.{decimal}
 use Rattle.theory.specs.Numbers.Sum.{below}
 use Rattle.theory.specs.Numbers.Decimal.{length_small, length_more, digits}
 
--- So many are counted, and what is left has the others.
-pub record Counted (x rest long : ℕ) : Type 0 where
-  pub all : length (decimal x) + 1 ≡ long + length (decimal rest)
+-- A number from 10 ^ k on has more than k digits.
+most : (k x : ℕ) → 10 ^ k ≤ x → k < length (decimal x)
+most zero x h = ⊎_elim (λ l. omega (arith, length_small x l)) (λ l. omega (arith, length_more x l)) (below x 10)
+most (suc k) x h =
+    let p = pow-succ' 10 k in
+    let some = one-le-pow k 10 (omega arith) in
+    omega (arith, length_more x (omega arith), most k (x / 10) (omega arith))
 
-some : (x : ℕ) → 1 ≤ length (decimal x)
-some x = ⊎_elim (λ l. omega (arith, length_small x l)) (λ l. omega (arith, length_more x l)) (below x 10)
-
-module _ {x : ℕ} where
-  pub none : Counted x x 1
-  none = record { all = omega arith }
-
-  module _ {rest long : ℕ} (c : Counted x rest long) where
-    pub more : 10 ≤ rest → Counted x (rest / 10) (long + 1)
-    more h = record { all = omega (arith, c.all, length_more rest h) }
-
-    -- A number of 64 bits has at most 20 digits.
-    pub few : x < 2 ^ 64 → long ≤ 20
-    few h = omega (arith, c.all, some rest, digits 19 x (omega arith))
-
-    pub done : rest < 10 → long ≡ length (decimal x)
-    done h = omega (arith, c.all, length_small rest h)
+pub counted : (k x y : ℕ) → y ≡ max x 1 → 10 ^ k ≤ y → y < 10 * 10 ^ k → k + 1 ≡ length (decimal x)
+counted k x y e l h =
+    ⊎_elim
+    (λ (z : x < 1).
+    let n : k < 1 = ⊎_elim (λ (q : k < 1). q) (λ (q : 1 ≤ k). absurd (omega (arith, pow-le-pow_right {n = 10} (omega arith) {i = 1} {j = k} q))) (below k 1) in
+    omega (arith, length_small x (omega arith)))
+    (λ (z : 1 ≤ x). omega (arith, most k x (omega arith), digits k x (omega (arith, pow-succ' 10 k))))
+    (below x 1)

@@ -6,7 +6,7 @@ ghost use Rattle.meaning.specs.Report.{fraction_text, bounds_text, line_text};
 ghost use Rattle.octets.specs.Written.{Stored};
 ghost use Rattle.text.specs.Puts.{Puts};
 
-use crate::{digits, number, put};
+use crate::{digits, full, number, put};
 
 // How long a fraction is.
 fn width(p: u64, q: u64) -> usize
@@ -26,10 +26,7 @@ fn parts(buffer: &mut [u8], at: usize, p: u64, q: u64) -> usize
 pub fn fraction(buffer: &mut [u8], at: usize, p: u64, q: u64) -> usize
     ensures { Stored buffer.old at (fraction_text p q) buffer.new result }
 {
-    if buffer.len() < at {
-        return at;
-    }
-    if buffer.len() - at < width(p, q) {
+    if full(buffer, at, width(p, q)) {
         return at;
     }
     parts(buffer, at, p, q)
@@ -55,10 +52,7 @@ fn line(buffer: &mut [u8], at: usize, p: u64, q: u64, s: u64, t: u64) -> usize
 pub fn bounds_line(buffer: &mut [u8], at: usize, p: u64, q: u64, s: u64, t: u64) -> usize
     ensures { Stored buffer.old at (line_text (bytes_of "bounds ") (bounds_text (between p q s t))) buffer.new result }
 {
-    if buffer.len() < at {
-        return at;
-    }
-    if buffer.len() - at < 7 + width(p, q) + 1 + width(s, t) + 1 {
+    if full(buffer, at, 7 + width(p, q) + 1 + width(s, t) + 1) {
         return at;
     }
     line(buffer, at, p, q, s, t)

@@ -2,7 +2,8 @@
 // stays and so does the place.
 #![tactic(auto)]
 
-ghost use Rattle.std.specs.Prelude.{◌≡◌, ◌≤◌, length};
+ghost use Rattle.std.specs.Prelude.{◌≡◌, ◌+◌, ◌≤◌, ◌<◌, length};
+ghost use Rattle.meaning.specs.Number.{decides};
 ghost use Rattle.meaning.specs.Text.{decimal};
 ghost use Rattle.octets.specs.Written.{Stored};
 ghost use Rattle.text.specs.Pieces.{Named};
@@ -15,13 +16,17 @@ pub use fractions::{bounds_line, fraction};
 // The most digits of a number of 64 bits.
 pub const DIGITS: usize = 20;
 
+// There is no room for so many bytes from the place on.
+pub(crate) fn full(buffer: &[u8], at: usize, long: usize) -> bool
+    ensures { decides (length buffer.now < at + long) result }
+{
+    buffer.len() < at || buffer.len() - at < long
+}
+
 pub fn put(buffer: &mut [u8], at: usize, piece: &[u8]) -> usize
     ensures { Stored buffer.old at piece.now buffer.new result }
 {
-    if buffer.len() < at {
-        return at;
-    }
-    if buffer.len() - at < piece.len() {
+    if full(buffer, at, piece.len()) {
         return at;
     }
     store::copy(buffer, at, piece)
@@ -31,23 +36,14 @@ pub fn put(buffer: &mut [u8], at: usize, piece: &[u8]) -> usize
 pub(crate) fn digits(x: u64) -> usize
     ensures { (result ≡ length (decimal x)) × (result ≤ 20) }
 {
-    let mut rest = x;
-    let mut long = 1;
-    while 10 <= rest {
-        rest /= 10;
-        long += 1;
-    }
-    long
+    x.max(1).ilog10() as usize + 1
 }
 
 // A number in decimal.
 pub fn number(buffer: &mut [u8], at: usize, x: u64) -> usize
     ensures { Stored buffer.old at (decimal x) buffer.new result }
 {
-    if buffer.len() < at {
-        return at;
-    }
-    if buffer.len() - at < digits(x) {
+    if full(buffer, at, digits(x)) {
         return at;
     }
     store::decimal(buffer, at, x)
@@ -57,14 +53,7 @@ pub fn number(buffer: &mut [u8], at: usize, x: u64) -> usize
 pub fn named(buffer: &mut [u8], at: usize, name: &[u8], x: u64) -> usize
     ensures { Named buffer.old at name.now x buffer.new result }
 {
-    if buffer.len() < at {
-        return at;
-    }
-    let room = buffer.len() - at;
-    if room < DIGITS {
-        return at;
-    }
-    if room - DIGITS < name.len() {
+    if full(buffer, at, DIGITS) || full(buffer, at + DIGITS, name.len()) {
         return at;
     }
     let value = store::copy(buffer, at, name);

@@ -1,5 +1,5 @@
 // Bytes and numbers, written into a lent buffer from a place on. Each step asks for the room of what it writes, and answers the place after it.
-ghost use Rattle.std.specs.Prelude.{[], ◌∷◌, ◌<◌};
+ghost use Rattle.std.specs.Prelude.{[], ◌∷◌};
 ghost use Rattle.meaning.specs.Text.{decimal};
 ghost use Rattle.octets.specs.Written.{Room, Written};
 
@@ -7,31 +7,27 @@ pub(crate) fn copy(buffer: &mut [u8], at: usize, text: &[u8]) -> usize
     requires { Room buffer.old at text.now }
     ensures { Written buffer.old at text.now buffer.new result }
 {
-    let mut i = 0;
-    while i < text.len() {
-        buffer[at + i] = text[i];
-        i += 1;
-    }
-    at + i
+    let end = at + text.len();
+    buffer[at..end].copy_from_slice(text);
+    end
 }
 
-fn byte(buffer: &mut [u8], at: usize, x: u64) -> usize
-    requires { (x < 256) × Room buffer.old at (x ∷ []) }
+fn byte(buffer: &mut [u8], at: usize, x: u8) -> usize
+    requires { Room buffer.old at (x ∷ []) }
     ensures { Written buffer.old at (x ∷ []) buffer.new result }
 {
-    let next = at + 1;
-    buffer[at] = x as u8;
-    next
+    buffer[at] = x;
+    at + 1
 }
 
-// x in decimal: the digits of x / 10, and then the last digit. The digit 0 is the byte 48.
+// x in decimal: the digits of x / 10, and then the last digit.
 pub(crate) fn decimal(buffer: &mut [u8], at: usize, x: u64) -> usize
     requires { Room buffer.old at (decimal x) }
     ensures { Written buffer.old at (decimal x) buffer.new result }
 {
     if x < 10 {
-        return byte(buffer, at, 48 + x);
+        return byte(buffer, at, b'0' + x as u8);
     }
     let last = decimal(buffer, at, x / 10);
-    byte(buffer, last, 48 + x % 10)
+    byte(buffer, last, b'0' + (x % 10) as u8)
 }

@@ -1,50 +1,44 @@
 // The reader's form for callers with tables of their own, on the chain file at standard input: examples/retries.chain.
 ghost use Rattle.std.specs.Prelude.{◌≡◌, ◌≤◌, length};
 
-use crate::run::case;
+use crate::run::{Lent, case};
 use crate::tell;
+use chain::given::Given;
 use chain::{Chain, edge};
-use chainfile::Reading;
+use chainfile::Book;
 use std::io::{Read, Write};
 
 // The most bytes of the file.
 const ROOM: usize = 4096;
 
 fn front(table: &[u64], n: usize) -> &[u64] {
-    if table.len() < n {
-        return table;
-    }
-    &table[..n]
+    &table[..table.len().min(n)]
 }
 
 // The chain and its tables as they are read, and what the entries say of them.
-fn chain(out: &mut impl Write, c: Chain, count: usize, d: &[u64], e: &[u64], o: &[u64], r: &[u64]) {
-    if Chain::EDGES < count {
+fn chain(out: &mut impl Write, book: Book, read: &Lent) {
+    let c = book.chain;
+    let n = c.states;
+    if Chain::EDGES < book.edges {
         return;
     }
-    tell::numbers(
-        out,
-        b"read: states ",
-        c.states as u64,
-        b" start ",
-        c.start as u64,
-    );
-    tell::numbers(out, b" goals ", c.goals, b" edges ", count as u64);
+    let kept = Lent {
+        given: Given {
+            chain: c,
+            denominators: front(read.given.denominators, n),
+            edges: front(read.given.edges, edge::SIZE * book.edges),
+        },
+        order: front(read.order, n),
+        rewards: front(read.rewards, n),
+    };
+    tell::numbers(out, b"read: states ", n as u64, b" start ", c.start as u64);
+    tell::numbers(out, b" goals ", c.goals, b" edges ", book.edges as u64);
     tell::text(out, b"\n");
-    let edges = front(e, edge::SIZE * count);
-    tell::row(out, b"read: denominators", front(d, c.states));
-    tell::row(out, b"read: edges", edges);
-    tell::row(out, b"read: order", front(o, c.states));
-    tell::row(out, b"read: rewards", front(r, c.states));
-    case(
-        out,
-        b"read",
-        c,
-        front(d, c.states),
-        edges,
-        front(o, c.states),
-        front(r, c.states),
-    );
+    tell::row(out, b"read: denominators", kept.given.denominators);
+    tell::row(out, b"read: edges", kept.given.edges);
+    tell::row(out, b"read: order", kept.order);
+    tell::row(out, b"read: rewards", kept.rewards);
+    case(out, b"read", &kept);
 }
 
 // The file is read into tables of sevens.
@@ -53,13 +47,22 @@ fn read(out: &mut impl Write, name: &[u8], kept: &[u8], e: &mut [u64]) {
     let mut o = [7u64; Chain::STATES];
     let mut r = [7u64; Chain::STATES];
     match chainfile::read(kept, 0, &mut d, e, &mut o, &mut r) {
-        Reading::Chain {
-            chain: c,
-            edges: count,
-        } => chain(out, c, count, &d, e, &o, &r),
-        Reading::Refused { number, place } => {
+        Ok(book) => {
+            let given = Given {
+                chain: book.chain,
+                denominators: &d,
+                edges: e,
+            };
+            let read = Lent {
+                given,
+                order: &o,
+                rewards: &r,
+            };
+            chain(out, book, &read);
+        }
+        Err(r) => {
             tell::text(out, name);
-            tell::refused(out, number, place);
+            tell::refused(out, r);
             tell::text(out, b"\n");
         }
     }

@@ -10,7 +10,8 @@ mod run;
 mod tell;
 
 use chain::Chain;
-use run::case;
+use chain::given::Given;
+use run::{Lent, case};
 use std::io::Write;
 
 // The scope's third chain: state 0 goes to itself, to the goal 1 and to the trap 2.
@@ -24,26 +25,87 @@ const R: [u64; 3] = [1, 1, 1];
 
 // With another start.
 fn from(out: &mut impl Write, name: &[u8], start: usize) {
-    case(out, name, Chain::new(3, start, 2), &D, &E, &O, &R);
+    case(
+        out,
+        name,
+        &Lent {
+            given: Given {
+                chain: Chain::new(3, start, 2),
+                denominators: &D,
+                edges: &E,
+            },
+            order: &O,
+            rewards: &R,
+        },
+    );
 }
 
 // With another table than its own.
 fn with_edges(out: &mut impl Write, name: &[u8], edges: &[u64]) {
-    case(out, name, Chain::new(3, 0, 2), &D, edges, &O, &R);
+    case(
+        out,
+        name,
+        &Lent {
+            given: Given {
+                chain: Chain::new(3, 0, 2),
+                denominators: &D,
+                edges: edges,
+            },
+            order: &O,
+            rewards: &R,
+        },
+    );
 }
 
 fn with_order(out: &mut impl Write, name: &[u8], order: &[u64]) {
-    case(out, name, Chain::new(3, 0, 2), &D, &E, order, &R);
+    case(
+        out,
+        name,
+        &Lent {
+            given: Given {
+                chain: Chain::new(3, 0, 2),
+                denominators: &D,
+                edges: &E,
+            },
+            order: order,
+            rewards: &R,
+        },
+    );
 }
 
 fn with_rewards(out: &mut impl Write, name: &[u8], rewards: &[u64]) {
-    case(out, name, Chain::new(3, 0, 2), &D, &E, &O, rewards);
+    case(
+        out,
+        name,
+        &Lent {
+            given: Given {
+                chain: Chain::new(3, 0, 2),
+                denominators: &D,
+                edges: &E,
+            },
+            order: &O,
+            rewards: rewards,
+        },
+    );
 }
 
 fn lent(out: &mut impl Write, name: &[u8], work: usize)
     requires { work ≤ 4354 }
 {
-    run::lines(out, name, work, Chain::new(3, 0, 2), &D, &E, &O, &R);
+    run::lines(
+        out,
+        name,
+        work,
+        &Lent {
+            given: Given {
+                chain: Chain::new(3, 0, 2),
+                denominators: &D,
+                edges: &E,
+            },
+            order: &O,
+            rewards: &R,
+        },
+    );
 }
 
 // The scope's chain for the first visit, with a finite reward.
@@ -52,11 +114,15 @@ fn visits(out: &mut impl Write, name: &[u8]) {
     case(
         out,
         name,
-        Chain::new(3, 0, 4),
-        &[1, 2, 1],
-        &edges,
-        &O,
-        &[1, 1, 0],
+        &Lent {
+            given: Given {
+                chain: Chain::new(3, 0, 4),
+                denominators: &[1, 2, 1],
+                edges: &edges,
+            },
+            order: &O,
+            rewards: &[1, 1, 0],
+        },
     );
 }
 
@@ -71,11 +137,15 @@ fn no_fit(out: &mut impl Write, name: &[u8]) {
     case(
         out,
         name,
-        Chain::new(4, 0, 4),
-        &DENOMINATORS,
-        &EDGES,
-        &[0, 1, 2, 3],
-        &[0, 0, 0, 0],
+        &Lent {
+            given: Given {
+                chain: Chain::new(4, 0, 4),
+                denominators: &DENOMINATORS,
+                edges: &EDGES,
+            },
+            order: &[0, 1, 2, 3],
+            rewards: &[0, 0, 0, 0],
+        },
     );
 }
 
@@ -85,11 +155,15 @@ fn retries(out: &mut impl Write, name: &[u8]) {
     case(
         out,
         name,
-        Chain::new(2, 0, 2),
-        &[2, 1],
-        &edges,
-        &[0, 1],
-        &[1, 0],
+        &Lent {
+            given: Given {
+                chain: Chain::new(2, 0, 2),
+                denominators: &[2, 1],
+                edges: &edges,
+            },
+            order: &[0, 1],
+            rewards: &[1, 0],
+        },
     );
 }
 
@@ -120,11 +194,15 @@ fn many_states(out: &mut impl Write, name: &[u8]) {
     case(
         out,
         name,
-        Chain::new(65, 0, 2),
-        &longer,
-        &E,
-        &longer,
-        &longer,
+        &Lent {
+            given: Given {
+                chain: Chain::new(65, 0, 2),
+                denominators: &longer,
+                edges: &E,
+            },
+            order: &longer,
+            rewards: &longer,
+        },
     );
 }
 

@@ -1,9 +1,9 @@
 // A case: each entry is run on a chain with a work table of sevens, of which it is lent a part.
-// The lent denominators, edges, order and rewards are d, e, o and r.
 ghost use Rattle.std.specs.Prelude.{◌≤◌};
 
 use crate::tell;
 use chain::Chain;
+use chain::given::Given;
 use engines::entry;
 use std::io::Write;
 
@@ -25,14 +25,7 @@ fn used(n: usize) -> usize
 fn holds(table: &[u64; WORK], from: usize, to: usize, x: u64) -> bool
     requires { to ≤ 4354 }
 {
-    let mut i = from;
-    while i < to {
-        if table[i] != x {
-            return false;
-        }
-        i += 1;
-    }
-    true
+    from >= to || table[from..to].iter().all(|y| *y == x)
 }
 
 fn tell_work(out: &mut impl Write, table: &[u64; WORK], taken: usize)
@@ -48,6 +41,14 @@ fn tell_work(out: &mut impl Write, table: &[u64; WORK], taken: usize)
     }
 }
 
+// What the entries are lent but for the work table.
+#[derive(Clone, Copy)]
+pub(crate) struct Lent<'a> {
+    pub given: Given<'a>,
+    pub order: &'a [u64],
+    pub rewards: &'a [u64],
+}
+
 #[derive(Clone, Copy)]
 enum Entry {
     Chance,
@@ -55,59 +56,35 @@ enum Entry {
     Bounds,
 }
 
-fn line(
-    out: &mut impl Write,
-    name: &[u8],
-    which: Entry,
-    lent: usize,
-    c: Chain,
-    d: &[u64],
-    e: &[u64],
-    o: &[u64],
-    r: &[u64],
-)
+fn line(out: &mut impl Write, name: &[u8], which: Entry, lent: usize, case: &Lent)
     requires { lent ≤ 4354 }
 {
     let mut table = [7u64; WORK];
     let work = &mut table[..lent];
     tell::text(out, name);
     match which {
-        Entry::Chance => tell::chance(out, entry::chance(c, d, e, o, work)),
-        Entry::Reward => tell::reward(out, entry::reward(c, d, e, o, r, work)),
-        Entry::Bounds => tell::bounds(out, entry::bounds(c, d, e, o, work)),
+        Entry::Chance => tell::chance(out, entry::chance(&case.given, case.order, work)),
+        Entry::Reward => tell::reward(
+            out,
+            entry::reward(&case.given, case.order, case.rewards, work),
+        ),
+        Entry::Bounds => tell::bounds(out, entry::bounds(&case.given, case.order, work)),
     }
-    tell_work(out, &table, used(c.states));
+    tell_work(out, &table, used(case.given.chain.states));
 }
 
 // The lines of a case, the entries being lent so many numbers of the work table.
-pub(crate) fn lines(
-    out: &mut impl Write,
-    name: &[u8],
-    lent: usize,
-    c: Chain,
-    d: &[u64],
-    e: &[u64],
-    o: &[u64],
-    r: &[u64],
-)
+pub(crate) fn lines(out: &mut impl Write, name: &[u8], lent: usize, case: &Lent)
     requires { lent ≤ 4354 }
 {
-    line(out, name, Entry::Chance, lent, c, d, e, o, r);
-    line(out, name, Entry::Reward, lent, c, d, e, o, r);
-    line(out, name, Entry::Bounds, lent, c, d, e, o, r);
+    line(out, name, Entry::Chance, lent, case);
+    line(out, name, Entry::Reward, lent, case);
+    line(out, name, Entry::Bounds, lent, case);
     tell::text(out, name);
-    tell::survey(out, survey::of(c, d, e));
+    tell::survey(out, survey::of(&case.given));
 }
 
 // The lines of a case whose work table is longer than the chain takes.
-pub(crate) fn case(
-    out: &mut impl Write,
-    name: &[u8],
-    c: Chain,
-    d: &[u64],
-    e: &[u64],
-    o: &[u64],
-    r: &[u64],
-) {
-    lines(out, name, used(c.states) + SPARE, c, d, e, o, r);
+pub(crate) fn case(out: &mut impl Write, name: &[u8], case: &Lent) {
+    lines(out, name, used(case.given.chain.states) + SPARE, case);
 }

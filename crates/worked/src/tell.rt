@@ -1,6 +1,7 @@
 // A line of the test: the outcome, what the work table holds, or a table.
 use chain::fraction::Fraction;
-use engines::answer::{Bounds, Chance, Reward};
+use chain::refusal::Refusal;
+use engines::answer::{Bounds, Reward};
 use std::io::Write;
 use survey::Survey;
 
@@ -24,47 +25,55 @@ fn fraction(out: &mut impl Write, before: &[u8], f: Fraction) {
     numbers(out, before, f.numerator, b"/", f.denominator);
 }
 
-pub(crate) fn refused(out: &mut impl Write, number: u32, place: usize) {
-    numbers(out, b"refused ", number as u64, b" at ", place as u64);
+pub(crate) fn refused(out: &mut impl Write, r: Refusal) {
+    numbers(
+        out,
+        b"refused ",
+        u64::from(r.fault.number()),
+        b" at ",
+        r.place as u64,
+    );
 }
 
-pub(crate) fn chance(out: &mut impl Write, a: Chance) {
+pub(crate) fn chance(out: &mut impl Write, a: Result<Fraction, Refusal>) {
     text(out, b": chance ");
     match a {
-        Chance::Is(f) => fraction(out, b"", f),
-        Chance::Refused { number, place } => refused(out, number, place),
+        Ok(f) => fraction(out, b"", f),
+        Err(r) => refused(out, r),
     }
 }
 
-pub(crate) fn reward(out: &mut impl Write, a: Reward) {
+pub(crate) fn reward(out: &mut impl Write, a: Result<Reward, Refusal>) {
     text(out, b": reward ");
     match a {
-        Reward::Is(f) => fraction(out, b"", f),
-        Reward::Infinite => text(out, b"infinite"),
-        Reward::Refused { number, place } => refused(out, number, place),
+        Ok(Reward::Is(f)) => fraction(out, b"", f),
+        Ok(Reward::Infinite) => text(out, b"infinite"),
+        Err(r) => refused(out, r),
     }
 }
 
-pub(crate) fn bounds(out: &mut impl Write, a: Bounds) {
+pub(crate) fn bounds(out: &mut impl Write, a: Result<Bounds, Refusal>) {
     text(out, b": bounds ");
     match a {
-        Bounds::Between { lower, upper } => {
-            fraction(out, b"", lower);
-            fraction(out, b" ", upper);
+        Ok(bounds) => {
+            fraction(out, b"", bounds.lower);
+            fraction(out, b" ", bounds.upper);
         }
-        Bounds::Refused { number, place } => refused(out, number, place),
+        Err(r) => refused(out, r),
     }
 }
 
-pub(crate) fn survey(out: &mut impl Write, a: Survey) {
+pub(crate) fn survey(out: &mut impl Write, a: Result<Survey, Refusal>) {
     text(out, b": survey ");
     match a {
-        Survey::Found {
-            sets: _,
-            goals,
-            live,
-        } => numbers(out, b"goals ", goals as u64, b" live ", live as u64),
-        Survey::Refused { number, place } => refused(out, number, place),
+        Ok(found) => numbers(
+            out,
+            b"goals ",
+            u64::from(found.goals),
+            b" live ",
+            u64::from(found.live),
+        ),
+        Err(r) => refused(out, r),
     }
     text(out, b"\n");
 }
@@ -77,10 +86,8 @@ fn cell(out: &mut impl Write, x: u64) {
 // The numbers of a table.
 pub(crate) fn row(out: &mut impl Write, name: &[u8], table: &[u64]) {
     text(out, name);
-    let mut i = 0;
-    while i < table.len() {
-        cell(out, table[i]);
-        i += 1;
+    for x in table {
+        cell(out, *x);
     }
     text(out, b"\n");
 }

@@ -1,16 +1,9 @@
-use Rattle.chainfile.specs.Tells.{tables}
-use Rattle.chainfile.proofs.Filling.{wide}
 use Rattle.chainfile.proofs.leave.Goals as goal
 
-pub tables-count-requires : goal.tables-count-requires
-tables-count-requires c =
-    let a = c.args in
-    record { within = c.requires.within; room = wide (tables a.denominators.now a.edges.now a.order.now a.rewards.now) c.requires.within c.requires.room }
-
 pub returns : goal.returns
-returns c = λ more.
-    let chain = c.chain-chain.ensures in
-    let filled = c.tables-count.ensures in
+returns c more =
+    let chain = c.chain.ensures in
+    let filled = c.tables-edges.ensures in
     let verdicts = c.verdicts-lost in
     record {
       verdicts = verdicts.ensures more;

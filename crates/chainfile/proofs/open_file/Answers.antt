@@ -1,65 +1,36 @@
-use mathlib.Core.Path.{refl, ◌∙◌}
-use native.Mathlib.Omega.{arith}
-use Rattle.meaning.specs.Number.{decides}
-use Rattle.meaning.specs.File.{Accepted}
-use Rattle.theory.specs.Numbers.Decide.{holds, fails}
+use Rattle.std.proofs.Common.{refl, ◌∙◌, arith}
+use Rattle.std.proofs.lemmas.Result.{err_from_is_err_and}
+use Rattle.theory.specs.Numbers.Decide.{fails}
 use Rattle.chainfile.specs.Input.{input}
 use Rattle.chainfile.specs.Tells.{Within, Narrow, OpenOutcome, tables}
-use Rattle.judge.specs.Tells.{judged}
-use Rattle.judge.proofs.Blocks.{found}
 use Rattle.chainfile.proofs.Tested.{within}
 use Rattle.chainfile.proofs.Filling.{narrow_for}
 use Rattle.chainfile.proofs.Saving.{nothing_lost}
 use Rattle.chainfile.proofs.open_file.Goals as goal
-use Rattle.chainfile.proofs.open_file.Goals.{After-short_for, In_default}
+use Rattle.chainfile.proofs.open_file.Goals.{In_ok-judge}
 
--- The file is accepted once it is judged so, and so its front is right.
-accepted : (c : In_default) → Accepted (input c.args.kept.now c.args.more)
-accepted c = found (judged (input c.args.kept.now c.args.more)) c.judge.ensures c.in_default.is
+-- The front of an accepted file is right.
+inside : (c : In_ok-judge) → Within (input c.args.kept.now 0)
+inside c = within (input c.args.kept.now c.args.more) (λ b h. c.in_ok-judge.ensures.blocks b (omega arith))
 
-inside : (c : In_default) → Within (input c.args.kept.now 0)
-inside c = within (input c.args.kept.now c.args.more) (λ b h. (accepted c).blocks b (omega arith))
+pub returns-in_err-judge : goal.returns-in_err-judge
+returns-in_err-judge c =
+    let p = err_from_is_err_and c.from_residual.result c.from_residual.ensures.1 in rw (p.1, p.2) (OpenOutcome.refused _ _ c.in_err-judge.ensures refl refl)
 
-decided : (c : After-short_for) → let a = c.args in
-    decides (Narrow (input a.kept.now a.more) (tables a.denominators.now a.edges.now a.order.now a.rewards.now)) c.short_for.result
-decided c =
-    let a = c.args in
-    narrow_for (input a.kept.now a.more) (tables a.denominators.now a.edges.now a.order.now a.rewards.now) c.short_for.result
-    c.states.ensures.0 c.edges.ensures.0 c.short_for.ensures
+pub tables-requires-clause-within : goal.tables-requires-clause-within
+tables-requires-clause-within c = inside (goal.at.tables-requires-clause-within c).In_ok-judge
 
-pub returns-in-Refused : goal.returns-in-Refused
-returns-in-Refused c =
-    let a = c.args in
-    let before = tables a.denominators.now a.edges.now a.order.now a.rewards.now in
-    OpenOutcome.refused _ _ (found (judged (input a.kept.now a.more)) c.judge.ensures c.in-Refused.is) refl (refl {a = before})
-
-pub returns-then-short_for : goal.returns-then-short_for
-returns-then-short_for c =
-    let a = c.args in
-    let before = tables a.denominators.now a.edges.now a.order.now a.rewards.now in
-    let here = goal.at.returns-then-short_for c in
-    OpenOutcome.narrow (accepted here.In_default)
-    (holds (Narrow (input a.kept.now a.more) before) (decided here.After-short_for) c.if-short_for.true) refl (refl {a = before})
-
-pub tables-requires : goal.tables-requires
-tables-requires c =
-    let a = c.args in
-    let here = goal.at.tables-requires c in
-    record {
-      within = inside here.In_default;
-      room =
-          fails (Narrow (input a.kept.now a.more) (tables a.denominators.now a.edges.now a.order.now a.rewards.now))
-          (decided here.After-short_for) c.if-short_for.false;
-    }
-
-pub answer-requires : goal.answer-requires
-answer-requires c = inside (goal.at.answer-requires c).In_default
+pub chain-requires : goal.chain-requires
+chain-requires c = inside (goal.at.chain-requires c).In_ok-judge
 
 pub returns : goal.returns
 returns c =
     let a = c.args in
+    let f = input a.kept.now a.more in
     let before = tables a.denominators.now a.edges.now a.order.now a.rewards.now in
-    let here = goal.at.returns c in
-    OpenOutcome.accepted (accepted here.In_default)
-    (fails (Narrow (input a.kept.now a.more) before) (decided here.After-short_for) c.if-short_for.false) c.answer.ensures
-    (c.tables.ensures.0 ∙ nothing_lost (input a.kept.now a.more) before)
+    let chain = c.chain.ensures in
+    let edges = c.edges-2.ensures.0 in
+    OpenOutcome.accepted c.in_ok-judge.ensures
+    (fails (Narrow f before) (narrow_for f before c.short_for.result c.states.ensures.0 c.edges.ensures.0 c.short_for.ensures) c.if-short_for.false)
+    (λ i. record { number = 0; place = 0; states = chain.0 i; start = chain.1 i; goals = chain.2 i; edges = edges i })
+    (c.tables.ensures.0 ∙ nothing_lost f before)

@@ -8,9 +8,6 @@ use Rattle.decimals.proofs.six_digits.Goals.{After-extra-c}
 pub loop-whole-init : goal.loop-whole-init
 loop-whole-init c = (growing_none _ _ c.requires, c.over-whole.ensures)
 
-pub overflow_mul-t : goal.overflow_mul-t
-overflow_mul-t c = record { fits = omega (arith, c.loop-whole.invariant.0.few) }
-
 -- What a turn makes of the number.
 small : (c : After-extra-c) → let l = c.loop-whole in l.v / 2 ^ l.left < 100000
 small c = omega (arith, c.loop-whole.invariant.1)
@@ -32,11 +29,6 @@ fewer c = rw c.extra-c.ensures.0 (twos_left c.loop-whole.invariant.0 (small c))
 
 pub overflow_sub-left : goal.overflow_sub-left
 overflow_sub-left c = fewer c
-
-pub overflow_add-tens : goal.overflow_add-tens
-overflow_add-tens c =
-    let g = c.loop-whole.invariant.0 in
-    record { fits = omega (arith, g.most, g.bound, g.split, c.requires.few) }
 
 pub loop-whole-smaller : goal.loop-whole-smaller
 loop-whole-smaller c =

@@ -1,9 +1,13 @@
-use Rattle.opening.proofs.Held.{largest_opened, small_opened}
+use mathlib.Core.Path.{refl}
+use borrow.Author.Rules.{rules}
+use Rattle.meaning.specs.Judge.{FileJudged}
+use Rattle.opening.specs.Asked.{Asked}
+use Rattle.figures.specs.Judged.{Judges}
 use Rattle.figures.proofs.check.Goals as goal
-
-pub returns-then-long : goal.returns-then-long
-returns-then-long c = c.check.ensures _ (largest_opened c.of.ensures)
 
 pub returns : goal.returns
 returns c =
-    c.check-2.ensures _ (small_opened c.long.ensures c.if-long.false c.of-2.ensures)
+    elim c.with.ensures [
+      | Asked.refused x w e s ↦ rw e (FileJudged.file_refused _ _ w refl)
+      | Asked.asked p s a ↦ let j : Judges p c.args.shares.now c.with.result = search (rules, a.called, a.shows) in j.told _ s
+    ]

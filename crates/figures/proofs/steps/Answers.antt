@@ -1,9 +1,12 @@
-use Rattle.opening.proofs.Held.{largest_opened, small_opened}
+use mathlib.Core.Path.{◌≡◌}
+use borrow.Author.Rules.{rules}
+use Rattle.opening.specs.Asked.{Asked}
+use Rattle.figures.proofs.Traces.{refused_traced}
 use Rattle.figures.proofs.steps.Goals as goal
 
-pub returns-then-long : goal.returns-then-long
-returns-then-long c = c.steps.ensures _ (largest_opened c.of.ensures)
-
-pub returns : goal.returns
-returns c =
-    c.steps-2.ensures _ (small_opened c.long.ensures c.if-long.false c.of-2.ensures)
+pub returns-in-Err : goal.returns-in-Err
+returns-in-Err c =
+    elim c.in-Err.ensures [
+      | Asked.refused x w e s ↦ let same : x ≡ c.in-Err.r = cc in refused_traced (rw (← same) w) c.no_trace.ensures
+      | Asked.asked p s a ↦ search (rules, a.called, a.shows)
+    ]

@@ -22,7 +22,7 @@ pub loop-c-preserved : goal.loop-c-preserved
 loop-c-preserved c =
     let at = c in
     let s = at in
-    more_added at.loop-c.invariant (search rules) s.requires.1 s.requires.2 c.from_byte.ensures.0
+    more_added at.loop-c.invariant (search rules) s.requires.1 s.requires.2 c.from.ensures
 
 pub returns : goal.returns
 returns c =

@@ -6,21 +6,21 @@ use borrow.Author.Rules.{rules}
 use Rattle.meaning.specs.Block.{checked_bytes}
 use Rattle.fletcher.proofs.Summed.{none, more, rest, all}
 use Rattle.fletcher.proofs.byte_by_byte.Goals as goal
-use Rattle.fletcher.proofs.byte_by_byte.Goals.{After-loop-i}
+use Rattle.fletcher.proofs.byte_by_byte.Goals.{After-loop-byte}
 
-pub loop-i-init : goal.loop-i-init
-loop-i-init c = (search rules, none (search rules) (search rules))
+pub loop-byte-init : goal.loop-byte-init
+loop-byte-init c = (search rules, none (search rules) (search rules))
 
-pub loop-i-preserved : goal.loop-i-preserved
-loop-i-preserved c =
-    let g = c.loop-i.invariant in
-    (search rules, more g.1 (search rules) (search rules) c.wide-first.ensures.0 c.wide-first.ensures.1)
+pub loop-byte-preserved : goal.loop-byte-preserved
+loop-byte-preserved c =
+    let g = c.loop-byte.invariant in
+    (search rules, more g.1 (search rules) (search rules) c.from-first.ensures (omega arith))
 
 -- What the bytes that are not kept add is small.
-room : (c : After-loop-i)
+room : (c : After-loop-byte)
     → let a = c.args in
-    c.loop-i.first * (checked_bytes - length a.block.now) ≤ c.loop-i.first * checked_bytes
-room c = mul-le-mul_left c.loop-i.first (omega arith)
+    c.loop-byte.first * (checked_bytes - length a.block.now) ≤ c.loop-byte.first * checked_bytes
+room c = mul-le-mul_left c.loop-byte.first (omega arith)
 
 pub overflow_mul-second : goal.overflow_mul-second
 overflow_mul-second c = omega (arith, room c)
@@ -32,4 +32,4 @@ pub returns : goal.returns
 returns c =
     let at = c in
     let bytes = at.args.block.now in
-    all (rest at.loop-i.invariant.1 (search rules) (checked_bytes - length bytes) (omega arith) (λ j h. get_or-eq_default bytes 0 (omega arith))) (omega arith)
+    all (rest at.loop-byte.invariant.1 (search rules) (checked_bytes - length bytes) (omega arith) (λ j h. get_or-eq_default bytes 0 (omega arith))) (omega arith)

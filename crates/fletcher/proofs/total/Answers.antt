@@ -1,13 +1,16 @@
+use mathlib.Core.Path.{◌≡◌, ◌∙◌}
 use native.Mathlib.Omega.{arith}
 use borrow.Author.Rules.{rules}
-use Rattle.fletcher.proofs.Columns.{none, more, all}
+use Rattle.std.specs.List.{sum}
+use Rattle.std.proofs.iter.runs.Sources.{sums}
+use Rattle.fletcher.proofs.Columns.{sum_listed}
 use Rattle.fletcher.proofs.total.Goals as goal
 
-pub loop-c-init : goal.loop-c-init
-loop-c-init c = none
-
-pub loop-c-preserved : goal.loop-c-preserved
-loop-c-preserved c = more c.loop-c.invariant (search rules) c.from_column-sum.ensures.0 (omega (arith, c.from_column-sum.ensures.1))
+pub sum-sum-requires-clause-fits : goal.sum-sum-requires-clause-fits
+sum-sum-requires-clause-fits c = search (rules, sums)
 
 pub returns : goal.returns
-returns c = let g = c.loop-c.invariant in (all g (search rules), omega (arith, g.low, g.upto))
+returns c =
+    let l = c.args.numbers.now in
+    let all : c.sum-sum.result ≡ sum l = search rules in
+    (c.from.ensures ∙ all ∙ sum_listed l (search rules), omega arith)

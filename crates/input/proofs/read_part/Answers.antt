@@ -8,5 +8,5 @@ returns g c =
     let k = c.keep-length in
     record {
       step = takes _ _ k.ensures.read k.ensures.kept_after (search rules) (search rules) (search rules);
-      known = gives _ _ k.ensures.read k.ensures.kept_after (search rules) (search rules) c.in-Ok.ensures.bytes.0;
+      known = gives _ _ k.ensures.read k.ensures.kept_after (search rules) (search rules) c.in_ok-count.ensures.bytes.0;
     }

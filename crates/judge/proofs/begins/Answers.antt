@@ -1,39 +1,26 @@
-use Rattle.meaning.specs.Block.{Input}
-use Rattle.meaning.specs.File.{LengthFault, BlockRight}
+use Rattle.std.proofs.lemmas.Result.{err_from_is_err_and}
+use Rattle.meaning.specs.File.{LengthFault}
 use Rattle.meaning.specs.Salvage.{FrontRefused}
 use Rattle.theory.specs.Numbers.Decide.{holds, fails}
 use Rattle.octets.specs.Input.{input}
-use Rattle.blocks.proofs.Found.{found_wrong, found_right}
 use Rattle.judge.proofs.begins.Goals as goal
-use Rattle.judge.proofs.begins.Goals.{Else-length_wrong, In_default}
+use Rattle.judge.proofs.begins.Goals.{Else-length_wrong}
 
-abbrev file : Else-length_wrong → Input
-file c = let a = c.args in input a.kept.now a.more
-
--- The length is right once it is passed, and the head once that is.
-whole : (c : Else-length_wrong) → LengthFault (file c) → ⊥
+-- The length is right once it is passed.
+whole : (c : Else-length_wrong) → LengthFault (input c.args.kept.now c.args.more) → ⊥
 whole c = fails _ c.length_wrong.ensures c.if-length_wrong.false
 
-abbrev file_at_In_default : In_default → Input
-file_at_In_default c = let a = c.args in input a.kept.now a.more
-
-head : (c : In_default) → BlockRight (file_at_In_default c) 0
-head c = let t = c in found_right (file_at_In_default t) 0 (t.test.ensures (file_at_In_default t).more) c.in_default.is
-
 pub returns-then-length_wrong : goal.returns-then-length_wrong
-returns-then-length_wrong c = FrontRefused.length_wrong (holds _ c.length_wrong.ensures c.if-length_wrong.true)
+returns-then-length_wrong c =
+    rw (c.from.ensures.0, c.from.ensures.1) (FrontRefused.length_wrong (holds _ c.length_wrong.ensures c.if-length_wrong.true))
 
-pub returns-in-Wrong : goal.returns-in-Wrong
-returns-in-Wrong c =
-    let t = c in
-    FrontRefused.head_wrong _ (whole (goal.at.returns-in-Wrong c).Else-length_wrong) (found_wrong (file (goal.at.returns-in-Wrong c).Else-length_wrong) 0 (t.test.ensures (file (goal.at.returns-in-Wrong c).Else-length_wrong).more) c.in-Wrong.is)
+pub returns-in_err-test : goal.returns-in_err-test
+returns-in_err-test c =
+    let p = err_from_is_err_and c.from_residual.result c.from_residual.ensures.1 in
+    rw (p.1, p.2.0, p.2.1) (FrontRefused.head_wrong _ (whole (goal.at.returns-in_err-test c).Else-length_wrong) (c.in_err-test.ensures c.args.more))
 
 pub returns-then-total_wrong : goal.returns-then-total_wrong
 returns-then-total_wrong c =
-    let t = c in
-    FrontRefused.total_wrong (whole (goal.at.returns-then-total_wrong c).Else-length_wrong) (head (goal.at.returns-then-total_wrong c).In_default) (holds _ c.total_wrong.ensures c.if-total_wrong.true)
-
-pub returns : goal.returns
-returns c =
-    let t = c in
-    record { whole = whole (goal.at.returns c).Else-length_wrong; head = head (goal.at.returns c).In_default; total = fails _ c.total_wrong.ensures c.if-total_wrong.false }
+    let e = c.from-then-total_wrong.ensures in
+    rw (e.0, e.1)
+    (FrontRefused.total_wrong (whole (goal.at.returns-then-total_wrong c).Else-length_wrong) (c.in_ok-test.ensures c.args.more) (holds _ c.total_wrong.ensures c.if-total_wrong.true))

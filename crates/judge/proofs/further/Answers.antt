@@ -1,34 +1,23 @@
-use native.Mathlib.Omega.{arith}
-use borrow.Author.Rules.{rules}
-use Rattle.theory.specs.Numbers.Sum.{last_or_below}
-use Rattle.blocks.proofs.Found.{found_wrong, found_right}
+use Rattle.std.proofs.Common.{rules, arith, ◌≡◌, ◌<◌, MatchResult}
+use Rattle.std.proofs.lemmas.Result.{err_from_is_err_and, MatchResult-weaker}
 use Rattle.octets.specs.Input.{input}
+use Rattle.judge.proofs.Blocks.{wrong, right}
 use Rattle.judge.proofs.further.Goals as goal
 
-pub loop-b-init : goal.loop-b-init
-loop-b-init c = (omega arith, λ a h l. absurd (omega arith))
-
-pub returns-in-Wrong : goal.returns-in-Wrong
-returns-in-Wrong c = λ more.
-    let t = c in
-    let at = t in
-    record {
-      after = at.loop-b.invariant.0;
-      below = search rules;
-      before = λ a h l. at.loop-b.invariant.1 a h l more;
-      refused = found_wrong (input at.args.kept.now more) at.loop-b.b (t.test.ensures more) c.in-Wrong.is;
-    }
+pub returns-in_err-map_err : goal.returns-in_err-map_err
+returns-in_err-map_err c more =
+    let p = err_from_is_err_and c.from_residual.result c.from_residual.ensures.1 in
+    let e = c.in_err-map_err.field-0.0 in
+    let b = c.loop-b.b-counter in
+    let m : MatchResult c.test.result (λ _. ⊥) (λ fault. (e.fault ≡ fault) × (e.place ≡ b)) =
+    MatchResult-weaker c.test.result c.in_err-map_err.ensures.cases (λ _ h. search rules) (λ fault h. search rules) in
+    let after : 0 < b = omega arith in
+    let below : b < c.args.end = omega arith in
+    rw (p.1, p.2)
+    (wrong (input c.args.kept.now more) b after (λ a h l. c.loop-b.invariant a h l more) c.args.end c.test.result e (c.test.ensures more) below m)
 
 pub loop-b-preserved : goal.loop-b-preserved
-loop-b-preserved c =
-    let t = c in
-    let at = t in (
-      omega arith,
-      λ a h l more.
-          last_or_below {j = a} {n = at.loop-b.b} (omega arith)
-          (λ e. rw e (found_right (input at.args.kept.now more) at.loop-b.b (t.test.ensures more) c.in_default.is))
-          (λ l. at.loop-b.invariant.1 a h l more),
-    )
-
-pub returns : goal.returns
-returns c = λ more b h l. c.loop-b.invariant.1 b h (search rules) more
+loop-b-preserved c a h l more =
+    let b = c.loop-b.b-counter in
+    let after : 0 < b = omega arith in
+    right (input c.args.kept.now more) b after (λ a h l. c.loop-b.invariant a h l more) c.test.result (c.test.ensures more) c.in_ok-map_err.ensures.variant a h l

@@ -1,29 +1,17 @@
-use mathlib.Core.Path.{subst}
-use Rattle.meaning.specs.Block.{Input}
+use Rattle.std.proofs.Common.{subst}
+use Rattle.std.proofs.lemmas.Result.{err_from_is_err_and}
 use Rattle.theory.specs.Files.Opened.{front_file}
 use Rattle.octets.specs.Input.{input}
-use Rattle.judge.specs.Tells.{Begun, begun, further}
-use Rattle.judge.proofs.Blocks.{found, judge}
+use Rattle.judge.specs.Tells.{further}
+use Rattle.judge.proofs.Blocks.{judge}
 use Rattle.judge.proofs.judge.Goals as goal
-use Rattle.judge.proofs.judge.Goals.{After-begins, In_default}
 
-abbrev file : After-begins → Input
-file c = let a = c.args in input a.kept.now a.more
-
-abbrev file_at_In_default : In_default → Input
-file_at_In_default c = let a = c.args in input a.kept.now a.more
-
--- What is begun is right once it is found so.
-begun_right : (c : In_default) → Begun (file_at_In_default c)
-begun_right c = let t = c in found (begun (file_at_In_default t)) t.begins.ensures c.in_default.is
-
-pub returns-in-Refused : goal.returns-in-Refused
-returns-in-Refused c = let t = c in front_file (found (begun (file (goal.at.returns-in-Refused c).After-begins)) t.begins.ensures c.in-Refused.is)
+pub returns-in_err-begins : goal.returns-in_err-begins
+returns-in_err-begins c =
+    let p = err_from_is_err_and c.from_residual.result c.from_residual.ensures.1 in rw (p.1, p.2) (front_file c.in_err-begins.ensures)
 
 pub returns : goal.returns
 returns c =
-    let d = c in
-    let t = d in
-    let f = file (goal.at.returns c).After-begins in
-    judge f (begun_right (goal.at.returns c).In_default) c.further.result
-    (subst (λ z. further f z c.further.result) d.demanded.ensures.0 (c.further.ensures f.more))
+    let f = input c.args.kept.now c.args.more in
+    judge f c.in_ok-begins.ensures c.further.result
+    (subst (λ z. further f z c.further.result) c.demanded.ensures.0 (c.further.ensures c.args.more))

@@ -1,8 +1,6 @@
-use Rattle.limit.proofs.Tens.{Grown}
+use Prim.Native.Nat.{◌*◌, ◌^◌, ◌<◌}
+use mathlib.Core.Path.{◌≡◌}
 use Rattle.limit.proofs.at_most.Given as goal
 
-abbrev pub invariant-loop-left : goal.invariant-loop-left
-invariant-loop-left l = Grown l.x l.tens l.v l.left
-
-abbrev pub decreases-loop-left : goal.decreases-loop-left
-decreases-loop-left l = l.left
+abbrev pub invariant-loop : goal.invariant-loop
+invariant-loop l = (0 < l.v) × (l.v ≡ l.x * 10 ^ l.counter)

@@ -8,7 +8,7 @@ returns-then-tens-m c =
     let a = c.args in
     c.at_most.ensures ∙ cancel_left a.m.digits a.m.tens a.digits a.tens (search rules)
 
-pub returns : goal.returns
-returns c =
+pub returns-else-tens-m : goal.returns-else-tens-m
+returns-else-tens-m c =
     let a = c.args in
     c.reaches.ensures ∙ cancel_right a.m.digits a.m.tens a.digits a.tens (search rules)

@@ -1,20 +1,16 @@
-use mathlib.Core.Path.{refl}
 use native.Mathlib.Omega.{arith}
-use Rattle.meaning.specs.Report.{TextOutcome}
+use Rattle.report.proofs.Refusals.{short}
 use Rattle.lines.proofs.Verdicts.{yes_line, no_line, refused_line}
 use Rattle.lines.proofs.check.Goals as goal
 
 pub returns-then-buffer-lt-CHECK_ROOM : goal.returns-then-buffer-lt-CHECK_ROOM
-returns-then-buffer-lt-CHECK_ROOM c = TextOutcome.short (omega arith) refl refl
+returns-then-buffer-lt-CHECK_ROOM c = short c.from.result (omega arith) c.from.ensures
 
-pub returns-in-Yes : goal.returns-in-Yes
-returns-in-Yes c =
-    yes_line c.check.ensures c.if-buffer-lt-CHECK_ROOM.false c.in-Yes.is c.put.ensures
+pub returns-in-Ok-Yes : goal.returns-in-Ok-Yes
+returns-in-Ok-Yes c = yes_line c.if-buffer-lt-CHECK_ROOM.false (rw c.in-Ok-Yes.field-0-is at c.in-Ok-Yes.ensures) c.put.ensures
 
-pub returns-in-No : goal.returns-in-No
-returns-in-No c =
-    no_line c.check.ensures c.if-buffer-lt-CHECK_ROOM.false c.in-No.is c.no_line.ensures
+pub returns-in-Ok-No : goal.returns-in-Ok-No
+returns-in-Ok-No c = no_line c.if-buffer-lt-CHECK_ROOM.false c.in-Ok-No.state (rw c.in-Ok-No.field-0-is at c.in-Ok-No.ensures) c.no_line.ensures
 
-pub returns-in-Refused : goal.returns-in-Refused
-returns-in-Refused c =
-    refused_line c.check.ensures c.if-buffer-lt-CHECK_ROOM.false c.answer.result c.in-Refused.is c.answer.ensures
+pub returns-in-Err : goal.returns-in-Err
+returns-in-Err c = refused_line c.if-buffer-lt-CHECK_ROOM.false c.in-Err.r c.answer.result c.in-Err.ensures c.from-in-Err.ensures c.answer.ensures

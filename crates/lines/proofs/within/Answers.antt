@@ -1,16 +1,13 @@
-use mathlib.Core.Path.{refl}
 use native.Mathlib.Omega.{arith}
-use Rattle.meaning.specs.Report.{TextOutcome}
+use Rattle.report.proofs.Refusals.{short}
 use Rattle.lines.proofs.Lined.{held_line, refused_line}
 use Rattle.lines.proofs.within.Goals as goal
 
 pub returns-then-buffer-lt-WITHIN_ROOM : goal.returns-then-buffer-lt-WITHIN_ROOM
-returns-then-buffer-lt-WITHIN_ROOM c = TextOutcome.short (omega arith) refl refl
+returns-then-buffer-lt-WITHIN_ROOM c = short c.from.result (omega arith) c.from.ensures
 
-pub returns-in-Held : goal.returns-in-Held
-returns-in-Held c =
-    held_line c.within.ensures c.if-buffer-lt-WITHIN_ROOM.false c.in-Held.is c.parts_line.ensures
+pub returns-in-Ok : goal.returns-in-Ok
+returns-in-Ok c = held_line c.if-buffer-lt-WITHIN_ROOM.false c.in-Ok.parts c.in-Ok.ensures c.parts_line.ensures
 
-pub returns-in-Refused : goal.returns-in-Refused
-returns-in-Refused c =
-    refused_line c.within.ensures c.if-buffer-lt-WITHIN_ROOM.false c.answer.result c.in-Refused.is c.answer.ensures
+pub returns-in-Err : goal.returns-in-Err
+returns-in-Err c = refused_line c.if-buffer-lt-WITHIN_ROOM.false c.in-Err.r c.answer.result c.in-Err.ensures c.from-in-Err.ensures c.answer.ensures

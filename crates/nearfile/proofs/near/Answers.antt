@@ -1,9 +1,12 @@
-use Rattle.opening.proofs.Held.{largest_opened, small_opened}
+use Rattle.std.proofs.Common.{refl, rules}
+use Rattle.meaning.specs.FileNear.{FileNear}
+use Rattle.opening.specs.Asked.{Asked}
+use Rattle.nearfile.specs.From.{NearFrom}
 use Rattle.nearfile.proofs.near.Goals as goal
-
-pub returns-then-long : goal.returns-then-long
-returns-then-long c = c.near_of.ensures _ (largest_opened c.of.ensures)
 
 pub returns : goal.returns
 returns c =
-    c.near_of-2.ensures _ (small_opened c.long.ensures c.if-long.false c.of-2.ensures)
+    elim c.with.ensures [
+      | Asked.refused x w e s ↦ rw e (FileNear.file_refused _ _ w refl refl)
+      | Asked.asked p s a ↦ let n : NearFrom p c.args.from c.with.result = search (rules, a.called, a.shows) in n.told _ s
+    ]

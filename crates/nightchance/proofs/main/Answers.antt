@@ -5,13 +5,13 @@ use Rattle.report.proofs.Unique.{within}
 use Rattle.nightchance.proofs.main.Goals as goal
 
 pub slice_bounds-kept-end : goal.slice_bounds-kept-end
-slice_bounds-kept-end c = came_within c.read.result c.read.ensures.parts c.in-Came.is
+slice_bounds-kept-end c = came_within c.read.result c.read.ensures.parts c.in-Ok.is
 
 pub slice_bounds-report-end : goal.slice_bounds-report-end
-slice_bounds-report-end c = sym (length-take-le _ _ (came_within c.read.result c.read.ensures.parts c.in-Came.is))
+slice_bounds-report-end c = sym (length-take-le _ _ (came_within c.read.result c.read.ensures.parts c.in-Ok.is))
 
 pub slice_bounds-buffer-end : goal.slice_bounds-buffer-end
-slice_bounds-buffer-end c = within c.report.result c.report.ensures c.in-Length.is
+slice_bounds-buffer-end c = within c.report.result c.report.ensures c.in-Ok-report.is
 
 pub slice_bounds-print-end : goal.slice_bounds-print-end
-slice_bounds-print-end c = sym (length-take-le _ _ (within c.report.result c.report.ensures c.in-Length.is))
+slice_bounds-print-end c = sym (length-take-le _ _ (within c.report.result c.report.ensures c.in-Ok-report.is))

@@ -4,7 +4,7 @@ use Rattle.report.proofs.Unique.{within}
 use Rattle.nightnear.proofs.print.Goals as goal
 
 pub slice_bounds-buffer-end : goal.slice_bounds-buffer-end
-slice_bounds-buffer-end g c = within c.near.result c.near.ensures c.in-Length.is
+slice_bounds-buffer-end g c = within c.near.result c.near.ensures c.in-Ok.is
 
 pub slice_bounds-print-end : goal.slice_bounds-print-end
-slice_bounds-print-end g c = sym (length-take-le _ _ (within c.near.result c.near.ensures c.in-Length.is))
+slice_bounds-print-end g c = sym (length-take-le _ _ (within c.near.result c.near.ensures c.in-Ok.is))

@@ -1,15 +1,12 @@
-use borrow.Author.Rules.{rules}
-use Rattle.octets.proofs.Cut.{none, more, found, blank}
+use mathlib.Core.Path.{◌≡◌}
+use lib.Bits.{bit_or}
+use Rattle.std.specs.List.{fold}
+use Rattle.std.proofs.Common.{rules}
+use Rattle.octets.proofs.Cut.{looked}
 use Rattle.octets.proofs.some_written.Goals as goal
 
-pub loop-i-init : goal.loop-i-init
-loop-i-init c = none
-
-pub loop-i-preserved : goal.loop-i-preserved
-loop-i-preserved c = let at = c in more at.loop-i.invariant (search rules) (search rules)
-
-pub returns-then-all-ne0 : goal.returns-then-all-ne0
-returns-then-all-ne0 c = let at = c in found at.loop-i.invariant (search rules) c.if-all-ne0.true
-
 pub returns : goal.returns
-returns c = let at = c in blank at.loop-i.invariant (search rules) c.if-all-ne0.false
+returns c =
+    let l = c.args.bytes.now in
+    let all : c.fold.result ≡ fold bit_or 0 l = search rules in
+    looked l all

@@ -3,16 +3,16 @@ use native.Mathlib.Omega.{arith}
 use borrow.Author.Rules.{rules}
 use Rattle.theory.specs.Numbers.Little.{none, small, product, more, all}
 use Rattle.octets.proofs.whole_number.Goals as goal
-use Rattle.octets.proofs.whole_number.Goals.{After-wide}
+use Rattle.octets.proofs.whole_number.Goals.{After-from}
 
-pub loop-i-init : goal.loop-i-init
-loop-i-init c = none
+pub loop-byte-init : goal.loop-byte-init
+loop-byte-init c = none
 
 -- A byte and its unit keep the number within four bytes.
-room : (c : After-wide) → let at = c.loop-i in (at.unit ≤ 16777216) × (c.wide.result * at.unit ≤ 255 * at.unit)
+room : (c : After-from) → let at = c.loop-byte in (at.unit ≤ 16777216) × (c.from.result * at.unit ≤ 255 * at.unit)
 room c =
-    let g = c.loop-i.invariant in
-    (small g (search rules) (search rules), product g c.wide.ensures.1)
+    let g = c.loop-byte.invariant in
+    (small g (search rules) (search rules), product g (omega arith))
 
 pub overflow_mul-number : goal.overflow_mul-number
 overflow_mul-number c = omega (arith, room c)
@@ -23,8 +23,8 @@ overflow_add-number c = omega (arith, room c)
 pub overflow_mul-unit : goal.overflow_mul-unit
 overflow_mul-unit c = omega (arith, room c)
 
-pub loop-i-preserved : goal.loop-i-preserved
-loop-i-preserved c = more c.loop-i.invariant (search rules) c.wide.ensures.0 c.wide.ensures.1
+pub loop-byte-preserved : goal.loop-byte-preserved
+loop-byte-preserved c = more c.loop-byte.invariant (search rules) c.from.ensures (omega arith)
 
 pub returns : goal.returns
-returns c = all c.loop-i.invariant (search rules)
+returns c = all c.loop-byte.invariant (search rules)

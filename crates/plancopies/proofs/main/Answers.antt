@@ -4,7 +4,7 @@ use Rattle.report.proofs.Unique.{within}
 use Rattle.plancopies.proofs.main.Goals as goal
 
 pub slice_bounds-buffer-end : goal.slice_bounds-buffer-end
-slice_bounds-buffer-end c = within c.answer.result c.answer.ensures c.in-Length.is
+slice_bounds-buffer-end c = within c.answer.result c.answer.ensures c.in-Ok.is
 
 pub slice_bounds-print-end : goal.slice_bounds-print-end
-slice_bounds-print-end c = sym (length-take-le _ _ (within c.answer.result c.answer.ensures c.in-Length.is))
+slice_bounds-print-end c = sym (length-take-le _ _ (within c.answer.result c.answer.ensures c.in-Ok.is))

@@ -4,7 +4,7 @@ use Rattle.report.proofs.Unique.{within}
 use Rattle.plantable.proofs.main.Goals as goal
 
 pub slice_bounds-buffer-end : goal.slice_bounds-buffer-end
-slice_bounds-buffer-end c = within c.table.result c.table.ensures c.in-Length.is
+slice_bounds-buffer-end c = within c.table.result c.table.ensures c.in-Ok.is
 
 pub slice_bounds-print-end : goal.slice_bounds-print-end
-slice_bounds-print-end c = sym (length-take-le _ _ (within c.table.result c.table.ensures c.in-Length.is))
+slice_bounds-print-end c = sym (length-take-le _ _ (within c.table.result c.table.ensures c.in-Ok.is))

@@ -1,20 +1,19 @@
-use mathlib.Core.Path.{refl, ap}
 use native.Mathlib.Omega.{arith}
+use mathlib.Core.Path.{refl}
 use borrow.Author.Rules.{rules}
-use Rattle.meaning.specs.Report.{face_text, TextOutcome}
 use Rattle.figures.specs.Told.{told_answer}
 use Rattle.report.proofs.Lengths.{face_room_lem}
-use Rattle.report.proofs.Room.{wide}
-use Rattle.report.proofs.ChainLines.{stands, printed}
+use Rattle.report.proofs.Refusals.{short, stands, printed}
 use Rattle.report.proofs.face.Goals as goal
 
 pub returns-then-buffer-lt-FACE_ROOM : goal.returns-then-buffer-lt-FACE_ROOM
-returns-then-buffer-lt-FACE_ROOM c = TextOutcome.short (omega arith) refl refl
+returns-then-buffer-lt-FACE_ROOM c = short c.from.result (omega arith) c.from.ensures
 
 pub returns : goal.returns
 returns c =
-    let o = c.of_chance in
+    let a = c.args in
     let long = c.if-buffer-lt-FACE_ROOM.false in
-    printed (omega (arith, long))
-    (stands (ap (face_text c.args.face) o.ensures.same)
-    (c.face_line.ensures.written (face_room_lem c.args.buffer.now c.args.face (told_answer o.result) long (search rules) (wide o.ensures))))
+    let room =
+    face_room_lem a.buffer.now a.face (told_answer a.chance) long (search rules)
+    (record { number = search rules; place = search rules; numerator = search rules; denominator = search rules }) in
+    printed (omega (arith, long)) (stands refl (c.face_line.ensures.written room))

@@ -1,11 +1,13 @@
-use mathlib.Core.Path.{refl}
 use native.Mathlib.Omega.{arith}
-use Rattle.meaning.specs.Report.{TextOutcome}
-use Rattle.report.proofs.ChainLines.{printed}
+use Rattle.report.proofs.Refusals.{short, printed, refusal_written}
 use Rattle.report.proofs.report.Goals as goal
 
 pub returns-then-buffer-lt-REPORT_ROOM : goal.returns-then-buffer-lt-REPORT_ROOM
-returns-then-buffer-lt-REPORT_ROOM c = TextOutcome.short (omega arith) refl refl
+returns-then-buffer-lt-REPORT_ROOM c = short c.from.result (omega arith) c.from.ensures
 
-pub returns : goal.returns
-returns c = printed (omega (arith, c.if-buffer-lt-REPORT_ROOM.false)) c.file_lines.ensures
+pub returns-in-Ok : goal.returns-in-Ok
+returns-in-Ok c = printed (omega (arith, c.if-buffer-lt-REPORT_ROOM.false)) c.in-Ok.ensures
+
+pub returns-in-Err : goal.returns-in-Err
+returns-in-Err c =
+    refusal_written c.in-Err.r c.answer.result (omega arith) (omega (arith, c.if-buffer-lt-REPORT_ROOM.false)) c.from-in-Err.ensures c.in-Err.ensures c.answer.ensures

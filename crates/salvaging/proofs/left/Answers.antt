@@ -1,24 +1,30 @@
+use Rattle.std.proofs.Common.{◌≡◌, Result, Ok, Err, refl, rules}
+use Rattle.std.proofs.lemmas.Result.{err_from_is_err_and}
+use Rattle.meaning.specs.Salvage.{verdict}
+use Rattle.chainfile.specs.Input.{input}
+use Rattle.salvaging.specs.Holds.{InWhole}
 use Rattle.salvaging.proofs.Printed.{lines_fit, left_printed, left_refusal}
 use Rattle.salvaging.proofs.left.Goals as goal
-use Rattle.salvaging.proofs.left.Goals.{After-bounds_left, Start}
+
+-- What is not answered is refused.
+refused : {T E : Type 0} (r : Result T E) → ((t : T) → r ≡ Ok t → ⊥) → (e : E) × (r ≡ Err e)
+refused (Ok t) n = absurd (n t refl)
+refused (Err e) n = (e, refl)
 
 pub left_lines-requires : goal.left_lines-requires
 left_lines-requires c =
-    record { room = c.requires.room; fits = lines_fit c.requires.holds.1 c.bounds_left.ensures c.in-Between.is c.missing-short.ensures }
+    let q : c.bounds_left.result ≡ Ok c.in_ok-bounds.bounds = search (rules, c.in_ok-bounds.ensures.cases) in
+    record { room = c.requires.room; fits = lines_fit c.requires.holds.1 c.bounds_left.ensures q c.missing-short.ensures }
 
-pub returns-in-Between : goal.returns-in-Between
-returns-in-Between c more h some =
-    let line = c in
-    let at-missing = line in
-    let case = at-missing in
-    let found = case in
-    left_printed h found.bounds_left.ensures found.requires.room some case.in-Between.is at-missing.missing-short.ensures line.left_lines.ensures
+pub returns-in_err-bounds : goal.returns-in_err-bounds
+returns-in_err-bounds c = λ more h some.
+    let p = err_from_is_err_and c.from_residual.result c.from_residual.ensures.1 in
+    let (x, q) = refused c.bounds_left.result (λ t q. let z = rw q at c.in_err-bounds.ensures.cases in cc) in
+    let told = rw q at c.in_err-bounds.ensures.cases in
+    let w : InWhole (input c.args.kept.now 0) (verdict c.args.lost.now) x c.in_err-bounds.field-0.0 = search (rules, told) in
+    rw (p.1, p.2) (left_refusal h x c.in_err-bounds.field-0.0 c.bounds_left.ensures q some w, refl)
 
-pub returns-in-Refused : goal.returns-in-Refused
-returns-in-Refused c more h some =
-    let line = c in
-    let place = line in
-    let case = place in
-    let found = case in
-    left_refusal h found.bounds_left.ensures found.requires.room some _ _ _ line.answer.result case.in-Refused.is c.place_in-at.ensures
-    line.answer.ensures
+pub returns : goal.returns
+returns c = λ more h some.
+    let q : c.bounds_left.result ≡ Ok c.in_ok-bounds.bounds = search (rules, c.in_ok-bounds.ensures.cases) in
+    left_printed h c.bounds_left.ensures q c.missing-short.ensures some c.left_lines.ensures

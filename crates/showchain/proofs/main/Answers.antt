@@ -5,13 +5,13 @@ use Rattle.report.proofs.Unique.{within}
 use Rattle.showchain.proofs.main.Goals as goal
 
 pub slice_bounds-kept-end : goal.slice_bounds-kept-end
-slice_bounds-kept-end c = came_within c.read.result c.read.ensures.parts c.in-Came.is
+slice_bounds-kept-end c = came_within c.read.result c.read.ensures.parts c.in-Ok.is
 
 pub slice_bounds-show-end : goal.slice_bounds-show-end
-slice_bounds-show-end c = sym (length-take-le _ _ (came_within c.read.result c.read.ensures.parts c.in-Came.is))
+slice_bounds-show-end c = sym (length-take-le _ _ (came_within c.read.result c.read.ensures.parts c.in-Ok.is))
 
 pub slice_bounds-buffer-end : goal.slice_bounds-buffer-end
-slice_bounds-buffer-end c = within c.show.result c.show.ensures c.in-Length.is
+slice_bounds-buffer-end c = within c.show.result c.show.ensures c.in-Ok-show.is
 
 pub slice_bounds-print-end : goal.slice_bounds-print-end
-slice_bounds-print-end c = sym (length-take-le _ _ (within c.show.result c.show.ensures c.in-Length.is))
+slice_bounds-print-end c = sym (length-take-le _ _ (within c.show.result c.show.ensures c.in-Ok-show.is))

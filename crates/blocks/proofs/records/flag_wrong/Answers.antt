@@ -1,15 +1,9 @@
-use native.Mathlib.Omega.{arith}
-use borrow.Author.Rules.{rules}
-use Rattle.chain.proofs.Passing.{pass}
+use Rattle.std.proofs.Common.{rules, tests, refl, ◌<◌, ◌+◌, ◌*◌, get_or}
+use Rattle.meaning.specs.Block.{record_size, flag_byte}
+use Rattle.blocks.proofs.Any.{any_below}
 use Rattle.blocks.proofs.records.flag_wrong.Goals as goal
 
-pub returns-then-byte-gt1 : goal.returns-then-byte-gt1
-returns-then-byte-gt1 c =
-    let at = c in
-    (at.loop-i.i, (search rules, omega (arith, c.byte.ensures.0)))
-
-pub loop-i-preserved : goal.loop-i-preserved
-loop-i-preserved c = pass c.loop-i.invariant (search rules) (λ bad. omega (arith, c.byte.ensures.0))
-
 pub returns : goal.returns
-returns c = λ bad. c.loop-i.invariant.1 bad.0 (omega (arith, bad.1.0)) bad.1.1
+returns c =
+    let a = c.args in
+    any_below _ _ (λ k. 1 < get_or a.kept.now (a.at + record_size * k + flag_byte) 0) a.count c.any.result c.any.ensures.ran refl (λ x q k. search (rules, tests)) (λ x q k. search (rules, tests))

@@ -1,16 +1,11 @@
-use native.Mathlib.Omega.{arith}
-use borrow.Author.Rules.{rules}
-use Rattle.theory.specs.Numbers.Decide.{holds, fails}
-use Rattle.chain.proofs.Passing.{pass}
+use Rattle.std.proofs.Common.{rules, tests, refl, ◌+◌, ◌*◌}
+use Rattle.meaning.specs.Block.{record_size, edge_reward_byte, weight_byte}
+use Rattle.meaning.specs.File.{NonZero}
+use Rattle.octets.specs.Input.{input}
+use Rattle.blocks.proofs.Any.{any_below}
 use Rattle.blocks.proofs.records.reserved_wrong.Goals as goal
 
-pub returns-then-written : goal.returns-then-written
-returns-then-written c =
-    let at = c in
-    (at.loop-i.i, (search rules, holds _ c.written.ensures c.if-written.true))
-
-pub loop-i-preserved : goal.loop-i-preserved
-loop-i-preserved c = pass c.loop-i.invariant (search rules) (fails _ c.written.ensures c.if-written.false)
-
 pub returns : goal.returns
-returns c = λ bad. c.loop-i.invariant.1 bad.0 (omega (arith, bad.1.0)) bad.1.1
+returns c =
+    let a = c.args in
+    any_below _ _ (λ k. NonZero (input a.kept.now 0) (a.at + record_size * k + edge_reward_byte) (a.at + record_size * k + weight_byte)) a.count c.any.result c.any.ensures.ran refl (λ x q k. search (rules, tests)) (λ x q k. search (rules, tests))

@@ -1,45 +1,42 @@
-use Prim.Native.Nat.{◌-◌, ◌<◌}
-use mathlib.Core.Path.{◌≡◌, sym}
+use Prim.Native.Nat.{◌<◌}
+use mathlib.Core.Path.{sym, ◌∙◌}
 use native.Mathlib.Omega.{arith}
+use lib.ListN.{take, length-take}
+use borrow.Author.Tests.{eqb-true}
 use Rattle.theory.specs.Numbers.Gcd.{common_whole}
-use Rattle.chain.proofs.Lowest.{gcd_of_more}
-use Rattle.chain.proofs.Divisors.{gcd_of_first, one_bit}
+use Rattle.chain.proofs.Divisors.{gcd_of_zeros, gcd_of_first, gcd_of_behind, gcd_of_divided, gcd_of_passed, one_bit}
 use Rattle.chain.proofs.divisor.common.Goals as goal
 
-pub returns-then-j-eq0 : goal.returns-then-j-eq0
-returns-then-j-eq0 c =
-    let t = c.trimmed-j in
-    let z : t.result ≡ 0 = omega arith in
-    sym (rw z at t.ensures.1)
+pub returns-in_default : goal.returns-in_default
+returns-in_default c = sym (gcd_of_zeros c.args.row.now c.in_default.ensures)
 
 pub loop-j-init : goal.loop-j-init
 loop-j-init c =
-    let t = c.trimmed-j in
-    let h : 0 < t.result = omega arith in (
-      omega (arith, t.ensures.0),
-      t.ensures.2 h,
-      (c.shared_slice_known-2-1.given (t.result - 1)).fits,
-      gcd_of_first _ _ h t.ensures.0 t.ensures.1,
-    )
+    let e = c.in-Some.ensures in
+    (e.0, omega arith, (c.type_inv.row c.in-Some.j).fits, gcd_of_first c.args.row.now c.in-Some.j e.0 e.2)
 
-pub returns-then-j-eq0-2 : goal.returns-then-j-eq0-2
-returns-then-j-eq0-2 c =
-    let u = c.undivided-j in
-    let z : u.result ≡ 0 = omega arith in
-    rw z at u.ensures.1
+pub returns-in_default-last_undivided : goal.returns-in_default-last_undivided
+returns-in_default-last_undivided c =
+    let k = c.loop-j in
+    sym (gcd_of_divided (take k.j c.args.row.now) k.g c.in_default-last_undivided.ensures) ∙ gcd_of_behind c.args.row.now k.j k.g (omega arith) k.invariant.3
 
 pub loop-j-preserved : goal.loop-j-preserved
 loop-j-preserved c =
-    let u = c.undivided-j in
-    let k = c in
-    let m = gcd_of_more k.args.row.now u.result (omega arith) (omega arith) in (
+    let row = c.args.row.now in
+    let k = c.loop-j in
+    let e = c.in-Some-last_undivided.ensures in
+    let less : c.in-Some-last_undivided.next < k.j = omega (arith, length-take k.j row) in
+    let m = gcd_of_passed row c.in-Some-last_undivided.next k.j k.g less (omega arith) k.invariant.3 e.1 in (
       omega arith,
-      rw c.gcd-g.ensures.is (common_whole _ _ k.loop-j.invariant.1),
+      rw c.gcd-g.ensures.is (common_whole _ _ k.invariant.1),
       omega arith,
-      cc (m, c.gcd-g.ensures.is, u.ensures.1),
+      c.gcd-g.ensures.is ∙ sym m,
     )
 
 pub lowest_bit-requires : goal.lowest_bit-requires
-lowest_bit-requires c =
+lowest_bit-requires c = one_bit 64 _ (omega arith) (eqb-true _ _ (sym c.loop-j-test.ensures))
+
+pub returns : goal.returns
+returns c =
     let k = c.loop-j in
-    (k.invariant.0, k.invariant.3, one_bit _ _ k.invariant.1 k.invariant.2 c.rest.ensures (omega arith))
+    c.lowest_bit.ensures ∙ gcd_of_behind c.args.row.now k.j k.g (omega arith) k.invariant.3

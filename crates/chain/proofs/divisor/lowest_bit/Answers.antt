@@ -1,23 +1,21 @@
-use mathlib.Core.Path.{sym, ◌∙◌}
+use mathlib.Core.Path.{◌≡◌, sym, ◌∙◌}
 use native.Mathlib.Omega.{arith}
+use native.Mathlib.Nat.{mod-one}
+use lib.Bits.{bit_or}
+use lib.Count.{count_trailing_zeros}
+use lib.Pow.{pow_pos}
+use Rattle.std.specs.List.{fold}
+use Rattle.std.proofs.Common.{rules}
 use Rattle.chain.proofs.Rising.{alone_in}
-use Rattle.chain.proofs.Lowest.{gcd_of_one}
-use Rattle.chain.proofs.Divisors.{joined_none, joined_more, joined_some, joined_all}
+use Rattle.chain.proofs.Divisors.{gcd_of_divided, joined_lowest}
 use Rattle.chain.proofs.divisor.lowest_bit.Goals as goal
 
 pub returns-then-g-eq1 : goal.returns-then-g-eq1
-returns-then-g-eq1 c =
-    let k = c in
-    sym (gcd_of_one k.args.e k.args.row.now (sym k.requires.1 ∙ c.if-g-eq1.true))
-
-pub loop-i-init : goal.loop-i-init
-loop-i-init c = let k = c in joined_none _ _ k.args.g (omega arith) k.requires.1 k.requires.2
-
-pub loop-i-preserved : goal.loop-i-preserved
-loop-i-preserved c = joined_more _ _ c.loop-i.invariant (omega arith) (omega arith) (c.shared_slice_known-in-loop-i-1.given c.loop-i.i).fits
+returns-then-g-eq1 c = let e : c.args.g ≡ 1 = omega arith in rw e (sym (gcd_of_divided c.args.row.now 1 (λ k h. mod-one _)))
 
 pub returns : goal.returns
 returns c =
-    let k = c in
-    let low = c.lowest.ensures.0 (joined_some _ _ k.loop-i.invariant) in
-    alone_in c.alone.ensures low.small ∙ joined_all _ _ k.loop-i.invariant (omega arith) low
+    let l = c.args.row.now in
+    let all : c.fold-all.result ≡ fold bit_or c.args.g l = search rules in
+    let w = joined_lowest l c.args.g c.lowest.result (omega (arith, c.requires, pow_pos (count_trailing_zeros 64 c.args.g))) (omega (arith, all)) c.requires (rw all at c.lowest.ensures.0) in
+    alone_in c.alone.ensures w.0 ∙ w.1

@@ -1,10 +1,7 @@
-use Prim.Native.Nat.{◌-◌, ◌/◌}
-use lib.ListN.{length, get_or}
+use Prim.Native.Nat.{◌/◌}
+use lib.ListN.{get_or}
 use Rattle.theory.specs.Numbers.Walk.{Walked}
 use Rattle.chain.proofs.divisor.quotients.Given as goal
 
-abbrev pub invariant-loop-j : goal.invariant-loop-j
-invariant-loop-j l = Walked (λ k. get_or l.initial.row k 0 / l.d) l.initial.row l.j l.row
-
-abbrev pub decreases-loop-j : goal.decreases-loop-j
-decreases-loop-j l = length l.initial.row - l.j
+abbrev pub invariant-loop-x : goal.invariant-loop-x
+invariant-loop-x l = Walked (λ k. get_or l.initial.row k 0 / l.d) l.initial.row l.x-index l.row

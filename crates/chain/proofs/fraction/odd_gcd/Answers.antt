@@ -9,7 +9,7 @@ use Rattle.chain.proofs.fraction.odd_gcd.Goals as goal
 pub loop-x-preserved : goal.loop-x-preserved
 loop-x-preserved c =
     let p = c.odd_apart-z.ensures in
-    (⊎_elim (λ w. omega arith) (λ w. omega arith) (below c.loop-x.x c.loop-x.y), p.0, rw c.least-x.ensures (p.2 ∙ c.loop-x.invariant.2))
+    (⊎_elim (λ w. omega arith) (λ w. omega arith) (below c.loop-x.x c.loop-x.y), p.0, rw c.min-x.ensures (p.2 ∙ c.loop-x.invariant.2))
 
 pub returns : goal.returns
 returns c =

@@ -23,7 +23,7 @@ pub loop-e-preserved : goal.loop-e-preserved
 loop-e-preserved c =
     let a = c.args in
     let f = input a.kept.now 0 in
-    let inside : c.loop-e.e < head_edges f = omega (arith, c.edges-count.ensures.0) in
+    let inside : c.loop-e.e < head_edges f = omega (arith, c.edges-e-end.ensures.0) in
     more_kept f a.lost.now a.table.now c.requires.room c.loop-e.invariant inside c.keep-k.ensures
 
 pub shape_of-table : goal.shape_of-table
@@ -33,4 +33,4 @@ pub returns : goal.returns
 returns c =
     let a = c.args in
     all_kept (input a.kept.now 0) a.lost.now a.table.now c.requires.room c.loop-e.invariant
-    (omega (arith, c.edges-count.ensures.0, c.loop-e.invariant.upto))
+    (omega (arith, c.edges-e-end.ensures.0, c.loop-e.invariant.upto))

@@ -31,8 +31,8 @@ returns-then-after-kept c =
     c.put_record.ensures
     ∙ ap (placed _ c.args.k) (cut_out (goal.at.returns-then-after-kept c).After-record_at-at at (at + record_size) (omega arith) (omega arith))
 
-pub returns : goal.returns
-returns c =
+pub returns-else-after-kept : goal.returns-else-after-kept
+returns-else-after-kept c =
     let a = c.args in
-    c.put_record-2.ensures
-    ∙ ap (placed _ a.k) (cut_out (goal.at.returns c).After-record_at-at c.end-low.result (length a.kept.now) c.end-low.ensures (omega arith))
+    c.put_record-else-after-kept.ensures
+    ∙ ap (placed _ a.k) (cut_out (goal.at.returns-else-after-kept c).After-record_at-at c.end.result (length a.kept.now) c.end.ensures (omega arith))

@@ -1,9 +1,8 @@
-use Prim.Native.Nat.{◌+◌, ◌*◌, ◌^◌, ◌≤◌}
+use Prim.Native.Nat.{◌+◌, ◌≤◌}
 use mathlib.Core.Path.{◌≡◌, ◌∙◌, ap}
 use native.Mathlib.Omega.{arith}
 use lib.ListN.{get_or}
 use borrow.Author.Rules.{rules}
-use Rattle.meaning.specs.Number.{sum_to}
 use Rattle.meaning.specs.Block.{flag_in}
 use Rattle.chainfile.specs.Input.{input}
 use Rattle.chainfile.proofs.Flags.{none, small, more, all}
@@ -13,12 +12,6 @@ use Rattle.chainfile.proofs.fill.goals.Goals.{After-byte}
 pub loop-i-init : goal.loop-i-init
 loop-i-init c = none
 
-pub record_at-requires : goal.record_at-requires
-record_at-requires c = omega arith
-
-pub overflow_add-record_at : goal.overflow_add-record_at
-overflow_add-record_at c = omega arith
-
 -- The byte is the flag of state i, and at most 1.
 flag : (c : After-byte) → c.byte.result ≡ flag_in (input c.args.kept.now 0) c.loop-i.i
 flag c =
@@ -27,16 +20,13 @@ flag c =
 
 low : (c : After-byte) → flag_in (input c.args.kept.now 0) c.loop-i.i ≤ 1
 low c =
-    c.requires.flags c.loop-i.i (omega (arith, c.states-count.ensures.0))
-
-pub overflow_shl-goals : goal.overflow_shl-goals
-overflow_shl-goals c = omega arith
+    c.requires.flags c.loop-i.i (omega (arith, c.states-i-end.ensures.0))
 
 pub overflow_add-goals : goal.overflow_add-goals
-overflow_add-goals c = omega (arith, small c.loop-i.invariant (search rules) (search rules) (flag c) (low c))
+overflow_add-goals c = omega (arith, small c.loop-i.invariant (omega (arith, c.states-i-end.ensures.0)) c.requires.few_states (flag c) (low c))
 
 pub loop-i-preserved : goal.loop-i-preserved
-loop-i-preserved c = more c.loop-i.invariant (search rules) (search rules) (flag c) (low c)
+loop-i-preserved c = more c.loop-i.invariant (omega (arith, c.states-i-end.ensures.0)) c.requires.few_states (flag c) (low c)
 
 pub returns : goal.returns
-returns c = all c.loop-i.invariant (search rules) ∙ ap (λ z. sum_to (λ i. flag_in (input c.args.kept.now 0) i * 2 ^ i) z) c.states-count.ensures.0
+returns c = all c.loop-i.invariant (search rules)

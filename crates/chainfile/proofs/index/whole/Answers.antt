@@ -1,22 +1,16 @@
-use native.Mathlib.Omega.{arith}
-use borrow.Author.Rules.{rules}
-use Rattle.chainfile.proofs.Counting.{none_counted, next_small, next_counted, found_whole, all_counted}
+use Rattle.std.proofs.Common.{rules, tests, arith, sym, subst}
+use Rattle.std.proofs.lemmas.Iterator.{YieldsList-from_range}
+use Rattle.std.proofs.lemmas.Iterator.Consumers.{nth_from_yields_List, YieldsList-from_filter}
+use Rattle.meaning.specs.Salvage.{edge_kept, verdict}
+use Rattle.chainfile.specs.Input.{input}
+use Rattle.chainfile.specs.Index.{Whole}
+use Rattle.chainfile.proofs.Counting.{entry_whole}
 use Rattle.chainfile.proofs.index.whole.Goals as goal
 
-pub overflow_add-next : goal.overflow_add-next
-overflow_add-next c =
-    omega (arith, next_small c.loop-e.invariant c.counted.ensures, c.loop-e.invariant.upto, c.edges-count.ensures)
-
-pub returns-then-j-next : goal.returns-then-j-next
-returns-then-j-next c =
-    found_whole c.loop-e.invariant c.counted.ensures (omega (arith, c.edges-count.ensures.0, c.loop-e-test.true)) (search rules)
-
-pub loop-e-preserved : goal.loop-e-preserved
-loop-e-preserved c =
-    next_counted c.loop-e.invariant c.counted.ensures (omega (arith, c.edges-count.ensures.0)) (search rules)
-
 pub returns : goal.returns
-returns c = all_counted c.loop-e.invariant c.edges-count.ensures.0 (search rules)
-
-pub loop-e-init : goal.loop-e-init
-loop-e-init c = none_counted
+returns c =
+    let f = input c.args.kept.now 0 in
+    let v = verdict c.args.lost.now in
+    let e = nth_from_yields_List c.nth.result c.nth.new.self c.args.j c.nth.ensures.ran
+    (YieldsList-from_filter _ (edge_kept f v) (YieldsList-from_range 0 c.edges-count.result c.edges-count.result c.filter.ensures.source (omega arith)) c.filter.ensures.closure (λ x b q k. search (rules, tests))) in
+    subst (Whole f v c.args.j) (sym c.unwrap_or.ensures) (entry_whole c.edges-count.result c.nth.result c.edges-count.ensures.0 e)

@@ -1,35 +1,37 @@
-use native.Mathlib.Omega.{arith}
-use borrow.Author.Rules.{rules}
-use Rattle.chaintext.proofs.Reading.{begun, read_small, read_ends, end_ended, read_zero, read_large, read_more}
+use Rattle.std.proofs.Common.{rules, arith}
+use Rattle.meaning.specs.Text.{IsDigit}
+use lib.ListN.{get_or}
+use Rattle.chaintext.proofs.Reading.{begun, read_ends, read_end, end_ended, read_zero, read_large, read_more}
 use Rattle.chaintext.proofs.pieces.number.Goals as goal
-use Rattle.chaintext.proofs.pieces.number.Goals.{then-x-eq0+else-at-i, else-x-eq0}
+use Rattle.chaintext.proofs.pieces.number.Goals.{Else-not-is_ascii_digit}
+
+-- The byte is a digit once it is tested.
+digit : (c : Else-not-is_ascii_digit) → IsDigit (get_or c.args.line.now c.loop-i.i 0)
+digit c = let h = c.if-not-is_ascii_digit.ensures.cases in (omega (arith, h), omega (arith, h))
 
 pub loop-i-init : goal.loop-i-init
 loop-i-init c = begun
 
-pub returns-then-b-lt48 : goal.returns-then-b-lt48
-returns-then-b-lt48 c = rw c.ending.ensures (record { told = (read_ends c.loop-i.invariant (λ d. omega (arith, d.0))) })
-
-pub returns-then-b-gt57 : goal.returns-then-b-gt57
-returns-then-b-gt57 c = rw c.ending-then-b-gt57.ensures (record { told = (read_ends c.loop-i.invariant (λ d. omega (arith, d.1))) })
+pub returns-then-not-is_ascii_digit : goal.returns-then-not-is_ascii_digit
+returns-then-not-is_ascii_digit c =
+    rw c.ending.ensures (record { told = read_ends c.loop-i.invariant (λ d. let h = c.if-not-is_ascii_digit.ensures.cases in omega (arith, h, d)) })
 
 pub returns-then-at-i : goal.returns-then-at-i
-returns-then-at-i c = record { told = read_zero c.loop-i.invariant (search rules, search rules) (search rules) (search rules) }
-
-pub overflow_mul-more : goal.overflow_mul-more
-overflow_mul-more c = omega (arith, read_small c.loop-i.invariant)
-
-pub overflow_add-more : goal.overflow_add-more
-overflow_add-more c = omega (arith, read_small c.loop-i.invariant)
+returns-then-at-i c =
+    record { told = read_zero c.loop-i.invariant (digit (goal.at.returns-then-at-i c).Else-not-is_ascii_digit) (search rules) (search rules) }
 
 pub returns-then-limit-more : goal.returns-then-limit-more
-returns-then-limit-more c = record { told = read_large c.loop-i.invariant (search rules) (search rules, search rules) (search rules) }
+returns-then-limit-more c =
+    record { told = read_large c.loop-i.invariant (search rules) (digit (goal.at.returns-then-limit-more c).Else-not-is_ascii_digit) (search rules) }
 
 pub loop-i-preserved : goal.loop-i-preserved
 loop-i-preserved c =
-    read_more c.loop-i.invariant (search rules) (search rules, search rules)
-    (λ z h. elim c.if-x-eq0.branch [ then-x-eq0+else-at-i w ↦ omega arith | else-x-eq0 w ↦ omega arith ])
-    (search rules)
+    rw c.from.ensures
+    (read_more c.loop-i.invariant (search rules) (digit (goal.at.loop-i-preserved c).Else-not-is_ascii_digit)
+    (λ z h. grind (arith, c.else-x-eq0.either))
+    (search rules))
 
 pub returns : goal.returns
-returns c = rw c.ending-2.ensures (record { told = (read_ends c.loop-i.invariant (end_ended c.args.line.now c.loop-i.i (search rules))) })
+returns c =
+    let e = read_end c.loop-i.invariant c.loop-i-test.false in
+    rw (c.ending-2.ensures, c.max.ensures, ← e) (record { told = read_ends c.loop-i.invariant (end_ended c.args.line.now c.loop-i.i c.loop-i-test.false) })

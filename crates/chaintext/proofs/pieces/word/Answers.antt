@@ -1,20 +1,18 @@
-use native.Mathlib.Omega.{arith}
-use borrow.Author.Count.{below_more}
-use borrow.Author.Rules.{rules}
-use Rattle.chaintext.proofs.Words.{word_short, word_unlike, word_all}
+use Rattle.std.proofs.Common.{refl}
+use Rattle.std.proofs.lemmas.Bool.Decides.{Decides-eqb}
+use Rattle.std.proofs.lemmas.Slice.Eq.{starts_is}
+use Rattle.chaintext.proofs.Words.{word_stands, word_missing}
 use Rattle.chaintext.proofs.pieces.word.Goals as goal
 
-pub returns-then-line-at : goal.returns-then-line-at
-returns-then-line-at c = let a = c.args in record { told = word_short a.line.now a.word.now a.at (search rules) }
+pub returns-then-starts_with : goal.returns-then-starts_with
+returns-then-starts_with c =
+    let a = c.args in
+    word_stands a.line.now a.word.now a.at c.requires
+    ((starts_is Decides-eqb _ a.word.now c.starts_with.result c.starts_with.ensures.value).0 c.if-starts_with.true)
+    (c.if-starts_with.ensures.bound refl)
 
-pub loop-i-init : goal.loop-i-init
-loop-i-init c = (omega arith, λ k h. absurd (omega arith))
-
-pub returns-then-line-at-2 : goal.returns-then-line-at-2
-returns-then-line-at-2 c = let a = c.args in record { told = word_unlike a.line.now a.word.now a.at c.loop-i.i (search rules) c.if-line-at-2.true }
-
-pub loop-i-preserved : goal.loop-i-preserved
-loop-i-preserved c = (search rules, below_more _ _ c.loop-i.invariant.1 c.if-line-at-2.false)
-
-pub returns : goal.returns
-returns c = let a = c.args in record { told = word_all a.line.now a.word.now a.at c.loop-i.i (search rules) (search rules) c.loop-i.invariant.1 }
+pub returns-else-starts_with : goal.returns-else-starts_with
+returns-else-starts_with c =
+    let a = c.args in
+    word_missing a.line.now a.word.now a.at c.starts_with.result
+    ((starts_is Decides-eqb _ a.word.now c.starts_with.result c.starts_with.ensures.value).1) c.if-starts_with.false

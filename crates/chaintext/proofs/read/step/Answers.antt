@@ -1,4 +1,4 @@
-use mathlib.Core.Path.{sym, ◌∙◌}
+use Rattle.std.proofs.Common.{sym, ◌∙◌}
 use Rattle.chaintext.proofs.Finishing.{step_passed, step_taken}
 use Rattle.chaintext.proofs.read.step.Goals as goal
 

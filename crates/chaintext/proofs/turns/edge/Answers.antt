@@ -1,9 +1,8 @@
-use borrow.Author.Rules.{rules}
 use Rattle.chaintext.proofs.Adding.{edge_wrong, edge_taken}
 use Rattle.chaintext.proofs.turns.edge.Goals as goal
 
-pub returns-in_default : goal.returns-in_default
-returns-in_default c = λ d o rs r. edge_wrong r (search rules) c.edge.ensures c.in_default.is
+pub returns-in_err-read : goal.returns-in_err-read
+returns-in_err-read c = λ d o rs r. rw c.from_residual.ensures (edge_wrong r c.requires c.in_err-read.ensures)
 
 pub returns : goal.returns
-returns c = λ d o rs r. rw c.put.ensures (edge_taken r (search rules) c.edge.ensures c.in-Edge.is)
+returns c = λ d o rs r. rw c.put.ensures (edge_taken r c.requires c.in_ok-read.ensures)

@@ -1,8 +1,8 @@
 use Rattle.chaintext.proofs.Adding.{order_taken, order_wrong}
 use Rattle.chaintext.proofs.turns.order.Goals as goal
 
-pub returns-then-order : goal.returns-then-order
-returns-then-order c = λ d es rs r. order_taken r c.order.ensures c.if-order.true
+pub returns-in_err-order : goal.returns-in_err-order
+returns-in_err-order c = λ d es rs r. rw c.from_residual.ensures (order_wrong r c.in_err-order.ensures)
 
 pub returns : goal.returns
-returns c = λ d es rs r. order_wrong r c.order.ensures c.if-order.false
+returns c = λ d es rs r. order_taken r c.in_ok-order.ensures

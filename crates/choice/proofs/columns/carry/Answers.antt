@@ -1,3 +1,4 @@
+use borrow.Author.Rules.{rules}
 use Prim.Native.Nat.{ℕ, ◌^◌, ◌<◌, ◌≤◌}
 use mathlib.Core.Path.{◌≡◌}
 use mathlib.Core.Logic.{inl, inr}
@@ -42,4 +43,5 @@ returns c =
     (rw t at c.among-good.ensures)
     (rw t at c.among.ensures)
     (rw t at c.among-2.ensures)
+    (search rules) (search rules)
     _ _ _ _ (rw t at c.join.ensures) c.join-2.ensures c.join-3.ensures

@@ -10,11 +10,4 @@ unfolding sum_to
 returns c =
     let a = c.args in
     let z : a.at ≡ a.at + 0 = omega arith in
-    omega (
-      arith,
-      c.wide-first.ensures.0,
-      c.wide-second.ensures.0,
-      c.wide-third.ensures.0,
-      c.wide-fourth.ensures.0,
-      ap (λ at. get_or a.answer.now at 0) z,
-    )
+    omega (arith, c.from.ensures, c.from_le_bytes.ensures, ap (λ at. get_or a.answer.now at 0) z)

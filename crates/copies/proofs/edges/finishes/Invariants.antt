@@ -3,8 +3,5 @@ use Rattle.meaning.specs.Chain.{plain_edge}
 use Rattle.copies.proofs.Growing.{Rungs}
 use Rattle.copies.proofs.edges.finishes.Given as goal
 
-abbrev pub invariant-loop-k : goal.invariant-loop-k
-invariant-loop-k l = Rungs (λ k. plain_edge k (l.copies + 1) l.finish) l.initial.edges l.at l.copies l.edges l.next l.k
-
-abbrev pub decreases-loop-k : goal.decreases-loop-k
-decreases-loop-k l = l.copies - l.k
+abbrev pub invariant-loop-i : goal.invariant-loop-i
+invariant-loop-i l = Rungs (λ k. plain_edge k (l.copies + 1) l.finish) l.initial.edges l.at l.copies l.edges l.next l.i

@@ -4,8 +4,8 @@ use Rattle.theory.specs.Plans.Formed.{in_range_lem}
 use Rattle.copies.proofs.Growing.{filled_none, filled_more, filled_all}
 use Rattle.copies.proofs.states.denominators.Goals as goal
 
-pub overflow_add-states : goal.overflow_add-states
-overflow_add-states c = omega (arith, (in_range_lem c.requires.0).few)
+pub overflow_add-k-end : goal.overflow_add-k-end
+overflow_add-k-end c = omega (arith, (in_range_lem c.requires.0).few)
 
 pub loop-k-init : goal.loop-k-init
 loop-k-init c = filled_none

@@ -1,12 +1,10 @@
 use Prim.Native.Nat.{◌+◌, ◌-◌}
 use Rattle.meaning.specs.Chain.{row_sum}
-use Rattle.meaning.specs.Copies.{plan_of, copies_edges}
+use Rattle.meaning.specs.Copies.{copies_edges}
+use Rattle.copies.specs.Told.{told_plan}
 use Rattle.copies.proofs.Growing.{Filled}
 use Rattle.copies.proofs.states.denominators.Given as goal
 
 abbrev pub invariant-loop-k : goal.invariant-loop-k
 invariant-loop-k l =
-    Filled (row_sum (copies_edges (plan_of l.copies l.loss l.rebuild l.finish))) l.initial.table (l.copies + 2) l.table l.k
-
-abbrev pub decreases-loop-k : goal.decreases-loop-k
-decreases-loop-k l = l.states - l.k
+    Filled (row_sum (copies_edges (told_plan l.plan))) l.initial.table (l.plan.copies + 2) l.table l.k

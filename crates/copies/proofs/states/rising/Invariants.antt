@@ -4,6 +4,3 @@ use Rattle.copies.proofs.states.rising.Given as goal
 
 abbrev pub invariant-loop-k : goal.invariant-loop-k
 invariant-loop-k l = Filled (λ i. i) l.initial.table l.states l.table l.k
-
-abbrev pub decreases-loop-k : goal.decreases-loop-k
-decreases-loop-k l = l.states - l.k

@@ -7,8 +7,8 @@ use Rattle.copies.proofs.states.sum.Goals as goal
 pub returns-then-k-eq0 : goal.returns-then-k-eq0
 returns-then-k-eq0 c = sum_empty c.requires.0 (search rules)
 
-pub returns-then-copies-k : goal.returns-then-copies-k
-returns-then-copies-k c = sum_done c.requires.0 (search rules)
+pub returns-then-plan-k : goal.returns-then-plan-k
+returns-then-plan-k c = sum_done c.requires.0 (search rules)
 
 pub overflow_mul-result : goal.overflow_mul-result
 overflow_mul-result c = omega (arith, lost_small c.requires.0 c.args.k (search rules))
@@ -17,8 +17,8 @@ pub overflow_add-result : goal.overflow_add-result
 overflow_add-result c =
     omega (arith, lost_small c.requires.0 c.args.k (search rules), (in_range_lem c.requires.0).finish_small)
 
-pub returns-then-k-copies : goal.returns-then-k-copies
-returns-then-k-copies c = sum_full c.requires.0 (search rules)
+pub returns-then-k-plan : goal.returns-then-k-plan
+returns-then-k-plan c = sum_full c.requires.0 (search rules)
 
 pub overflow_mul-result-2 : goal.overflow_mul-result-2
 overflow_mul-result-2 c = omega (arith, lost_small c.requires.0 c.args.k (search rules))

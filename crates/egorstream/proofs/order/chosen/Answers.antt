@@ -1,14 +1,14 @@
-use mathlib.Core.Path.{refl}
-use Rattle.opening.proofs.Held.{taken}
-use Rattle.egorstream.proofs.Ordering.{refuses, chooses}
+use mathlib.Core.Path.{ap}
+use borrow.Author.Rules.{rules}
+use Rattle.meaning.specs.Choice.{file_refused}
+use Rattle.choice.specs.Told.{told}
+use Rattle.opening.specs.Asked.{Asked}
+use Rattle.egorstream.proofs.Ordering.{of_file}
 use Rattle.egorstream.proofs.order.chosen.Goals as goal
 
-pub returns-in-Refused : goal.returns-in-Refused
-returns-in-Refused c f o = refuses (o.refused c.in-Refused.is)
-
-pub returns-in-Chain : goal.returns-in-Chain
-returns-in-Chain c f o =
-    let choose = c in
-    let edges = choose in
-    let h = o.held edges.in-Chain.is in
-    chooses _ (taken h edges.denominators-denominators.ensures edges.edges.ensures refl refl) choose.choose.ensures
+pub returns : goal.returns
+returns c =
+    elim c.with.ensures [
+      | Asked.refused x w e s ↦ file_refused _ _ w (ap told e) (search (rules, s))
+      | Asked.asked p s a ↦ of_file p c.with.result (search (rules, a.called, a.shows)) s
+    ]

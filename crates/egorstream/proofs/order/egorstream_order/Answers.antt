@@ -1,19 +1,12 @@
-use Rattle.opening.proofs.Held.{largest_opened, small_opened}
-use Rattle.egorstream.proofs.Ordering.{replied}
+use native.Mathlib.Omega.{arith}
+use Rattle.egorstream.proofs.Ordering.{said, place_small}
 use Rattle.egorstream.proofs.order.egorstream_order.Goals as goal
 
-pub reply-requires : goal.reply-requires
-reply-requires c =
-    (c.chosen.ensures _ (largest_opened c.of.ensures)).near
+pub overflow_cast-result : goal.overflow_cast-result
+overflow_cast-result c = omega (arith, place_small c.in-Err.r (said c.in-Err.is c.chosen.ensures))
 
-pub returns-then-long : goal.returns-then-long
-returns-then-long c =
-    replied c.reply.result (c.chosen.ensures _ (largest_opened c.of.ensures)) c.reply.ensures
+pub returns-in-Ok : goal.returns-in-Ok
+returns-in-Ok c = said c.in-Ok.is c.chosen.ensures
 
-pub reply-requires-2 : goal.reply-requires-2
-reply-requires-2 c =
-    (c.chosen-2.ensures _ (small_opened c.long.ensures c.if-long.false c.of-2.ensures)).near
-
-pub returns : goal.returns
-returns c =
-    replied c.reply-2.result (c.chosen-2.ensures _ (small_opened c.long.ensures c.if-long.false c.of-2.ensures)) c.reply-2.ensures
+pub returns-in-Err : goal.returns-in-Err
+returns-in-Err c = rw c.number.ensures.0 (said c.in-Err.is c.chosen.ensures)

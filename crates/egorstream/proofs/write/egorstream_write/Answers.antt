@@ -1,20 +1,8 @@
-use mathlib.Core.Path.{ap}
-use native.Mathlib.Omega.{arith}
-use Rattle.chainwriter.specs.Tells.{told}
-use Rattle.egorstream.proofs.Writes.{place_small, faced}
+use Rattle.egorstream.proofs.Writes.{place_fits, faced}
 use Rattle.egorstream.proofs.write.egorstream_write.Goals as goal
 
-pub overflow_cast-result : goal.overflow_cast-result
-overflow_cast-result c =
-    omega (
-      arith,
-      place_small (faced c.write.result c.new-c.ensures c.write.ensures (ap told c.in-Refused.is)),
-    )
+pub of-requires : goal.of-requires
+of-requires c = place_fits c.write.result c.write.ensures
 
-pub returns-in-Refused : goal.returns-in-Refused
-returns-in-Refused c =
-    faced c.write.result c.new-c.ensures c.write.ensures (ap told c.in-Refused.is)
-
-pub returns-in-Length : goal.returns-in-Length
-returns-in-Length c =
-    faced c.write.result c.new-c.ensures c.write.ensures (ap told c.in-Length.is)
+pub returns : goal.returns
+returns c = rw c.of.ensures (faced c.new.ensures c.write.ensures)

@@ -1,5 +1,5 @@
 use native.Mathlib.Omega.{arith}
-use Rattle.chain.specs.Lent.{lent}
+use Rattle.chain.specs.Given.{with}
 use Rattle.elimination.specs.Engine.{is_paid, read_by}
 use Rattle.elimination.specs.Table.{Kept}
 use Rattle.elimination.proofs.Tables.{kept_more}
@@ -15,12 +15,12 @@ clear_work-requires c = let h = c.requires.0.asked in (omega (arith, h.few), ome
 pub course-r-requires : goal.course-r-requires
 course-r-requires c =
     let a = c.args in
-    let l = lent a.c a.denominators.now a.edges.now a.order.now (read_by (is_paid a.engine) a.rewards.now) a.work.now in
+    let l = with a.g.now a.order.now (read_by (is_paid a.engine) a.rewards.now) a.work.now in
     let zero = zeros_kept _ _ _ c.requires.0.asked.room c.clear_work.ensures in
     (begun_beside {l = l} zero.len c.requires.0, c.requires.1, c.requires.2, zeros_at _ _ _ c.requires.0.asked.room c.clear_work.ensures)
 
 -- What stands past the table stays.
-kept : (c : After-course-r) → Kept c.args.c.states c.args.work.now c.course-r.new.work
+kept : (c : After-course-r) → Kept c.args.g.now.chain.states c.args.work.now c.course-r.new.work
 kept c = kept_more (zeros_kept _ _ _ c.requires.0.asked.room c.clear_work.ensures) c.course-r.ensures.0
 
 pub clear_work-requires-2 : goal.clear_work-requires-2
@@ -31,5 +31,5 @@ clear_work-requires-2 c =
 pub returns : goal.returns
 returns c =
     let a = c.args in
-    let l = lent a.c a.denominators.now a.edges.now a.order.now (read_by (is_paid a.engine) a.rewards.now) a.work.now in
+    let l = with a.g.now a.order.now (read_by (is_paid a.engine) a.rewards.now) a.work.now in
     (cleared_kept l (kept (goal.at.returns c).After-course-r) c.clear_work-2.ensures, comes_beside l.work 0 _ c.course-r.ensures.1)

@@ -3,14 +3,14 @@ use mathlib.Core.Bool.{false}
 use mathlib.Core.List.{List, []}
 use Prim.Native.Nat.{ℕ}
 use Rattle.meaning.specs.Refusal.{eliminating, Lent}
-use Rattle.chain.specs.Lent.{lent}
+use Rattle.chain.specs.Given.{with}
 use Rattle.survey.specs.Looking.{looked}
 use Rattle.elimination.proofs.Engines.{looked_paid, looked_unpaid}
 use Rattle.elimination.proofs.entry.look_for.Goals as goal
 use Rattle.elimination.proofs.entry.look_for.Goals.{After-paid}
 
 abbrev l : After-paid → List ℕ → Lent
-l c rewards = let a = c.args in lent a.c a.denominators.now a.edges.now a.order.now rewards a.work.now
+l c rewards = let a = c.args in with a.g.now a.order.now rewards a.work.now
 
 pub returns-then-paid : goal.returns-then-paid
 returns-then-paid c =

@@ -5,6 +5,3 @@ use Rattle.elimination.proofs.first.occupied.Given as goal
 
 abbrev pub invariant-loop-j : goal.invariant-loop-j
 invariant-loop-j l = Marked (cell l.columns) (length l.columns) l.j l.targets
-
-abbrev pub decreases-loop-j : goal.decreases-loop-j
-decreases-loop-j l = l.j

@@ -1,4 +1,3 @@
-use Prim.Native.Nat.{◌-◌}
 use lib.ListN.{get_or}
 use Rattle.elimination.proofs.Cells.{Gathering}
 use Rattle.elimination.proofs.Missing.{completes}
@@ -6,6 +5,3 @@ use Rattle.elimination.proofs.gather.complete_all.Given as goal
 
 abbrev pub invariant-loop-i : goal.invariant-loop-i
 invariant-loop-i l = Gathering l.n (completes l.n l.live (λ i. get_or l.left i 0)) l.n l.initial.work l.i l.work
-
-abbrev pub decreases-loop-i : goal.decreases-loop-i
-decreases-loop-i l = l.n - l.i

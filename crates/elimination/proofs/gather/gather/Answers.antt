@@ -9,14 +9,14 @@ pub carry-requires : goal.carry-requires
 carry-requires c =
     let a = c.args in
     let h = c.requires.0 in
-    let l = rw c.count-count.ensures at c.loop-e-test.true in
+    let l = rw c.count-e-end.ensures at c.loop-e-test.true in
     let s = h.sources _ l in
     gathering_addable a.n (sets_of a.sets) a.edges.now _ _ c.requires.1 _ c.loop-e.invariant h.few
     h.room l s (h.targets _ l) (h.sums _ s)
 
 pub loop-e-preserved : goal.loop-e-preserved
 loop-e-preserved c =
-    let l = rw c.count-count.ensures at c.loop-e-test.true in
+    let l = rw c.count-e-end.ensures at c.loop-e-test.true in
     gathering_more c.loop-e.invariant l c.carry.ensures
 
 pub shape_of-work : goal.shape_of-work
@@ -26,4 +26,4 @@ pub returns : goal.returns
 returns c =
     let a = c.args in
     gathering_held a.n (sets_of a.sets) a.edges.now _ _ c.requires.1
-    (gathering_all c.loop-e.invariant (rw c.count-count.ensures at c.loop-e-test.false))
+    (gathering_all c.loop-e.invariant (rw c.count-e-end.ensures at c.loop-e-test.false))

@@ -1,4 +1,3 @@
-use Prim.Native.Nat.{◌-◌}
 use Rattle.meaning.specs.Chain.{edge_count}
 use Rattle.survey.specs.Sets.{sets_of}
 use Rattle.elimination.specs.Gather.{share}
@@ -7,6 +6,3 @@ use Rattle.elimination.proofs.gather.gather.Given as goal
 
 abbrev pub invariant-loop-e : goal.invariant-loop-e
 invariant-loop-e l = Gathering l.n (share l.n (sets_of l.sets) l.edges) (edge_count l.edges) l.initial.work l.e l.work
-
-abbrev pub decreases-loop-e : goal.decreases-loop-e
-decreases-loop-e l = l.count - l.e

@@ -1,4 +1,4 @@
-use Prim.Native.Nat.{suc, ◌+◌}
+use Prim.Native.Nat.{suc, ◌+◌, ◌-◌}
 use mathlib.Core.Path.{◌≡◌, sym, ◌∙◌}
 use native.Mathlib.Omega.{arith}
 use lib.ListN.{length-set}
@@ -26,13 +26,13 @@ loop-q-preserved c =
 
 pub returns : goal.returns
 returns c =
-    let l = c.loop-q in
-    let k = l.invariant in
-    let x = l.part in
+    let k = c.loop-q.invariant in
+    let x = c.loop-q.part in
+    let m = c.args.e - 1 in
     record {
-      len = length-set x l.q 0 ∙ k.0.len;
-      front = λ q b. get_or-set_other x l.q q 0 0 (λ z. omega arith) ∙ k.0.new q (omega arith) ∙ rw (lt-ltb q _ b);
-      moved = λ q b d. get_or-set_other x l.q q 0 0 (λ z. omega arith) ∙ k.0.new q (omega arith) ∙ rw (le-ltb q _ b);
-      last = λ q b. let z : q ≡ l.q = omega arith in rw z (get_or-set_same x l.q 0 0 (omega (arith, k.0.len)));
-      past = λ q b. get_or-set_other x l.q q 0 0 (λ z. omega arith) ∙ k.0.old q (omega arith);
+      len = length-set x m 0 ∙ k.0.len;
+      front = λ q b. get_or-set_other x m q 0 0 (λ z. omega arith) ∙ k.0.new q (omega arith) ∙ rw (lt-ltb q _ b);
+      moved = λ q b d. get_or-set_other x m q 0 0 (λ z. omega arith) ∙ k.0.new q (omega arith) ∙ rw (le-ltb q _ b);
+      last = λ q b. let z : q ≡ m = omega arith in rw z (get_or-set_same x m 0 0 (omega (arith, k.0.len)));
+      past = λ q b. get_or-set_other x m q 0 0 (λ z. omega arith) ∙ k.0.old q (omega arith);
     }

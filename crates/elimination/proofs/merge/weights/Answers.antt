@@ -6,29 +6,28 @@ use Rattle.chain.specs.Rising.{Lowest, Others}
 use Rattle.elimination.proofs.Fill.{only_le}
 use Rattle.elimination.proofs.Along.{written_none, written_all, written_room, written_fits, written_more, blend_none}
 use Rattle.elimination.proofs.merge.weights.Goals as goal
-use Rattle.elimination.proofs.merge.weights.Goals.{After-cell-v, After-lowest-j, After-others-rest}
+use Rattle.elimination.proofs.merge.weights.Goals.{After-cell-v, In-Some}
 
-pub loop-rest-init : goal.loop-rest-init
-loop-rest-init c =
+pub loop-j-init : goal.loop-j-init
+loop-j-init c =
     let a = c.args in
     let h = c.requires in
-    written_none (blend_none a.s a.d a.w h.3 h.4) (omega arith) h.5
+    rw c.into_iter-j-iterator.ensures.into_iter_gives (written_none (blend_none a.s a.d a.w h.3 h.4) (omega arith) h.5)
 
--- What is left is not empty.
-low : (c : After-lowest-j) → Lowest c.loop-rest.rest c.lowest-j.result
-low c = c.lowest-j.ensures.0 (omega arith)
+-- The next state, and what is left then.
+low : (c : In-Some) → Lowest c.loop-j.j-iterator.0 c.in-Some.j
+low c = c.in-Some.ensures.steps.0
 
-less : (c : After-others-rest) → Others c.loop-rest.rest c.others-rest.result
-less c = c.others-rest.ensures.0 (omega arith)
+less : (c : In-Some) → Others c.loop-j.j-iterator.0 c.next.new.self.0
+less c = c.in-Some.ensures.steps.1
 
 pub cell-v-requires : goal.cell-v-requires
 cell-v-requires c =
     let h = c.requires in
     (h.3.fits _, h.1, h.2, h.4.fits _)
 
-room : (c : After-cell-v) → c.loop-rest.k < length c.args.part.now
-room c =
-    written_room c.loop-rest.invariant (c.lowest-j.ensures.0 (omega arith)) _ c.requires.0
+room : (c : After-cell-v) → c.loop-j.k < length c.args.part.now
+room c = written_room c.loop-j.invariant c.in-Some.ensures.steps.0 _ c.requires.0
 
 pub offset_bounds-part-k : goal.offset_bounds-part-k
 offset_bounds-part-k c = omega (arith, room c)
@@ -40,33 +39,31 @@ pub overflow_add-k : goal.overflow_add-k
 overflow_add-k c = omega (arith, room (goal.at.overflow_add-k c).After-cell-v, c.some-k.ensures, only_le c.cell-v.result 1)
 
 pub mark-targets-requires : goal.mark-targets-requires
-mark-targets-requires c = (low (goal.at.mark-targets-requires c).After-lowest-j).small
+mark-targets-requires c = (low (goal.at.mark-targets-requires c).In-Some).small
 
 pub overflow_add-targets : goal.overflow_add-targets
 overflow_add-targets c =
-    record { fits = rw c.mark-targets.ensures (written_fits c.loop-rest.invariant (low (goal.at.overflow_add-targets c).After-lowest-j) c.cell-v.result) }
+    record { fits = rw c.mark-targets.ensures (written_fits c.loop-j.invariant (low (goal.at.overflow_add-targets c).In-Some) c.cell-v.result) }
 
-pub loop-rest-smaller : goal.loop-rest-smaller
-loop-rest-smaller c = (less c).less
-
-pub loop-rest-preserved : goal.loop-rest-preserved
-loop-rest-preserved c =
-    written_more c.loop-rest.invariant (low (goal.at.loop-rest-preserved c).After-lowest-j) (less c) c.cell-v.ensures
-    (ap (λ z. c.loop-rest.k + z) c.some-k.ensures)
-    (ap (λ z. c.loop-rest.targets + z) c.mark-targets.ensures)
-    (room (goal.at.loop-rest-preserved c).After-cell-v)
+pub loop-j-preserved : goal.loop-j-preserved
+loop-j-preserved c =
+    let at = (goal.at.loop-j-preserved c).In-Some in
+    written_more c.loop-j.invariant (low at) (less at) c.cell-v.ensures
+    (ap (λ z. c.loop-j.k + z) c.some-k.ensures)
+    (ap (λ z. c.loop-j.targets + z) c.mark-targets.ensures)
+    (room (goal.at.loop-j-preserved c).After-cell-v)
 
 pub returns : goal.returns
-returns c = written_all c.loop-rest.invariant c.loop-rest-test.false
+returns c = written_all c.loop-j.invariant c.in-None.ensures.steps.0
 
 pub offset_bounds-x-j : goal.offset_bounds-x-j
-offset_bounds-x-j c = omega (arith, (low c).small)
+offset_bounds-x-j c = omega (arith, (low (goal.at.offset_bounds-x-j c).In-Some).small)
 
 pub bounds-x-j : goal.bounds-x-j
-bounds-x-j c = omega (arith, (low (goal.at.bounds-x-j c).After-lowest-j).small)
+bounds-x-j c = omega (arith, (low (goal.at.bounds-x-j c).In-Some).small)
 
 pub offset_bounds-y-j : goal.offset_bounds-y-j
-offset_bounds-y-j c = omega (arith, (low (goal.at.offset_bounds-y-j c).After-lowest-j).small)
+offset_bounds-y-j c = omega (arith, (low (goal.at.offset_bounds-y-j c).In-Some).small)
 
 pub bounds-y-j : goal.bounds-y-j
-bounds-y-j c = omega (arith, (low (goal.at.bounds-y-j c).After-lowest-j).small)
+bounds-y-j c = omega (arith, (low (goal.at.bounds-y-j c).In-Some).small)

@@ -20,7 +20,7 @@ loop-e-init c = none _ _ _
 -- What the edge brings, and where: a state of the table.
 module _ (c : After-reward) where
   inside : c.loop-e.e < edge_count c.args.edges.now
-  inside = omega (arith, c.count-count.ensures, c.loop-e-test.true)
+  inside = omega (arith, c.count-e-end.ensures, c.loop-e-test.true)
 
   here : c.from-i.result < most_states
   here = omega (arith, c.from-i.ensures, c.requires.sources c.loop-e.e inside)

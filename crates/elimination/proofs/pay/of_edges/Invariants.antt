@@ -1,6 +1,6 @@
-use Prim.Native.Nat.{ℕ, ◌*◌, ◌-◌}
+use Prim.Native.Nat.{ℕ, ◌*◌}
 use mathlib.Core.List.{List}
-use Rattle.meaning.specs.Chain.{M, most_reward, edge_count, weight, edge_reward}
+use Rattle.meaning.specs.Chain.{M, most_reward, weight, edge_reward}
 use Rattle.look.proofs.Gather.{Summed}
 use Rattle.elimination.proofs.pay.of_edges.Given as goal
 
@@ -13,6 +13,3 @@ each = M * most_reward
 
 abbrev pub invariant-loop-e : goal.invariant-loop-e
 invariant-loop-e l = Summed l.edges (worth l.edges) each l.sums l.e
-
-abbrev pub decreases-loop-e : goal.decreases-loop-e
-decreases-loop-e l = edge_count l.edges - l.e

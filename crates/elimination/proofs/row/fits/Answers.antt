@@ -1,18 +1,15 @@
 use native.Mathlib.Omega.{arith}
+use borrow.Author.Tests.{lt-leb}
+use Rattle.meaning.specs.Chain.{M}
 use Rattle.elimination.specs.Packed.{states_of}
 use Rattle.elimination.proofs.Unpacked.{reward_stands}
-use Rattle.elimination.proofs.Rows.{tested_total, tested_reward, tested_exact}
+use Rattle.elimination.proofs.Rows.{both_small}
 use Rattle.elimination.proofs.row.fits.Goals as goal
 
-pub returns-then-total-gt-LIMIT : goal.returns-then-total-gt-LIMIT
-returns-then-total-gt-LIMIT c = tested_total (omega arith)
-
-pub returns-then-part-gt-LIMIT : goal.returns-then-part-gt-LIMIT
-returns-then-part-gt-LIMIT c =
+pub returns-then-total-le-LIMIT : goal.returns-then-total-le-LIMIT
+returns-then-total-le-LIMIT c =
     let p = c.args.part.now in
-    tested_reward (omega (arith, (reward_stands (states_of p)).here p))
+    both_small _ _ _ (omega arith) ((reward_stands (states_of p)).here p)
 
-pub returns : goal.returns
-returns c =
-    let p = c.args.part.now in
-    tested_exact (omega arith) (omega (arith, (reward_stands (states_of p)).here p))
+pub returns-else-total-le-LIMIT : goal.returns-else-total-le-LIMIT
+returns-else-total-le-LIMIT c = rw (lt-leb c.total.result M c.if-total-le-LIMIT.false) (λ h. omega (arith, h.0))

@@ -1,8 +1,15 @@
-use Rattle.engines.proofs.Outcomes.{reduced_of, chance_ends, chance_stops}
+use mathlib.Core.Path.{sym, ap, ◌∙◌}
+use Rattle.std.specs.Prelude.{Ok}
+use Rattle.std.proofs.lemmas.Result.{err_from_is_err_and}
+use Rattle.chain.specs.declared.fraction.Fraction.{Fraction}
+use Rattle.engines.specs.ReadOff.{chance_of}
+use Rattle.engines.proofs.Outcomes.{reduced_of}
 use Rattle.engines.proofs.entry.chance_of.Goals as goal
 
-pub returns-in-Ends : goal.returns-in-Ends
-returns-in-Ends c = chance_ends c.in-Ends.is (reduced_of c.new.ensures c.reduce.ensures)
+pub returns-in_err-ends : goal.returns-in_err-ends
+returns-in_err-ends c =
+    let p = err_from_is_err_and c.from_residual.result c.from_residual.ensures.1 in
+    rw (p.1, p.2) (sym (ap chance_of c.in_err-ends.was))
 
-pub returns-in-Stops : goal.returns-in-Stops
-returns-in-Stops c = chance_stops c.in-Stops.is
+pub returns : goal.returns
+returns c = ap (λ (f : Fraction). Ok f) (reduced_of c.new.ensures c.reduce.ensures) ∙ sym (ap chance_of c.in_ok-ends.was)

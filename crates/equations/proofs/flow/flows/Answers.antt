@@ -41,7 +41,7 @@ module _ (c : After-at) where
   e = c.loop-e.e
 
   inside : e < edge_count edges
-  inside = omega (arith, c.count-count.ensures, c.loop-e-test.true)
+  inside = omega (arith, c.count-e-end.ensures, c.loop-e-test.true)
 
   source : c.from-i.result < most_states
   source = omega (arith, c.from-i.ensures, from_below edges c.requires.ends e inside)

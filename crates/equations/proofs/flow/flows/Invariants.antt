@@ -1,6 +1,6 @@
-use Prim.Native.Nat.{ℕ, ◌*◌, ◌-◌, ◌^◌}
+use Prim.Native.Nat.{ℕ, ◌*◌, ◌^◌}
 use mathlib.Core.List.{List}
-use Rattle.meaning.specs.Chain.{edge_count, to, weight}
+use Rattle.meaning.specs.Chain.{to, weight}
 use Rattle.look.proofs.Gather.{Summed}
 use Rattle.equations.specs.Carry.{value_in}
 use Rattle.equations.proofs.flow.flows.Given as goal
@@ -11,6 +11,3 @@ worth edges values e = weight edges e * value_in values (to edges e)
 
 abbrev pub invariant-loop-e : goal.invariant-loop-e
 invariant-loop-e l = Summed l.edges (worth l.edges l.values) (2 ^ 64) l.sums l.e
-
-abbrev pub decreases-loop-e : goal.decreases-loop-e
-decreases-loop-e l = edge_count l.edges - l.e

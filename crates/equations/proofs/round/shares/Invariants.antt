@@ -1,4 +1,3 @@
-use Prim.Native.Nat.{◌-◌}
 use lib.ListN.{replicate}
 use Rattle.meaning.specs.Chain.{most_states}
 use Rattle.theory.specs.Numbers.Walk.{Walked}
@@ -7,6 +6,3 @@ use Rattle.equations.proofs.round.shares.Given as goal
 
 abbrev pub invariant-loop-i : goal.invariant-loop-i
 invariant-loop-i l = Walked (gets l.goals l.denominators l.carried) (replicate most_states 0) l.i l.values
-
-abbrev pub decreases-loop-i : goal.decreases-loop-i
-decreases-loop-i l = l.n - l.i

@@ -1,21 +1,27 @@
-use mathlib.Core.Bool.{false}
-use mathlib.Core.List.{[]}
-use mathlib.Core.Path.{subst}
-use Rattle.meaning.specs.Refusal.{Lent}
-use Rattle.meaning.specs.Survey.{SurveyOutcome}
-use Rattle.chain.specs.Lent.{lent}
-use Rattle.survey.specs.Told.{told}
-use Rattle.figures.proofs.Outcomes.{surveyed}
+use Prim.Native.Nat.{ℕ}
+use mathlib.Core.Path.{refl, ap, ◌∙◌}
 use Rattle.figures.proofs.found.counts.Goals as goal
-use Rattle.figures.proofs.found.counts.Goals.{Start}
+use Rattle.figures.proofs.found.counts.Goals.{in-Ok, in-Err}
 
-abbrev l : Start → Lent
-l s = lent s.args.c s.args.denominators.now s.args.edges.now [] [] []
-
-pub returns-in-Found : goal.returns-in-Found
-returns-in-Found c =
-    surveyed (subst (λ r. SurveyOutcome false (l (goal.at.returns-in-Found c).Start) (told r)) c.in-Found.is c.of.ensures) c.count-count.ensures
-
-pub returns-in-Refused : goal.returns-in-Refused
-returns-in-Refused c =
-    surveyed (subst (λ r. SurveyOutcome false (l (goal.at.returns-in-Refused c).Start) (told r)) c.in-Refused.is c.of.ensures) c.count-count.ensures
+pub returns : goal.returns
+returns c =
+    elim c.match-of.branch [
+      | in-Ok w ↦
+          record {
+            states = refl;
+            edges = c.count.ensures;
+            survey = _;
+            outcome = w.in-Ok.ensures;
+            goals = c.from.ensures ∙ ap (λ (n : ℕ × ℕ). n.0) w.goals-is;
+            live = c.from-2.ensures ∙ ap (λ (n : ℕ × ℕ). n.1) w.goals-is;
+          }
+      | in-Err w ↦
+          record {
+            states = refl;
+            edges = c.count.ensures;
+            survey = _;
+            outcome = w.in-Err.ensures;
+            goals = c.from.ensures ∙ ap (λ (n : ℕ × ℕ). n.0) w.goals-is;
+            live = c.from-2.ensures ∙ ap (λ (n : ℕ × ℕ). n.1) w.goals-is;
+          }
+    ]

@@ -1,33 +1,27 @@
-use Prim.Native.Nat.{◌≤◌, ◌<◌}
-use mathlib.Core.Path.{ap, ◌∙◌}
-use native.Mathlib.Numerals.{add-one}
+use mathlib.Core.Path.{◌≡◌, sym, ap, ◌∙◌}
+use mathlib.Core.List.{List, ◌++◌}
 use native.Mathlib.Omega.{arith}
-use lib.ListN.{length, take}
-use lib.Seq.{length-take-le, get_or-take}
-use borrow.Author.Rules.{rules}
+use Prim.Native.Nat.{ℕ}
+use lib.ListN.{length, take, length-replicate, length-append, length-drop}
+use lib.Seq.{length-take-le, take-append_seam}
 use Rattle.meaning.specs.Chain.{most_states}
-use Rattle.meaning.specs.Block.{four_byte_number}
 use Rattle.theory.specs.Numbers.Tab.{tab_of}
-use Rattle.theory.specs.Numbers.Walk.{walk_none, walk_on, walk_size}
+use Rattle.theory.specs.Numbers.Walk.{walk_none}
 use Rattle.figures.proofs.shares.numerators.Goals as goal
 use Rattle.figures.proofs.shares.numerators.Invariants.{number}
 
+-- The front of a table that was filled is what it was filled with.
+front : (part rest : List ℕ) {n : ℕ} → length part ≡ n → take n (part ++ rest) ≡ part
+front part rest e = ap (λ k. take k (part ++ rest)) (sym e) ∙ take-append_seam part rest
+
 pub loop-i-init : goal.loop-i-init
 loop-i-init c = walk_none
-
-pub loop-i-preserved : goal.loop-i-preserved
-loop-i-preserved c =
-    let a = c.args in
-    let inside : c.loop-i.i < a.n = search rules in
-    walk_on most_states c.loop-i.invariant (omega (arith, c.requires)) (c.four_byte_number.ensures ∙ ap (four_byte_number a.shares.now) (add-one c.loop-i.i))
 
 pub returns : goal.returns
 returns c =
     let a = c.args in
     let z = c.loop-i.invariant in
-    let past : a.n ≤ c.loop-i.i = search rules in
-    let few : a.n ≤ length c.loop-i.table = omega (arith, walk_size most_states z, c.requires) in (
-      walk_size most_states z,
-      tab_of 0 a.n (number a.shares.now) (take a.n c.loop-i.table) (length-take-le a.n c.loop-i.table few)
-          (λ j h. get_or-take a.n c.loop-i.table j 0 h ∙ z.new j (omega arith)),
+    let size : length c.loop-i.part ≡ a.n = z.len ∙ length-take-le a.n _ (omega (arith, length-replicate {A = ℕ} most_states 0, c.requires)) in (
+      simp (length-append, length-drop, length-replicate) (omega (arith, size, c.requires)),
+      front _ _ size ∙ tab_of 0 a.n (number a.shares.now) c.loop-i.part size (λ j h. z.new j (omega arith)),
     )

@@ -1,33 +1,31 @@
-use mathlib.Core.Path.{refl}
+use mathlib.Core.Path.{refl, sym}
 use native.Mathlib.Omega.{arith}
+use borrow.Author.Tests.{eqb-true}
 use borrow.Author.Rules.{rules}
 use Rattle.meaning.specs.Text.{WordOutcome}
-use Rattle.input.proofs.ReadWord.{read_none, read_stuck, digit_small, read_more, read_large, read_all}
+use Rattle.input.proofs.ReadWord.{read_none, read_stuck, read_more, read_large, read_all}
 use Rattle.input.proofs.word.number.Goals as goal
+use Rattle.input.proofs.word.number.Goals.{then-is_empty-via-then-is_empty, then-is_empty-via-else-is_empty+then-word-gt-DIGITS}
 
-pub returns-then-word-eq0 : goal.returns-then-word-eq0
-returns-then-word-eq0 c = WordOutcome.nothing (λ d. omega (arith, d.some)) refl
+pub returns-then-is_empty : goal.returns-then-is_empty
+returns-then-is_empty c =
+    elim c.then-is_empty.branch [
+      | then-is_empty-via-then-is_empty w ↦ WordOutcome.nothing (λ d. omega (arith, d.some, eqb-true _ _ (sym w.if-is_empty.ensures))) refl
+      | then-is_empty-via-else-is_empty+then-word-gt-DIGITS w ↦ WordOutcome.nothing (λ d. omega (arith, d.few)) refl
+    ]
 
-pub returns-then-word-gt-DIGITS : goal.returns-then-word-gt-DIGITS
-returns-then-word-gt-DIGITS c = WordOutcome.nothing (λ d. omega (arith, d.few)) refl
+pub loop-byte-init : goal.loop-byte-init
+loop-byte-init c = read_none
 
-pub loop-i-init : goal.loop-i-init
-loop-i-init c = read_none
+pub returns-in_default : goal.returns-in_default
+returns-in_default c = WordOutcome.nothing (read_stuck c.loop-byte.invariant (search rules) c.in_default.ensures) refl
 
-pub returns-then-d-eq-NONE : goal.returns-then-d-eq-NONE
-returns-then-d-eq-NONE c = WordOutcome.nothing (read_stuck c.loop-i.invariant (search rules) c.digit-d.ensures (search rules)) refl
+pub returns-in_default-pushed : goal.returns-in_default-pushed
+returns-in_default-pushed c =
+    WordOutcome.nothing (read_large c.loop-byte.invariant (search rules) c.in-Some.ensures c.in_default-pushed.ensures) refl
 
-pub overflow_sub-d : goal.overflow_sub-d
-overflow_sub-d c = omega (arith, digit_small c.loop-i.invariant (search rules) c.digit-d.ensures (search rules))
-
-pub returns-then-d-x : goal.returns-then-d-x
-returns-then-d-x c =
-    WordOutcome.nothing
-    (read_large c.loop-i.invariant (search rules) c.digit-d.ensures (search rules) (omega arith))
-    refl
-
-pub loop-i-preserved : goal.loop-i-preserved
-loop-i-preserved c = read_more c.loop-i.invariant (search rules) c.digit-d.ensures (search rules) (omega arith)
+pub loop-byte-preserved : goal.loop-byte-preserved
+loop-byte-preserved c = read_more c.loop-byte.invariant (search rules) c.in-Some.ensures c.in-Some-pushed.ensures (omega arith)
 
 pub returns : goal.returns
-returns c = read_all c.loop-i.invariant (search rules) (search rules) (search rules)
+returns c = read_all c.loop-byte.invariant (search rules) (search rules) (search rules)

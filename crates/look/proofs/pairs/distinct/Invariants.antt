@@ -1,12 +1,7 @@
-use Prim.Native.Nat.{◌-◌}
-use Rattle.meaning.specs.Chain.{edge_count}
 use Rattle.meaning.specs.Refusal.{PairFault}
-use Rattle.chain.proofs.Passing.{NoneBelow}
 use Rattle.look.proofs.Seen.{Seen}
+use Rattle.theory.specs.Numbers.Search.{NoneBefore}
 use Rattle.look.proofs.pairs.distinct.Given as goal
 
 abbrev pub invariant-loop-e : goal.invariant-loop-e
-invariant-loop-e l = NoneBelow (PairFault l.edges) (edge_count l.edges) l.e × Seen l.edges l.seen l.e
-
-abbrev pub decreases-loop-e : goal.decreases-loop-e
-decreases-loop-e l = edge_count l.edges - l.e
+invariant-loop-e l = NoneBefore (PairFault l.edges) l.e × Seen l.edges l.seen l.e

@@ -1,8 +1,12 @@
-use Prim.Native.Nat.{ℕ}
-use mathlib.Core.Path.{refl, sym, subst}
+use Prim.Native.Nat.{ℕ, ◌+◌}
+use mathlib.Core.Path.{◌≡◌, refl, sym, subst}
 use mathlib.Core.Logic.{◌⊎◌, inl, inr}
 use mathlib.Core.List.{List}
-use Rattle.meaning.specs.Refusal.{StateRewardFault, RewardFault, of_state, of_edge}
+use native.Mathlib.Omega.{arith}
+use Rattle.std.specs.Option.{MatchOption, IsSomeAnd}
+use Rattle.std.proofs.Common.{Option, None, Some, rules}
+use Rattle.meaning.specs.Chain.{most_states}
+use Rattle.meaning.specs.Refusal.{StateRewardFault, EdgeRewardFault, RewardFault, of_state, of_edge}
 use Rattle.look.specs.Least.{least}
 use Rattle.look.specs.Edges.{EdgePlace}
 use Rattle.look.proofs.Found.{least_of}
@@ -17,13 +21,20 @@ module _ (n : ℕ) (rewards edges : List ℕ) where
   either _ (of_state i h) = inl h
   either _ (of_edge e h) = inr (e, (refl, h))
 
+-- The first edge's place is the first place.
+placed : (edges : List ℕ) (Q : ℕ → ℕ → Type 0) → ((e p : ℕ) → Q e p → p ≡ most_states + e) → (e p : Option ℕ) → least (EdgeRewardFault edges) e
+    → MatchOption e (p ≡ None) (λ e. IsSomeAnd p (Q e)) → least (EdgePlace edges) p
+placed edges Q at None p f h = rw h (λ q w. f w.0 w.1.1)
+placed edges Q at (Some e) None f h = absurd h
+placed edges Q at (Some e) (Some p) f h =
+    let i = at e p h in
+    record { here = (e, (i, f.here)); before = λ q l w. f.before w.0 (omega (arith, i, w.1.0)) w.1.1 }
+
 pub returns : goal.returns
 returns c =
     let a = c.args in
-    let n = a.n in
     let rewards = a.rewards.now in
     let edges = a.edges.now in
-    subst (least (RewardFault n rewards edges)) (sym c.lesser.ensures)
-    (least_of (StateRewardFault n rewards) (EdgePlace edges) (RewardFault n rewards edges) of_state (edge-fault n rewards edges) (either n rewards edges)
-    c.of_states.result c.of_edges.result
-    c.of_states.ensures c.of_edges.ensures)
+    rw c.lesser.ensures
+    (least_of (StateRewardFault a.n rewards) (EdgePlace edges) (RewardFault a.n rewards edges) of_state (edge-fault a.n rewards edges) (either a.n rewards edges)
+    _ _ c.of_states.ensures (placed edges _ (λ e p h. search rules) _ _ c.of_edges.ensures c.map.ensures.cases))

@@ -1,18 +1,14 @@
-use mathlib.Core.Logic.{⊎_elim, inl, inr}
-use native.Mathlib.Omega.{arith}
-use Rattle.chain.proofs.Passing.{pass, done}
-use Rattle.look.proofs.Found.{stop}
-use borrow.Author.Rules.{rules}
+use Prim.Native.Nat.{ℕ, ◌≤◌}
+use mathlib.Core.Logic.{◌⊎◌}
+use Rattle.std.proofs.Common.{rules}
+use Rattle.std.proofs.lemmas.Iterator.{first_from_Range}
+use Rattle.meaning.specs.Chain.{from, to}
+use Rattle.look.proofs.Found.{ranged}
 use Rattle.look.proofs.scan.ends.Goals as goal
 
-pub returns-then-states-from : goal.returns-then-states-from
-returns-then-states-from c = stop c.loop-e.invariant (search rules, inl (omega (arith, c.from.ensures)))
-
-pub returns-then-states-to : goal.returns-then-states-to
-returns-then-states-to c = stop c.loop-e.invariant (search rules, inr (omega (arith, c.to.ensures)))
-
-pub loop-e-preserved : goal.loop-e-preserved
-loop-e-preserved c = pass c.loop-e.invariant (search rules) (λ bad. ⊎_elim (λ out. omega (arith, c.from.ensures)) (λ out. omega (arith, c.to.ensures)) bad.1)
-
 pub returns : goal.returns
-returns c = done c.loop-e.invariant (search rules) (λ k bad. bad.0)
+returns c =
+    let a = c.args in
+    let P = λ (e : ℕ). (a.n ≤ from a.edges.now e) ⊎ (a.n ≤ to a.edges.now e) in
+    ranged P c.count.ensures _
+    (first_from_Range _ _ _ _ P (λ e. P e → ⊥) c.find.ensures.ran (λ x q k. search rules) (λ x q k. search rules))

@@ -1,6 +1,6 @@
-use borrow.Author.Rules.{rules}
+use Rattle.std.proofs.Common.{rules}
 use Rattle.meaning.specs.Chain.{most_states}
-use Rattle.theory.specs.Numbers.Walk.{walk_none, walk_on}
+use Rattle.theory.specs.Numbers.Walk.{walk_none, walk_on, walk_size}
 use Rattle.look.proofs.Lacking.{lacks_none}
 use Rattle.look.proofs.sums.whole.Goals as goal
 
@@ -11,4 +11,6 @@ pub loop-i-preserved : goal.loop-i-preserved
 loop-i-preserved c = walk_on most_states c.loop-i.invariant (search rules) c.at.ensures
 
 pub returns : goal.returns
-returns c = lacks_none _ c.loop-i.invariant (search rules)
+returns c =
+    let w = c.loop-i.invariant in
+    lacks_none _ _ (walk_size most_states w) (λ i h. w.new i (search rules))

@@ -1,4 +1,4 @@
-use Rattle.std.proofs.Common.{◌≡◌, ◌/◌, ◌^◌, length, add-one, arith}
+use Rattle.std.proofs.Common.{◌/◌, ◌^◌, length, add-one, arith}
 use Rattle.theory.specs.Numbers.Sum.{sum_next}
 use Rattle.near.specs.Row.{value_at}
 use Rattle.theory.specs.Numbers.Cuts.{longest_above}
@@ -14,9 +14,4 @@ loop-j-preserved c =
     let l = c.loop-j in
     let a = c.args in
     let n = sum_next (λ i. value_at a.row.now i / 2 ^ a.k) l.j _ (add-one l.j) in
-    (omega arith, omega (arith, n, c.cut-sum.ensures.0), omega (arith, c.cut-sum.ensures.1))
-
-pub returns : goal.returns
-returns c =
-    let e : c.loop-j.j ≡ c.args.to = omega arith in
-    (rw e at c.loop-j.invariant.1, rw e at c.loop-j.invariant.2)
+    (omega (arith, n, c.cut-sum.ensures.0), omega (arith, c.cut-sum.ensures.1))

@@ -1,10 +1,7 @@
-use Rattle.std.proofs.Common.{◌≡◌, ◌-◌, ◌^◌, ◌<◌, ◌≤◌}
+use Rattle.std.proofs.Common.{◌≡◌, ◌^◌, ◌<◌}
 use Rattle.meaning.specs.Near.{longest}
 use Rattle.near.specs.Row.{value_at}
 use Rattle.near.proofs.row.most_on.Given as goal
 
 abbrev pub invariant-loop-j : goal.invariant-loop-j
-invariant-loop-j l = (l.j ≤ l.to) × (l.most ≡ longest (value_at l.row) l.j) × (l.most < 2 ^ 34)
-
-abbrev pub decreases-loop-j : goal.decreases-loop-j
-decreases-loop-j l = l.to - l.j
+invariant-loop-j l = (l.most ≡ longest (value_at l.row) l.j) × (l.most < 2 ^ 34)

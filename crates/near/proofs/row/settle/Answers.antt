@@ -26,10 +26,6 @@ lower_on-requires-2 c =
       λ j a b. rw (z.after j (omega (arith, g))) (omega (arith, c.least-k.ensures, exponent_above (λ i. get_or l i 0) (length l) j (omega arith))),
     )
 
-pub shape_of-row : goal.shape_of-row
-shape_of-row c =
-    c.lower_on-2.ensures.len ∙ c.lower_on.ensures.len
-
 pub returns : goal.returns
 returns c =
     spans_lower c.args.row.now _ _ c.args.gap c.requires.0 c.requires.1 _ c.lower_on.ensures c.lower_on-2.ensures

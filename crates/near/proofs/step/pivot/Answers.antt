@@ -1,6 +1,5 @@
-use Rattle.std.proofs.Common.{◌≡◌, ℕ, ◌<◌, List, length, get_or, set, sym, refl, ◌∙◌, ⊎_elim, arith, length-set, get_or-set_other, get_or-set_same, rules}
+use Rattle.std.proofs.Common.{◌≡◌, ℕ, ◌<◌, List, length, get_or, set, sym, ◌∙◌, ⊎_elim, arith, rules, length-set, get_or-set_other, get_or-set_same}
 use Rattle.theory.specs.Numbers.Sum.{same}
-use Rattle.theory.specs.Numbers.Walk.{walk_none, walk_more, walk_copy}
 use Rattle.near.proofs.step.pivot.Goals as goal
 
 -- Two lists with the same numbers have the same numbers once one of them is made zero.
@@ -11,14 +10,9 @@ set_alike p q s j h l e =
     (λ (z : j ≡ s → ⊥). get_or-set_other p s j 0 0 z ∙ e j ∙ sym (get_or-set_other q s j 0 0 z))
     (same j s)
 
-pub loop-j-init : goal.loop-j-init
-loop-j-init c = walk_none
-
-pub loop-j-preserved : goal.loop-j-preserved
-loop-j-preserved c = walk_more c.loop-j.invariant (omega arith) refl
-
 pub returns : goal.returns
 returns c =
     let a = c.args in
-    let r = walk_copy 68 a.part.now c.loop-j.invariant (omega arith) in
-    (length-set c.loop-j.p a.s 0 ∙ c.loop-j.invariant.len, λ j. set_alike c.loop-j.p a.part.now a.s j (omega (arith, c.loop-j.invariant.len)) (search rules) r)
+    let e = c.load-p.ensures in
+    let l : length c.load-p.result ≡ 68 = search rules in
+    (length-set c.load-p.result a.s 0 ∙ l, λ j. set_alike c.load-p.result a.part.now a.s j (omega (arith, l, c.requires.0, c.requires.1)) c.requires.1 e)

@@ -25,8 +25,8 @@ parts-p-requires c =
     let l = lowered_length (least_exponent (λ j. get_or p j 0) (length p)) p in
     rw c.settle.ensures (omega (arith, l, c.requires.few_states.0, c.requires.few_states.3))
 
-pub slice_bounds-renew_all-end : goal.slice_bounds-renew_all-end
-slice_bounds-renew_all-end c = sym c.parts-p.ensures.0.room
+pub slice_bounds-by-end : goal.slice_bounds-by-end
+slice_bounds-by-end c = sym c.parts-p.ensures.0.room
 
 pub renew_all-requires : goal.renew_all-requires
 renew_all-requires c =

@@ -1,4 +1,4 @@
-use Rattle.std.proofs.Common.{◌+◌, ◌-◌, ◌*◌, ◌≤◌}
+use Rattle.std.proofs.Common.{◌+◌, ◌*◌}
 use Rattle.near.specs.Word.{word, value}
 use Rattle.near.specs.Row.{value_at, joined}
 use Rattle.near.specs.Gap.{Spanned}
@@ -6,7 +6,4 @@ use Rattle.near.proofs.wide.blend.Given as goal
 
 abbrev pub invariant-loop-j : goal.invariant-loop-j
 invariant-loop-j l =
-    Spanned (λ i. word (value_at l.initial.row i * value l.d + value l.w * value_at (joined l.pivot) i)) l.from l.j l.initial.row l.row × (l.j ≤ l.to)
-
-abbrev pub decreases-loop-j : goal.decreases-loop-j
-decreases-loop-j l = l.to - l.j
+    Spanned (λ i. word (value_at l.initial.row i * value l.d + value l.w * value_at (joined l.pivot) i)) l.from l.j l.initial.row l.row

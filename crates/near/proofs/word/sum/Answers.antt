@@ -1,30 +1,31 @@
-use Rattle.std.proofs.Common.{◌≡◌, ◌+◌, ◌-◌, ◌*◌, ◌/◌, ◌^◌, ◌≤◌, ap, ◌∙◌, div-le_self, arith}
-use Rattle.meaning.specs.Near.{digits}
+use Rattle.std.proofs.Common.{◌≡◌, ℕ, ◌+◌, ◌-◌, ◌*◌, ◌/◌, ◌%◌, ◌^◌, ◌<◌, ◌≤◌, ap, ◌∙◌, div-le_self, arith}
 use Rattle.theory.specs.Numbers.Binary.{digits_least}
 use Rattle.near.specs.Word.{word}
 use Rattle.near.proofs.Sums.{aligned}
 use Rattle.near.proofs.word.sum.Goals as goal
-use Rattle.near.proofs.word.sum.Goals.{Else-s-lt-LONG}
 
-pub overflow_add-s : goal.overflow_add-s
-overflow_add-s c = let a = c.args in omega (arith, div-le_self a.q (2 ^ c.wrapping_sub_u64-c.result))
+-- A difference that wraps is not small.
+unwrapped : (x y : ℕ) → x < 2 ^ 35 → y < 2 ^ 35 → (x + (18446744073709551616 - y)) % 18446744073709551616 < 64
+    → ((x + (18446744073709551616 - y)) % 18446744073709551616 ≡ x - y) × (y ≤ x)
+unwrapped x y h k l = (omega arith, omega arith)
 
--- The sum has its 31 digits.
-long : (c : Else-s-lt-LONG) → let a = c.args in 31 ≤ digits (a.p + a.q / 2 ^ c.wrapping_sub_u64-c.result)
-long c =
-    let a = c.args in
-    omega (arith, digits_least (a.p + a.q / 2 ^ c.wrapping_sub_u64-c.result) 30 (omega arith))
+pub overflow_add-first : goal.overflow_add-first
+overflow_add-first c =
+    let a = c.args.a in
+    let b = c.args.b in
+    let d = (unwrapped a.behind b.behind (omega arith) (omega arith) c.if-c-ge64.false).0 in
+    rw d (omega (arith, div-le_self b.first (2 ^ (a.behind - b.behind))))
 
 pub packed_long-requires : goal.packed_long-requires
-packed_long-requires c = (omega arith, omega arith, long c)
+packed_long-requires c = (omega arith, omega arith, digits_least _ 30 c.if-first-lt-LONG.false)
 
 pub returns : goal.returns
 returns c =
-    let a = c.args in
-    let w = c.wrapping_sub_u64-c in
-    let f : w.result + a.y ≡ a.x = omega (arith, w.ensures) in
-    let e : w.result ≡ a.x - 33 - (a.y - 33) = omega (arith, f) in
-    let l = rw e at (long (goal.at.returns c).Else-s-lt-LONG) in
+    let a = c.args.a in
+    let b = c.args.b in
+    let d = unwrapped a.behind b.behind (omega arith) (omega arith) c.if-c-ge64.false in
+    let e : a.behind - b.behind ≡ a.behind - 33 - (b.behind - 33) = omega arith in
+    let l = digits_least _ 30 c.if-first-lt-LONG.false in
     c.packed_long.ensures
-    ∙ ap (λ z. word ((a.p + a.q / 2 ^ z) * 2 ^ (a.x - 33))) e
-    ∙ aligned a.p (a.x - 33) a.q (a.y - 33) (omega (arith, f)) l
+    ∙ ap (λ z. word ((a.first + b.first / 2 ^ z) * 2 ^ (a.behind - 33))) (d.0 ∙ e)
+    ∙ aligned a.first (a.behind - 33) b.first (b.behind - 33) (omega (arith, d.1)) (rw (d.0 ∙ e) at l)

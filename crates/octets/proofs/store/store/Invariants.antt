@@ -1,9 +1,7 @@
-use Prim.Native.Nat.{◌-◌}
-use Rattle.octets.proofs.Storing.{Storing}
+use Prim.Native.Nat.{◌/◌, ◌%◌, ◌^◌}
+use mathlib.Core.Path.{◌≡◌}
+use Rattle.theory.specs.Numbers.Walk.{Walked}
 use Rattle.octets.proofs.store.store.Given as goal
 
-abbrev pub invariant-loop-i : goal.invariant-loop-i
-invariant-loop-i l = Storing l.initial.buffer l.at l.width l.x l.i l.buffer l.rest
-
-abbrev pub decreases-loop-i : goal.decreases-loop-i
-decreases-loop-i l = l.width - l.i
+abbrev pub invariant-loop-byte : goal.invariant-loop-byte
+invariant-loop-byte l = Walked (λ i. l.x / 256 ^ i % 256) l.initial.bytes l.byte-index l.bytes × (l.rest ≡ l.x / 256 ^ l.byte-index)

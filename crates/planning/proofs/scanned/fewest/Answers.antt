@@ -1,21 +1,18 @@
-use mathlib.Core.Path.{refl}
 use native.Mathlib.Omega.{arith}
 use borrow.Author.Rules.{rules}
-use Rattle.meaning.specs.Report.{TextOutcome}
 use Rattle.meaning.specs.Fewest.{FewestReport}
 use Rattle.theory.specs.Numbers.Decide.{holds, fails}
-use Rattle.report.proofs.ChainLines.{printed}
-use Rattle.report.proofs.Refusals.{refusal_told}
+use Rattle.report.proofs.Refusals.{printed, short, number_told}
 use Rattle.planning.proofs.scanned.fewest.Goals as goal
 
 pub returns-then-buffer-lt-FEWEST_ROOM : goal.returns-then-buffer-lt-FEWEST_ROOM
-returns-then-buffer-lt-FEWEST_ROOM c = TextOutcome.short (omega arith) refl refl
+returns-then-buffer-lt-FEWEST_ROOM c = short c.from.result (omega arith) c.from.ensures
 
 pub returns-then-wrong-ne0 : goal.returns-then-wrong-ne0
 returns-then-wrong-ne0 c =
     let answer = c.answer in
     let weighed = c.weighed-wrong in
-    refusal_told weighed.result.number weighed.result.place answer.result (omega arith) (search rules) (search rules)
+    number_told weighed.result.number weighed.result.place answer.result (omega arith) (search rules) (search rules) c.refused.ensures
     (λ t e. FewestReport.refused _ _ (weighed.ensures.wrong (search rules)) e) answer.ensures
 
 pub both-requires : goal.both-requires
@@ -32,6 +29,6 @@ returns c =
     let answer = c.answer-2 in
     let sound = c.sound in
     let weighed = c.weighed-wrong in
-    refusal_told 35 0 answer.result (omega arith) (search rules) (omega arith)
+    number_told 35 0 answer.result (omega arith) (search rules) (omega arith) c.refused-2.ensures
     (λ t e. FewestReport.no_limit_lem (weighed.ensures.serve (search rules)) (fails _ {b = sound.result} sound.ensures (search rules)) e)
     answer.ensures

@@ -1,4 +1,4 @@
-use mathlib.Core.Path.{sym, subst}
+use mathlib.Core.Path.{◌≡◌, sym, subst}
 use borrow.Author.Rules.{rules}
 use Rattle.meaning.specs.Copies.{Sensible}
 use Rattle.theory.specs.Plans.Judged.{sensible_copies}
@@ -24,4 +24,4 @@ loop-c-preserved c =
     (judged_with c.with_copies.ensures c.verdict-said.ensures) (search rules) c.follows-first.ensures
 
 pub returns : goal.returns
-returns c = seen_all c.loop-c.invariant (search rules)
+returns c = let e : c.loop-c.c ≡ 33 = search rules in rw (← e) (seen_all c.loop-c.invariant (search rules))

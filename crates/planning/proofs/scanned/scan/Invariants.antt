@@ -1,4 +1,3 @@
-use Prim.Native.Nat.{◌-◌}
 use Rattle.limit.specs.Told.{told}
 use Rattle.planning.specs.Told.{told_weights}
 use Rattle.planning.proofs.Scanning.{Seen}
@@ -6,6 +5,3 @@ use Rattle.planning.proofs.scanned.scan.Given as goal
 
 abbrev pub invariant-loop-c : goal.invariant-loop-c
 invariant-loop-c l = Seen (told_weights l.w) (told l.m) l.c l.first
-
-abbrev pub decreases-loop-c : goal.decreases-loop-c
-decreases-loop-c l = 33 - l.c

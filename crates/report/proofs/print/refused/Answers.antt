@@ -3,4 +3,4 @@ use Rattle.report.proofs.print.refused.Goals as goal
 
 pub returns : goal.returns
 returns c =
-    then (then (then (one c.put-first.ensures) c.number-second.ensures) c.put-third.ensures) c.number.ensures
+    rw (← c.from.ensures) (then (then (then (one c.put-first.ensures) c.number-second.ensures) c.put-third.ensures) c.number.ensures)

@@ -2,7 +2,7 @@ use mathlib.Core.Path.{refl}
 use mathlib.Core.Bool.{false}
 use mathlib.Core.List.{[]}
 use Rattle.meaning.specs.Refusal.{eliminating, with_list}
-use Rattle.chain.specs.Lent.{lent}
+use Rattle.chain.specs.Given.{with}
 use Rattle.look.proofs.Refuse.{next, well}
 use Rattle.survey.specs.Looking.{asked, size_of}
 use Rattle.survey.proofs.Looked.{settle}
@@ -12,5 +12,5 @@ use Rattle.survey.proofs.looking.look.Goals as goal
 pub returns : goal.returns
 returns c =
     let a = c.args in
-    settle (eliminating false (asked a.list) a.short) (with_list (size_of a.list) (lent a.c a.denominators.now a.edges.now a.order.now [] a.work.now)) 11 c.tables.result
+    settle (eliminating false (asked a.list) a.short) (with_list (size_of a.list) (with a.g.now a.order.now [] a.work.now)) 11 c.tables.result
     (λ u. well (next u (λ p a. a))) (c.tables.ensures [] refl)

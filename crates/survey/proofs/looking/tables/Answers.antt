@@ -1,113 +1,51 @@
 use Prim.Native.Nat.{ℕ}
 use mathlib.Core.Path.{◌≡◌, refl}
+use mathlib.Core.Bool.{Bool}
 use mathlib.Core.List.{List}
-use lib.Dec.{lit<}
-use lib.ListN.{length, replicate, length-replicate}
-use Rattle.meaning.specs.Refusal.{eliminating, Entry, Lent, with_list}
-use Rattle.chain.specs.Lent.{lent}
+use lib.ListN.{length}
+use Rattle.std.proofs.Common.{Option}
+use Rattle.meaning.specs.Refusal.{eliminating, with_list}
+use Rattle.chain.specs.Given.{with}
+use Rattle.chain.specs.declared.given.Given.{Given}
 use Rattle.theory.specs.Numbers.Decide.{holds, fails}
-use Rattle.look.specs.Says.{Upto, counted}
-use Rattle.look.proofs.Found.{found, none}
-use Rattle.look.proofs.Refuse.{refuse, next, at_0, off, misshapen, shaped, sized}
-use Rattle.survey.specs.Looking.{asked, size_of}
-use Rattle.survey.proofs.Looked.{survey_refuses, survey_clears, counted_same, lacking_in, lacking_out}
+use Rattle.look.specs.Says.{Upto}
+use Rattle.look.proofs.Refuse.{refuse, next, at_0, off, scanned, seen, shaped, handed}
+use Rattle.survey.specs.Looking.{asked, size_of, so_far}
+use Rattle.survey.proofs.Looked.{survey_refuses, survey_clears, wanted, lacking_in, lacking_out}
 use Rattle.survey.proofs.looking.tables.Goals as goal
-use Rattle.survey.proofs.looking.tables.Goals.{After-misshaped, Else-lacking, Else-misshaped}
+use Rattle.survey.proofs.looking.tables.Goals.{Else-lacking, Else-misshaped}
 
--- What the entry asks.
-abbrev x : After-misshaped → Entry
-x c =
-    let a = c.args in
-    eliminating (asked a.rewards) (asked a.list) a.short
+-- No number below k applies, whatever rewards of that length are lent, or none.
+abbrev Right : Given → List ℕ → Option ℕ → List ℕ → Option ℕ → Bool → ℕ → Type 0
+Right g order rewards work list short k =
+    (w : List ℕ) → length w ≡ size_of rewards
+    → Upto (eliminating (asked rewards) (asked list) short) (with_list (size_of list) (with g order w work)) k
 
--- What the entry asks.
-abbrev x_at_Else_misshaped : Else-misshaped → Entry
-x_at_Else_misshaped c =
-    let a = c.args in
-    eliminating (asked a.rewards) (asked a.list) a.short
+up_2 : (c : Else-misshaped) → let a = c.args in Right a.g.now a.order.now a.rewards a.work.now a.list a.short 2
+up_2 c w e = shaped (eliminating _ _ _) refl _ _ _ _ refl (wanted _ _ _ _ c.unwrap_or.ensures e) c.misshaped.ensures c.if-misshaped.false
 
--- What is known at each place of the code: no number below k applies, whatever rewards of that length are lent, or none.
-abbrev K2 : Else-misshaped → ℕ → Type 0
-K2 c k =
-    let a = c.args in
-    (w : List ℕ) → length w ≡ size_of a.rewards
-    → Upto (x_at_Else_misshaped c) (with_list (size_of a.list) (lent a.c a.denominators.now a.edges.now a.order.now w a.work.now)) k
-
-rewards_size : (c : After-misshaped) (w : List ℕ)
-    → let a = c.args in
-    length w ≡ size_of a.rewards → counted (asked a.rewards) (length w) a.c.states c.or_wanted.result
-rewards_size c w e =
-    let a = c.args in
-    counted_same a.rewards w a.c.states c.or_wanted.result e c.or_wanted.ensures
-
-rewards_size_at_Else_misshaped : (c : Else-misshaped) (w : List ℕ)
-    → let a = c.args in
-    length w ≡ size_of a.rewards → counted (asked a.rewards) (length w) a.c.states c.or_wanted.result
-rewards_size_at_Else_misshaped c w e =
-    let a = c.args in
-    counted_same a.rewards w a.c.states c.or_wanted.result e c.or_wanted.ensures
-
-up_2 : (c : Else-misshaped) → K2 c 2
-up_2 c w e = shaped (x_at_Else_misshaped c) refl _ _ _ _ refl (rewards_size_at_Else_misshaped c w e) c.misshaped.ensures c.if-misshaped.false
-
--- What the entry asks.
-abbrev x_at_Else_lacking : Else-lacking → Entry
-x_at_Else_lacking c =
-    let a = c.args in
-    eliminating (asked a.rewards) (asked a.list) a.short
-
--- What is known at each place of the code: no number below k applies, whatever rewards of that length are lent, or none.
-abbrev K2_at_Else_lacking : Else-lacking → ℕ → Type 0
-K2_at_Else_lacking c k =
-    let a = c.args in
-    (w : List ℕ) → length w ≡ size_of a.rewards
-    → Upto (x_at_Else_lacking c) (with_list (size_of a.list) (lent a.c a.denominators.now a.edges.now a.order.now w a.work.now)) k
-
-rewards_size_at_Else_lacking : (c : Else-lacking) (w : List ℕ)
-    → let a = c.args in
-    length w ≡ size_of a.rewards → counted (asked a.rewards) (length w) a.c.states c.or_wanted.result
-rewards_size_at_Else_lacking c w e =
-    let a = c.args in
-    counted_same a.rewards w a.c.states c.or_wanted.result e c.or_wanted.ensures
-
-up_2_at_Else_lacking : (c : Else-lacking) → K2_at_Else_lacking c 2
-up_2_at_Else_lacking c w e = shaped (x_at_Else_lacking c) refl _ _ _ _ refl (rewards_size_at_Else_lacking c w e) c.misshaped.ensures c.if-misshaped.false
-
-up_3 : (c : Else-lacking) → K2_at_Else_lacking c 3
+up_3 : (c : Else-lacking) → let a = c.args in Right a.g.now a.order.now a.rewards a.work.now a.list a.short 3
 up_3 c w e =
-    next (up_2_at_Else_lacking c w e)
-    (off (λ h. fails _ c.lacking.ensures c.if-lacking.false (lacking_in _ _ c.args.list c.or_wanted-2.ensures h)))
-
--- With rewards of that length put in.
-known : {x : Entry} {l : List ℕ → Lent} {k n : ℕ} → ((w : List ℕ) → length w ≡ n → Upto x (l w) k) → Upto x (l (replicate n 0)) k
-known {n = n} u = u (replicate n 0) (length-replicate {A = ℕ} n 0)
-
-pub returns-then-misshaped : goal.returns-then-misshaped
-returns-then-misshaped c w e =
-    misshapen (x (goal.at.returns-then-misshaped c).After-misshaped) refl _ _ _ _ refl (rewards_size (goal.at.returns-then-misshaped c).After-misshaped w e) c.misshaped.ensures c.if-misshaped.true
-
-pub lacking-requires : goal.lacking-requires
-lacking-requires c = (sized (known (up_2 (goal.at.lacking-requires c).Else-misshaped)) (lit< tt)).few_states
+    next (shaped (eliminating _ _ _) refl _ _ _ _ refl (wanted _ _ _ _ c.unwrap_or.ensures e) c.misshaped.ensures c.if-misshaped.false)
+    (off (λ h. fails _ c.lacking.ensures c.if-lacking.false (lacking_in _ _ c.args.list c.unwrap_or-2.ensures h)))
 
 pub returns-then-lacking : goal.returns-then-lacking
 returns-then-lacking c w e =
-    let at = c in
-    refuse (up_2 (goal.at.returns-then-lacking c).Else-misshaped w e) (at_0 (lacking_out _ _ at.args.list at.or_wanted-2.ensures (holds _ at.lacking.ensures c.if-lacking.true)))
+    let u = up_2 (goal.at.returns-then-lacking c).Else-misshaped w e in
+    rw (c.from-then-lacking.ensures.0, c.from-then-lacking.ensures.1)
+    (refuse u (at_0 (lacking_out _ _ c.args.list c.unwrap_or-2.ensures (holds _ c.lacking.ensures c.if-lacking.true))))
 
-pub returns-in-At : goal.returns-in-At
-returns-in-At c w e =
-    let at = c in
-    let along = at in
-    let s = survey_clears (up_3 (goal.at.returns-in-At c).Else-lacking w e) along.along.ensures at.in-Found.is in
-    refuse s.0 (found _ at.order.ensures c.in-At.is)
+pub returns-in_err-found : goal.returns-in_err-found
+returns-in_err-found c w e =
+    handed (so_far _ _ 11) _ _ c.from_residual.ensures.1
+    (survey_refuses (up_3 (goal.at.returns-in_err-found c).Else-lacking w e) c.along.ensures c.in_err-found.was)
 
-pub returns-in-Refused : goal.returns-in-Refused
-returns-in-Refused c w e =
-    let at = c in survey_refuses (up_3 (goal.at.returns-in-Refused c).Else-lacking w e) at.along.ensures c.in-Refused.is
+pub returns-in_err-refuse : goal.returns-in_err-refuse
+returns-in_err-refuse c w e =
+    let s = survey_clears (up_3 (goal.at.returns-in_err-refuse c).Else-lacking w e) c.along.ensures c.in_ok-found.was in
+    handed (so_far _ _ 11) _ _ c.from_residual-in_err-refuse.ensures.1 (seen s.0 c.order.ensures refl c.in_err-refuse.ensures)
 
-pub returns-in_default : goal.returns-in_default
-returns-in_default c w e =
-    let at = c in
-    let along = at in
-    let s = survey_clears (up_3 (goal.at.returns-in_default c).Else-lacking w e) along.along.ensures at.in-Found.is in
-    (next s.0 (none _ at.order.ensures c.in_default.is), s.1)
+pub returns : goal.returns
+returns c w e =
+    let s = survey_clears (up_3 (goal.at.returns c).Else-lacking w e) c.along.ensures c.in_ok-found.was in
+    (scanned s.0 c.order.ensures c.in_ok-refuse.ensures, s.1)

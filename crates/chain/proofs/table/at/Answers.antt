@@ -1,6 +1,0 @@
-use mathlib.Core.Path.{sym}
-use lib.ListN.{get_or-eq_default}
-use Rattle.chain.proofs.table.at.Goals as goal
-
-pub returns : goal.returns
-returns c = sym (get_or-eq_default c.args.table.now 0 c.if-i-table.false)

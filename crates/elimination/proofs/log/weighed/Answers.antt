@@ -1,9 +1,0 @@
-use native.Mathlib.Omega.{arith}
-use borrow.Author.Tests.{eq-eqb, ne_eqb}
-use Rattle.elimination.proofs.log.weighed.Goals as goal
-
-pub returns-then-x-eq0 : goal.returns-then-x-eq0
-returns-then-x-eq0 c = (rw (eq-eqb _ 0 c.if-x-eq0.true), omega arith)
-
-pub returns : goal.returns
-returns c = (rw (ne_eqb _ 0 c.if-x-eq0.false), omega arith)
