@@ -1,3 +1,4 @@
+pub mod Fitting
 pub mod Lined
 pub mod Verdicts
 pub mod Figures

@@ -27,10 +27,10 @@ use Rattle.report.proofs.Refusals.{stands, printed, refusal_told}
 use Rattle.report.proofs.Unique.{unique}
 
 -- Figures of the numbers of an answer make its line.
-pub verdict_written : (v : Verdict) {known : Verdict} (chance : Near) {before after : List ℕ} {r : ℕ} {a b : Figure} → v ≡ known
+pub verdict_same : (v : Verdict) {known : Verdict} (chance : Near) {a b : Figure} → v ≡ known
     → a ≡ lower_figure chance.lower chance.twos → b ≡ upper_figure chance.upper chance.twos
-    → Written before 0 (figures_text (verdict_text (told_verdict known)) a b) after r → Written before 0 (near_line (verdict_text (told_verdict v)) chance) after r
-verdict_written v chance e l u w = rw (e, ← l, ← u) w
+    → figures_text (verdict_text (told_verdict known)) a b ≡ near_line (verdict_text (told_verdict v)) chance
+verdict_same v chance e l u = rw (e, l, u) refl
 
 module _ {f : Input} {m : Limit} {before : List ℕ} (room : limit_room ≤ length before) where
   pub judged_line : (l : Limited) {r : ℕ} {after : List ℕ} → FileLimit f m (told_limited (Ok l))

@@ -1,5 +1,5 @@
 -- The line of a verdict, from what the pieces and the report write; and that it is one.
-use Prim.Native.Nat.{ℕ, ◌^◌, ◌≤◌, ◌<◌}
+use Prim.Native.Nat.{ℕ, ◌≤◌}
 use mathlib.Core.Path.{◌≡◌, refl}
 use mathlib.Core.List.{List}
 use native.Mathlib.Omega.{arith}
@@ -8,40 +8,24 @@ use lib.ListN.{length}
 use Rattle.meaning.specs.Block.{Input}
 use Rattle.meaning.specs.Text.{bytes_of, decimal, decimal_in}
 use Rattle.meaning.specs.Outcome as outcome
-use Rattle.meaning.specs.Report.{line_text, answer_room, AnswerOutcome}
-use Rattle.meaning.specs.Judge.{right, wrong, refusal, FileJudged, verdict_line, JudgeReportOutcome}
+use Rattle.meaning.specs.Report.{answer_room, AnswerOutcome}
+use Rattle.meaning.specs.Judge.{wrong, refusal, FileJudged, verdict_line, JudgeReportOutcome}
 use Rattle.chain.specs.Refusal.{number_of}
 use Rattle.chain.specs.declared.refusal.Refusal.{Refusal}
 use Rattle.theory.specs.Judging.Texts.{judged_one}
-use Rattle.octets.specs.Written.{Written, Stored}
-use Rattle.octets.proofs.Steps.{join, kept}
-use Rattle.octets.proofs.Storing.{stored}
-use Rattle.text.specs.Pieces.{Named}
+use Rattle.octets.specs.Written.{Written}
+use Rattle.equations.specs.Judge.{told as verdict_told}
+use Rattle.equations.specs.declared.verdict.Verdict.{Verdict}
 use Rattle.figures.specs.Told.{told_answer, Tells}
 use Rattle.figures.specs.declared.answer.Answer.{Answer}
 use Rattle.report.specs.Stands.{told}
-use Rattle.text.proofs.Naming.{named_written, named_past}
 use Rattle.report.proofs.Refusals.{stands, printed, refusal_told}
 use Rattle.report.proofs.Unique.{unique}
 
--- The pieces are the line.
-pub no_written : {l₀ l₁ l₂ : List ℕ} {i j : ℕ} (state : ℕ) → answer_room ≤ length l₀ → state < 2 ^ 64
-    → Named l₀ 0 (bytes_of "no at ") state l₁ i → Stored l₁ i (bytes_of "\n") l₂ j
-    → Written l₀ 0 (line_text (bytes_of "no at ") (decimal state)) l₂ j
-no_written state room small a b =
-    let first = named_written (omega arith) a in
-    let most = named_past (omega arith) a small in
-    let long = kept first in
-    join first (stored (omega arith) b)
-
 module _ {f : Input} {shares before : List ℕ} (room : answer_room ≤ length before) where
-  pub yes_line : {r : ℕ} {after : List ℕ} → FileJudged f shares right → Stored before 0 (bytes_of "yes\n") after r
+  pub judged_line : (v : Verdict) {r : ℕ} {after : List ℕ} → FileJudged f shares (verdict_told (Ok v)) → Written before 0 (verdict_line (verdict_told (Ok v))) after r
       → JudgeReportOutcome f shares before (told (Ok r)) after
-  yes_line w t = printed room (stands (record { verdict = right; outcome = w; line = refl }) (stored (omega arith) t))
-
-  pub no_line : (state : ℕ) {r : ℕ} {after : List ℕ} → FileJudged f shares (wrong state)
-      → Written before 0 (line_text (bytes_of "no at ") (decimal state)) after r → JudgeReportOutcome f shares before (told (Ok r)) after
-  no_line state w t = printed room (stands (record { verdict = wrong state; outcome = w; line = refl }) t)
+  judged_line v w t = printed room (stands (record { verdict = verdict_told (Ok v); outcome = w; line = refl }) t)
 
   -- A refusal is told as the report tells it.
   pub refused_line : (x : Refusal) {a : Answer} (r : Result ℕ Refusal) {after : List ℕ} → FileJudged f shares (refusal (number_of x.fault) x.place)

@@ -1,25 +1,25 @@
 // The texts of a line or two that programs print of a chain file, at the front of a lent buffer.
 #![tactic(auto)]
 
-ghost use Rattle.std.specs.Prelude.{◌≤◌, length};
-ghost use Rattle.meaning.specs.Text.{bytes_of, decimal};
-ghost use Rattle.meaning.specs.Report.{line_text, answer_room};
+ghost use Rattle.std.specs.Prelude.{Ok};
+ghost use Rattle.meaning.specs.Report.{answer_room};
 ghost use Rattle.meaning.specs.Within.{within_text, within_room, WithinReportOutcome};
-ghost use Rattle.meaning.specs.Judge.{JudgeReportOutcome};
+ghost use Rattle.meaning.specs.Judge.{verdict_line as judged_text, JudgeReportOutcome};
 ghost use Rattle.meaning.specs.FileNear.{NearReportOutcome};
 ghost use Rattle.meaning.specs.FileLimit.{LimitReportOutcome};
 ghost use Rattle.nearfile.specs.From.{from_of};
 ghost use Rattle.chainfile.specs.Input.{input};
-ghost use Rattle.octets.specs.Written.{Written};
 ghost use Rattle.limit.specs.Told.{told as limitOf};
+ghost use Rattle.equations.specs.Judge.{told as verdictOf};
 ghost use Rattle.report.specs.Stands.{told};
+ghost use Rattle.lines.specs.Widths.{Fits};
 
 use chain::refusal::{Fault, Refusal};
 use equations::{PARTS, Verdict};
 use figures::Answer;
 use limit::Limit;
 use limit_line::verdict_line;
-use text::{DIGITS, named, put};
+use text::{DIGITS, Page};
 use two_lines::found_lines;
 
 mod limit_line;
@@ -33,14 +33,13 @@ pub use two_lines::NEAR_ROOM;
 // Room for any line of parts, and with it for that of any refusal.
 pub const WITHIN_ROOM: usize = (7 + DIGITS) + (1 + DIGITS) + (4 + DIGITS) + 1;
 
-fn parts_line(buffer: &mut [u8], steps: u64, parts: u64) -> usize
-    requires { within_room ≤ length buffer.old }
-    ensures { Written buffer.old 0 (within_text steps parts) buffer.new result }
+fn parts_line(page: &mut Page, steps: u64, parts: u64)
+    ensures { Fits page.old (within_text steps parts) within_room page.new }
 {
-    let second = named(buffer, 0, b"within ", steps);
-    let third = named(buffer, second, b" ", parts);
-    let end = named(buffer, third, b" of ", PARTS);
-    put(buffer, end, b"\n")
+    page.named(b"within ", steps);
+    page.named(b" ", parts);
+    page.named(b" of ", PARTS);
+    page.put(b"\n");
 }
 
 // The line of a chain file's chance within so many steps, or of the refusal. `kept` holds the file's first bytes and `more` counts the others.
@@ -51,7 +50,11 @@ pub fn within(kept: &[u8], more: u64, steps: u64, buffer: &mut [u8]) -> Result<u
         return Err(Refusal::from(Fault::Room));
     }
     match figures::within(kept, more, steps) {
-        Ok(parts) => Ok(parts_line(buffer, steps, parts)),
+        Ok(parts) => {
+            let mut page = Page { buffer, at: 0 };
+            parts_line(&mut page, steps, parts);
+            Ok(page.at)
+        }
         Err(r) => report::answer(Answer::from(r), buffer),
     }
 }
@@ -59,12 +62,16 @@ pub fn within(kept: &[u8], more: u64, steps: u64, buffer: &mut [u8]) -> Result<u
 // Room for any line of a verdict: a refusal's is the longest.
 pub const CHECK_ROOM: usize = report::ANSWER_ROOM;
 
-fn no_line(buffer: &mut [u8], state: u64) -> usize
-    requires { answer_room ≤ length buffer.old }
-    ensures { Written buffer.old 0 (line_text (bytes_of "no at ") (decimal state)) buffer.new result }
+fn judged_line(page: &mut Page, verdict: Verdict)
+    ensures { Fits page.old (judged_text (verdictOf (Ok verdict))) answer_room page.new }
 {
-    let end = named(buffer, 0, b"no at ", state);
-    put(buffer, end, b"\n")
+    match verdict {
+        Verdict::Yes => page.put(b"yes\n"),
+        Verdict::No(state) => {
+            page.named(b"no at ", state as u64);
+            page.put(b"\n");
+        }
+    }
 }
 
 // The line of the verdict on a table in bytes, for the chain file of which `kept` holds the first bytes and `more` counts the others.
@@ -76,8 +83,11 @@ pub fn check(kept: &[u8], more: u64, shares: &[u8], buffer: &mut [u8]) -> Result
         return Err(Refusal::from(Fault::Room));
     }
     match figures::check(kept, more, shares) {
-        Ok(Verdict::Yes) => Ok(put(buffer, 0, b"yes\n")),
-        Ok(Verdict::No(state)) => Ok(no_line(buffer, state as u64)),
+        Ok(verdict) => {
+            let mut page = Page { buffer, at: 0 };
+            judged_line(&mut page, verdict);
+            Ok(page.at)
+        }
         Err(r) => report::answer(Answer::from(r), buffer),
     }
 }
@@ -92,7 +102,11 @@ pub fn near(kept: &[u8], more: u64, from: Option<u64>, buffer: &mut [u8]) -> Res
         return Err(Refusal::from(Fault::Room));
     }
     match nearfile::near(kept, more, from) {
-        Ok(found) => Ok(found_lines(buffer, found)),
+        Ok(found) => {
+            let mut page = Page { buffer, at: 0 };
+            found_lines(&mut page, found);
+            Ok(page.at)
+        }
         Err(r) => report::answer(Answer::from(r), buffer),
     }
 }
@@ -106,7 +120,11 @@ pub fn limit(kept: &[u8], more: u64, m: Limit, buffer: &mut [u8]) -> Result<usiz
         return Err(Refusal::from(Fault::Room));
     }
     match limitfile::judge(kept, more, m) {
-        Ok(judged) => Ok(verdict_line(buffer, judged.verdict, judged.chance)),
+        Ok(judged) => {
+            let mut page = Page { buffer, at: 0 };
+            verdict_line(&mut page, judged.verdict, judged.chance);
+            Ok(page.at)
+        }
         Err(r) => report::answer(Answer::from(r), buffer),
     }
 }

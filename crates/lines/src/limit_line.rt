@@ -1,29 +1,28 @@
-// The line of a verdict on a limit, at the front of a lent buffer.
-ghost use Rattle.std.specs.Prelude.{◌≤◌, length};
+// The line of a verdict on a limit.
 ghost use Rattle.meaning.specs.NearText.{near_line};
 ghost use Rattle.meaning.specs.FileLimit.{verdict_text, limit_room};
-ghost use Rattle.octets.specs.Written.{Written};
 ghost use Rattle.near.specs.Answer.{told_between};
 ghost use Rattle.limitfile.specs.Told.{told_verdict};
+ghost use Rattle.lines.specs.Widths.{Fits};
 
 use crate::two_figures::{FIGURES, line};
 use limitfile::Verdict;
 use near::answer::Between;
+use text::Page;
 
 // Room for any such line, and with it for that of any refusal.
 pub const LIMIT_ROOM: usize = 7 + FIGURES;
 
 // The verdict, and the figures that it goes by.
-pub(crate) fn verdict_line(buffer: &mut [u8], verdict: Verdict, chance: Between) -> usize
-    requires { limit_room ≤ length buffer.old }
+pub(crate) fn verdict_line(page: &mut Page, verdict: Verdict, chance: Between)
     ensures { let text = near_line (verdict_text (told_verdict verdict)) (told_between chance) in
-        Written buffer.old 0 text buffer.new result }
+        Fits page.old text limit_room page.new }
 {
     let lower = decimals::lower(chance.lower, chance.twos);
     let upper = decimals::upper(chance.upper, chance.twos);
     match verdict {
-        Verdict::Kept => line(buffer, 0, b"kept ", lower, upper),
-        Verdict::Broken => line(buffer, 0, b"broken ", lower, upper),
-        Verdict::Open => line(buffer, 0, b"open ", lower, upper),
+        Verdict::Kept => line(page, b"kept ", lower, upper),
+        Verdict::Broken => line(page, b"broken ", lower, upper),
+        Verdict::Open => line(page, b"open ", lower, upper),
     }
 }

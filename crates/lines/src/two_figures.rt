@@ -1,13 +1,13 @@
-// A figure as it is printed, and a line of two, for the crates above: it is written from a place on, and the place after it is answered. Where
-// there is no room for any such line, the buffer stays and so does the place.
-ghost use Rattle.std.specs.Prelude.{◌≡◌, ◌++◌, ◌+◌, ◌-◌, ◌%◌, ◌≤◌, length};
+// A figure as it is printed, and a line of two, for the crates above. Where there is no room for any such line, the buffer stays and so does the
+// place.
+ghost use Rattle.std.specs.Prelude.{◌≡◌, ◌++◌, ◌+◌, ◌-◌, ◌%◌, length};
 ghost use Rattle.meaning.specs.Text.{bytes_of};
 ghost use Rattle.meaning.specs.NearText.{last_digits, figure_text, figures_text};
 ghost use Rattle.decimals.specs.Told.{told};
-ghost use Rattle.lines.specs.Widths.{figure_width, figures_width, Fitted, FiguresLine};
+ghost use Rattle.lines.specs.Widths.{figure_width, figures_width, Figured, Fits};
 
 use decimals::Figure;
-use text::{DIGITS, named, put};
+use text::{DIGITS, Page};
 
 // Room for any figure: its first number, a point with five digits, `e-` and its tens.
 const FIGURE: usize = DIGITS + 6 + (2 + DIGITS);
@@ -44,43 +44,33 @@ fn exponent(tens: u32) -> u64
 }
 
 // A figure after a word.
-fn figure(buffer: &mut [u8], at: usize, word: &[u8], f: Figure) -> usize
-    requires { at + (length word.now + figure_width) ≤ length buffer.old }
+fn figure(page: &mut Page, word: &[u8], f: Figure)
     ensures { let w = word.now in
-        Fitted buffer.old at (w ++ figure_text (told f)) (length w + figure_width) buffer.new result }
+        Fits page.old (w ++ figure_text (told f)) (length w + figure_width) page.new }
 {
     if f.digits < 10 {
-        return named(buffer, at, word, u64::from(f.digits));
+        return page.named(word, u64::from(f.digits));
     }
-    let six = five_digits(f.digits);
-    let point = named(buffer, at, word, u64::from(f.digits / 100000));
-    let end = put(buffer, point, &six);
-    named(buffer, end, b"e-", exponent(f.tens))
+    page.named(word, u64::from(f.digits / 100000));
+    page.put(&five_digits(f.digits));
+    page.named(b"e-", exponent(f.tens));
 }
 
-// A line of two figures, where there is room for any.
-pub(crate) fn line(buffer: &mut [u8], at: usize, word: &[u8], lower: Figure, upper: Figure) -> usize
-    requires { at + figures_width word.now ≤ length buffer.old }
+// A line of two figures.
+pub(crate) fn line(page: &mut Page, word: &[u8], lower: Figure, upper: Figure)
     ensures { let w = word.now in
-        Fitted buffer.old at (figures_text w (told lower) (told upper)) (figures_width w) buffer.new result }
+        Fits page.old (figures_text w (told lower) (told upper)) (figures_width w) page.new }
 {
-    let space = figure(buffer, at, word, lower);
-    let end = figure(buffer, space, b" ", upper);
-    put(buffer, end, b"\n")
+    figure(page, word, lower);
+    figure(page, b" ", upper);
+    page.put(b"\n");
 }
 
 // The same wherever it is asked for: where there is not the room that any such line needs, nothing is written.
-pub fn figures_line(
-    buffer: &mut [u8],
-    at: usize,
-    word: &[u8],
-    lower: Figure,
-    upper: Figure,
-) -> usize
-    ensures { FiguresLine buffer.old at word.now (told lower) (told upper) buffer.new result }
+pub fn figures_line(page: &mut Page, word: &[u8], lower: Figure, upper: Figure)
+    ensures { Figured page.old word.now (told lower) (told upper) page.new }
 {
-    if buffer.len().saturating_sub(at) < word.len() + FIGURES {
-        return at;
+    if page.buffer.len().saturating_sub(page.at) >= word.len() + FIGURES {
+        line(page, word, lower, upper);
     }
-    line(buffer, at, word, lower, upper)
 }

@@ -2,10 +2,9 @@
 use Prim.Native.Nat.{ℕ, suc, ◌+◌, ◌-◌, ◌^◌, ◌≤◌, ◌<◌}
 use mathlib.Core.Path.{◌≡◌, refl, sym, ap, subst, ◌∙◌}
 use mathlib.Core.Bool.{Bool, true, false}
-use mathlib.Core.List.{List, ◌++◌, append-nil}
+use mathlib.Core.List.{List, ◌++◌}
 use native.Mathlib.Omega.{arith}
 use lib.Dec.{leb, eqb}
-use lib.ListN.{length, take, drop, take-append-drop}
 use borrow.Author.Tests.{leb-true, le-leb, lt-leb, lt-ltb, le-ltb, eq-eqb, ne_eqb}
 use Rattle.meaning.specs.Number.{choose}
 use Rattle.meaning.specs.Text.{bytes_of}
@@ -21,17 +20,17 @@ use Rattle.theory.specs.Numbers.Sum.{last_or_below}
 use Rattle.theory.specs.Outcomes.NearOne.{near_determined, near_outcome}
 use Rattle.theory.specs.Plans.Filed.{copies_filed}
 use Rattle.theory.specs.Plans.Judged.{plan_verdict, plan_verdict_one, verdicts_exist}
-use Rattle.octets.specs.Written.{Written, Stored}
-use Rattle.octets.proofs.Steps.{kept as kept_length, join}
-use Rattle.octets.proofs.Storing.{stored}
-use Rattle.text.specs.Pieces.{Named}
-use Rattle.text.proofs.Naming.{named_written, named_past}
+use Rattle.octets.specs.Written.{Written}
+use Rattle.text.specs.declared.page.Page.{Page}
+use Rattle.text.specs.Page.{Adds, Names}
 use Rattle.report.specs.Stands.{Stands}
 use Rattle.report.proofs.Refusals.{stands}
-use Rattle.lines.specs.Widths.{Fitted}
+use Rattle.lines.specs.Widths.{Fits}
+use Rattle.lines.proofs.Fitting as fit
 use Rattle.egorstream.specs.Limits.{verdict_number, limited_as, Limits}
 use Rattle.egorstream.specs.declared.limits.Limited.{Limited}
 use Rattle.planning.specs.Line.{chances_of, fewest_line, open_line}
+use Rattle.planning.proofs.Lining.{nothing}
 use Rattle.planning.specs.Scan.{PlanJudged, Scanned, open_room}
 
 -- The entry's verdict on a plan's file is the plan's.
@@ -186,37 +185,30 @@ line_same {x} {m} {a} all {fewest} some = go (leb fewest most_copies) refl
     go true e = ap (copies_line (bytes_of "copies ") fewest) (one fewest some (leb-true fewest most_copies e))
     go false e = ap (copies_line (bytes_of "none ") most_copies) (one most_copies (omega arith) (omega arith))
 
-pub both_told : {x : Weights} {m : Limit} {before middle after : List ℕ} {fewest first end next : ℕ} → Sensible (with_copies x 1) → IsLimit m
-    → Scanned x m fewest first → 0 < fewest → Fitted before 0 (fewest_line (chances_of x) fewest) copies_room middle end
-    → Written middle end (open_line fewest first) after next → Stands (FewestReport x m) before next after
-both_told {x} {m} {fewest = fewest} {first} s h n some f w =
+pub both_told : {x : Weights} {m : Limit} {before after : List ℕ} {fewest first next : ℕ} → Sensible (with_copies x 1) → IsLimit m
+    → Scanned x m fewest first → 0 < fewest → Written before 0 (fewest_line (chances_of x) fewest ++ open_line fewest first) after next
+    → Stands (FewestReport x m) before next after
+both_told {x} {m} {fewest = fewest} {first} s h n some w =
     let (a, (v, all)) = verdicts_exist m s in
-    stands
-    (FewestReport.told s h a v all fewest first (n.said a v all) (ap (λ z. z ++ open_line fewest first) (line_same all some)))
-    (join f.written w)
+    stands (FewestReport.told s h a v all fewest first (n.said a v all) (ap (λ z. z ++ open_line fewest first) (line_same all some))) w
 
 -- The two lines, by their choices.
-module _ (a : ℕ → Near) (fewest : ℕ) {before after : List ℕ} {next : ℕ} where
-  pub some_kept : fewest ≤ most_copies → Fitted before 0 (copies_line (bytes_of "copies ") fewest (a fewest)) copies_room after next
-      → Fitted before 0 (fewest_line a fewest) copies_room after next
+module _ (a : ℕ → Near) (fewest : ℕ) {p q : Page} where
+  pub some_kept : fewest ≤ most_copies → Fits p (copies_line (bytes_of "copies ") fewest (a fewest)) copies_room q
+      → Fits p (fewest_line a fewest) copies_room q
   some_kept h f = rw (le-leb fewest most_copies h) f
 
-  pub none_kept : most_copies < fewest → Fitted before 0 (copies_line (bytes_of "none ") most_copies (a most_copies)) 124 after next
-      → Fitted before 0 (fewest_line a fewest) copies_room after next
-  none_kept h f = rw (lt-leb fewest most_copies h) (record { written = f.written; past = omega (arith, f.past) })
+  pub none_kept : most_copies < fewest → Fits p (copies_line (bytes_of "none ") most_copies (a most_copies)) 124 q
+      → Fits p (fewest_line a fewest) copies_room q
+  none_kept h f = rw (lt-leb fewest most_copies h) (fit.worded refl (omega arith) f)
 
-module _ (fewest first : ℕ) {before : List ℕ} {place : ℕ} (room : place + open_room ≤ length before) where
-  pub open_told : {middle after : List ℕ} {end next : ℕ} → first < 2 ^ 64 → first < fewest → Named before place (bytes_of "open ") first middle end
-      → Stored middle end (bytes_of "\n") after next → Written before place (open_line fewest first) after next
-  open_told small h n s =
-      let named = named_written (omega arith) n in
-      let past = named_past (omega arith) n small in
-      rw (lt-ltb first fewest h) (join named (stored (omega (arith, kept_length named)) s))
+module _ (fewest first : ℕ) {p : Page} where
+  pub open_told : {q r : Page} → first < 2 ^ 64 → first < fewest → Names p (bytes_of "open ") first q → Adds q (bytes_of "\n") r
+      → Fits p (open_line fewest first) open_room r
+  open_told small h n s = rw (lt-ltb first fewest h) (fit.and (fit.name small n) (fit.one s))
 
-  pub open_none : fewest ≤ first → Written before place (open_line fewest first) before place
-  open_none h =
-      let whole = ap (λ z. z ++ drop place before) (append-nil (take place before)) ∙ take-append-drop place before in
-      rw (le-ltb first fewest h) (record { past = omega arith; room = omega arith; bytes = sym whole })
+  pub open_none : fewest ≤ first → Fits p (open_line fewest first) open_room p
+  open_none h = rw (le-ltb first fewest h) (fit.worded refl (omega arith) nothing)
 
 pub scanned_some : {x : Weights} {m : Limit} {fewest first : ℕ} → Sensible (with_copies x 1) → Scanned x m fewest first → 0 < fewest
 scanned_some {m = m} s n = let (a, (v, all)) = verdicts_exist m s in (n.said a v all).some

@@ -1,17 +1,11 @@
 -- What is promised determines the near chances, the table and the lines of the fewest copies.
-use Prim.Native.Nat.{ℕ, ◌<◌}
-use mathlib.Core.Path.{◌≡◌, ap}
-use mathlib.Core.Bool.{Bool, true, false}
+use Prim.Native.Nat.{ℕ}
+use mathlib.Core.Path.{◌≡◌}
 use mathlib.Core.List.{List}
-use native.Mathlib.Omega.{arith}
-use lib.Dec.{leb}
-use lib.ListN.{length, length-append}
-use Rattle.meaning.specs.Number.{choose}
-use Rattle.meaning.specs.Text.{bytes_of}
-use Rattle.meaning.specs.Copies.{Plan, most_copies}
+use Rattle.meaning.specs.Copies.{Plan}
 use Rattle.meaning.specs.Limit.{Limit}
-use Rattle.meaning.specs.PlanTable.{Weights, copies_line, table_text, PlanTable, PlanTableOutcome}
-use Rattle.meaning.specs.Fewest.{FewestReport, FewestOutcome}
+use Rattle.meaning.specs.PlanTable.{Weights, PlanTableOutcome}
+use Rattle.meaning.specs.Fewest.{FewestOutcome}
 use Rattle.theory.specs.Plans.Told.{plan_near_one, plan_table_one, fewest_report_one}
 use Rattle.report.specs.Stands.{told}
 use Rattle.std.proofs.Common.{Result}
@@ -20,7 +14,6 @@ use Rattle.report.proofs.Unique.{unique}
 use Rattle.egorstream.proofs.Nearing.{tells_one}
 use Rattle.egorstream.specs.declared.nearly.Nearness.{Nearness}
 use Rattle.planning.specs.Told.{PlanNears}
-use Rattle.planning.specs.Line.{fewest_line, open_line}
 
 pub near_unique : {j : Plan} (r r' : Nearness) → PlanNears j r → PlanNears j r' → r ≡ r'
 near_unique r r' x y = let e = plan_near_one x.outcome y.outcome in tells_one r r' e.0 e.1 x.tells y.tells

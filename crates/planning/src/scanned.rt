@@ -1,13 +1,12 @@
 // The fewest copies that keep a limit.
-ghost use Rattle.std.specs.Prelude.{◌+◌, ◌≤◌, ◌<◌, ◌≡◌, eqb, length};
+ghost use Rattle.std.specs.Prelude.{◌≤◌, ◌<◌, ◌≡◌, eqb, length};
 ghost use Rattle.meaning.specs.Number.{choose};
 ghost use Rattle.meaning.specs.Copies.{Sensible};
 ghost use Rattle.meaning.specs.Limit.{IsLimit};
 ghost use Rattle.meaning.specs.PlanTable.{with_copies, copies_room};
 ghost use Rattle.meaning.specs.Fewest.{fewest_room, FewestReport, FewestOutcome};
-ghost use Rattle.octets.specs.Written.{Written};
 ghost use Rattle.report.specs.Stands.{Stands, told};
-ghost use Rattle.lines.specs.Widths.{Fitted};
+ghost use Rattle.lines.specs.Widths.{Fits};
 ghost use Rattle.limit.specs.Told.{told as toldLimit};
 ghost use Rattle.planning.specs.Told.{told_weights};
 ghost use Rattle.planning.specs.Line.{chances_of, fewest_line, open_line};
@@ -20,7 +19,7 @@ use crate::weights::{Weights, refused, weighed, with_copies};
 use chain::refusal::{Fault, Refusal};
 use limit::{Limit, sound};
 use report::answer;
-use text::{named, put};
+use text::Page;
 
 // Room for any line of a plan, and any that follows.
 pub const FEWEST_ROOM: usize = 152;
@@ -59,25 +58,23 @@ fn scan(w: Weights, m: Limit) -> Found
     }
 }
 
-fn fewest_line(buffer: &mut [u8], w: Weights, fewest: u64) -> usize
-    requires { Sensible (with_copies (told_weights w) 1) × (0 < fewest) × (copies_room ≤ length buffer.old) }
-    ensures { Fitted buffer.old 0 (fewest_line (chances_of (told_weights w)) fewest) copies_room buffer.new result }
+fn fewest_line(page: &mut Page, w: Weights, fewest: u64)
+    requires { Sensible (with_copies (told_weights w) 1) × (0 < fewest) }
+    ensures { Fits page.old (fewest_line (chances_of (told_weights w)) fewest) copies_room page.new }
 {
     if fewest <= COPIES {
-        return plan_line(buffer, 0, b"copies ", with_copies(w, fewest));
+        return plan_line(page, b"copies ", with_copies(w, fewest));
     }
-    plan_line(buffer, 0, b"none ", with_copies(w, COPIES))
+    plan_line(page, b"none ", with_copies(w, COPIES));
 }
 
-fn open_line(buffer: &mut [u8], at: usize, fewest: u64, first: u64) -> usize
-    requires { at + open_room ≤ length buffer.old }
-    ensures { Written buffer.old at (open_line fewest first) buffer.new result }
+fn open_line(page: &mut Page, fewest: u64, first: u64)
+    ensures { Fits page.old (open_line fewest first) open_room page.new }
 {
     if first < fewest {
-        let end = named(buffer, at, b"open ", first);
-        return put(buffer, end, b"\n");
+        page.named(b"open ", first);
+        page.put(b"\n");
     }
-    at
 }
 
 fn both(buffer: &mut [u8], w: Weights, m: Limit) -> usize
@@ -85,8 +82,10 @@ fn both(buffer: &mut [u8], w: Weights, m: Limit) -> usize
     ensures { Stands (FewestReport (told_weights w) (toldLimit m)) buffer.old result buffer.new }
 {
     let s = scan(w, m);
-    let end = fewest_line(buffer, w, s.fewest);
-    open_line(buffer, end, s.fewest, s.first)
+    let mut page = Page { buffer, at: 0 };
+    fewest_line(&mut page, w, s.fewest);
+    open_line(&mut page, s.fewest, s.first);
+    page.at
 }
 
 // A line or two at the front of the buffer: the fewest copies with their figures, and from where on it cannot be said. 31 comes before 35.

@@ -19,7 +19,8 @@ use Rattle.meaning.specs.Outcome.{
 use Rattle.meaning.specs.Report.{answer_text, line_text, lines_text, report_room}
 use Rattle.theory.specs.Outcomes.Small.{chance_small, reward_small, bounds_small}
 use Rattle.theory.specs.Files.Lengths.{Brief, chain_brief}
-use Rattle.text.specs.Puts.{Puts}
+use Rattle.text.specs.declared.page.Page.{Page}
+use Rattle.text.specs.Page.{Prints}
 use Rattle.figures.specs.Told.{Tells, told_answer}
 use Rattle.figures.specs.declared.answer.Answer.{Answer as Told}
 use Rattle.report.proofs.Lengths.{lines_short, Wide}
@@ -29,9 +30,9 @@ use Rattle.report.proofs.Brief.{stopped_brief}
 pub wide : {r : Told} {a : Answer} → Tells r a → Wide (told_answer r)
 wide t = record { number = t.number; place = t.place; numerator = t.numerator; denominator = t.denominator }
 
-pub retold : (name : List ℕ) {before after : List ℕ} {place next : ℕ} {r : Told} {a : Answer} → Tells r a
-    → Puts before place (line_text name (answer_text (told_answer r))) after next → Puts before place (line_text name (answer_text a)) after next
-retold name {before} {after} {place} {next} t w = subst (λ a. Puts before place (line_text name (answer_text a)) after next) t.same w
+pub retold : (name : List ℕ) {before after : Page} {r : Told} {a : Answer} → Tells r a
+    → Prints before (line_text name (answer_text (told_answer r))) after → Prints before (line_text name (answer_text a)) after
+retold name {before} {after} t w = subst (λ a. Prints before (line_text name (answer_text a)) after) t.same w
 
 nought : Brief 0 0
 nought = record { two = omega arith; four = omega arith }

@@ -11,9 +11,10 @@ use Rattle.meaning.specs.Report.{record_text, records_text}
 use Rattle.theory.specs.Numbers.Decimal.{digits}
 use Rattle.theory.specs.Numbers.Tab.{tab_more}
 use Rattle.octets.specs.Written.{Written}
-use Rattle.octets.proofs.Steps.{join}
-use Rattle.text.specs.Puts.{Puts}
-use Rattle.engines.specs.Trace.{count_in, record_in, records_in}
+use Rattle.octets.proofs.Steps.{join, kept}
+use Rattle.text.specs.declared.page.Page.{Page}
+use Rattle.text.specs.Page.{Prints}
+use Rattle.engines.specs.Trace.{record_in}
 use Rattle.report.specs.Lines.{record_room}
 
 pub record_short : (state rows columns divisor : ℕ) → state < 2 ^ 64 → rows < 2 ^ 64 → columns < 2 ^ 64 → divisor < 2 ^ 64
@@ -37,34 +38,30 @@ records_more (x ∷ rs) r =
     ap (λ (z : List ℕ). t ++ z) (records_more rs r) ∙ sym (append_assoc t (records_text rs) _)
 
 -- After i lines of the records of a trace.
-pub record Lined (before numbers : List ℕ) (i at : ℕ) (after : List ℕ) : Type 0 where
-  pub written : Written before 0 (records_text (tab_from 0 i (record_in numbers))) after at
-  pub near : at ≤ i * record_room
+pub record Lined (old : Page) (numbers : List ℕ) (i : ℕ) (new : Page) : Type 0 where
+  pub same : new.buffer.ghost_name ≡ old.buffer.ghost_name
+  pub written : Written old.buffer.now 0 (records_text (tab_from 0 i (record_in numbers))) new.buffer.now new.at
+  pub near : new.at ≤ i * record_room
 
-module _ {before numbers : List ℕ} where
-  pub none : Lined before numbers 0 0 before
+module _ {old : Page} {numbers : List ℕ} where
+  pub none : old.at ≡ 0 → Lined old numbers 0 old
   unfolding records_text tab_from
-  none = record { written = record { past = refl; room = omega arith; bytes = refl }; near = omega arith }
+  none e = record { same = refl; written = record { past = e; room = omega (arith, e); bytes = rw e refl }; near = omega (arith, e) }
 
-  pub more : {i at next : ℕ} {after later : List ℕ} → Lined before numbers i at after
-      → i < most_states → most_states * record_room ≤ length after
+  pub more : {i : ℕ} {now later : Page} → Lined old numbers i now
+      → i < most_states → most_states * record_room ≤ length old.buffer.now
       → let r = record_in numbers i in
-      let text = record_text r.state r.rows r.columns r.divisor in Puts after at text later next × (length text ≤ record_room)
-      → Lined before numbers (i + 1) next later
-  more {i} {next = next} {later = later} l few long w =
+      let text = record_text r.state r.rows r.columns r.divisor in Prints now text later × (length text ≤ record_room)
+      → Lined old numbers (i + 1) later
+  more {i} {now} {later} l few long w =
       let r = record_in numbers i in
-      let line = w.0.written (omega (arith, l.near, w.1)) in
+      let same = kept l.written in
+      let line = w.0.written (omega (arith, long, same, few, l.near, w.1)) in
       record {
+        same = w.0.same ∙ l.same;
         written =
-            subst (λ (t : List ℕ). Written before 0 t later next)
+            subst (λ (t : List ℕ). Written old.buffer.now 0 t later.buffer.now later.at)
             (sym (ap records_text (tab_more i (record_in numbers)) ∙ records_more (tab_from 0 i (record_in numbers)) r))
             (join l.written line);
         near = omega (arith, l.near, line.past, w.1);
       }
-
-  pub all : {i at : ℕ} {after : List ℕ} → Lined before numbers i at after → i ≡ count_in numbers → count_in numbers ≤ most_states
-      → Written before 0 (records_text (records_in numbers)) after at × (at ≤ most_states * record_room)
-  all {at = at} {after = after} l e few = (
-    subst (λ (k : ℕ). Written before 0 (records_text (tab_from 0 k (record_in numbers))) after at) e l.written,
-    omega (arith, l.near, e, few),
-  )

@@ -12,6 +12,7 @@ ghost use Rattle.report.specs.Lines.{Lasts, Ends};
 
 use chain::Chain;
 use chain::refusal::{Fault, Refusal};
+use text::Page;
 
 mod print;
 mod records;
@@ -38,7 +39,9 @@ fn file_lines(kept: &[u8], more: u64, buffer: &mut [u8]) -> Result<usize, Refusa
     let found = figures::report(kept, more)?;
     ended(found.reward)?;
     let bounds = found.bounds?;
-    Ok(print::seven_lines(buffer, 0, found, bounds))
+    let mut page = Page { buffer, at: 0 };
+    print::seven_lines(&mut page, found, bounds);
+    Ok(page.at)
 }
 
 pub fn report(kept: &[u8], more: u64, buffer: &mut [u8]) -> Result<usize, Refusal>
@@ -61,8 +64,10 @@ fn steps_lines(kept: &[u8], more: u64, buffer: &mut [u8]) -> Result<usize, Refus
     let t = figures::steps(kept, more, Chain::STATES);
     ended(t.chance)?;
     let numbers = t.numbers;
-    let end = records::record_lines(buffer, &numbers);
-    Ok(print::answer_line(buffer, end, b"chance ", Answer::from(t.chance)))
+    let mut page = Page { buffer, at: 0 };
+    records::record_lines(&mut page, &numbers);
+    print::answer_line(&mut page, b"chance ", Answer::from(t.chance));
+    Ok(page.at)
 }
 
 // The step list and the chance of a chain file, in the same way.
@@ -85,7 +90,9 @@ pub fn face(face: u64, chance: Answer, buffer: &mut [u8]) -> Result<usize, Refus
     if buffer.len() < print::FACE_ROOM {
         return Err(Refusal::from(Fault::Room));
     }
-    Ok(print::face_line(buffer, 0, face, chance))
+    let mut page = Page { buffer, at: 0 };
+    print::face_line(&mut page, face, chance);
+    Ok(page.at)
 }
 
 // The line of an answer alone.
@@ -95,5 +102,7 @@ pub fn answer(a: Answer, buffer: &mut [u8]) -> Result<usize, Refusal>
     if buffer.len() < print::ANSWER_ROOM {
         return Err(Refusal::from(Fault::Room));
     }
-    Ok(print::answer_line(buffer, 0, b"", a))
+    let mut page = Page { buffer, at: 0 };
+    print::answer_line(&mut page, b"", a);
+    Ok(page.at)
 }

@@ -1,8 +1,8 @@
-// The lines of the report, from pieces. Each answers the place after what it wrote; where there is room for the line, it is written.
+// The lines of the report, from pieces. Where there is room for the line, it is written.
 ghost use Rattle.meaning.specs.Text.{decimal};
 ghost use Rattle.meaning.specs.Report.{refused_text, answer_text, named_text, line_text, face_text};
 ghost use Rattle.meaning.specs.Number.{decides};
-ghost use Rattle.text.specs.Puts.{Puts};
+ghost use Rattle.text.specs.Page.{Prints};
 ghost use Rattle.figures.specs.Told.{told_answer};
 ghost use Rattle.report.specs.Lines.{told_lines, counts_text, Ends};
 
@@ -10,7 +10,7 @@ use crate::records::RECORD_LINE;
 use chain::Chain;
 use engines::answer::Bounds;
 use figures::{Answer, Counts, Report};
-use text::{bounds_line, fraction, number, put};
+use text::Page;
 
 // Room for any report, each line at its longest: a line has a name, what stands in it, and a byte for its end.
 const FRACTION: usize = 10 + 1 + 10;
@@ -44,83 +44,81 @@ pub(crate) fn ends(number: u32) -> bool
     }
 }
 
-fn refused(buffer: &mut [u8], at: usize, code: u32, place: usize) -> usize
-    ensures { Puts buffer.old at (refused_text code place) buffer.new result }
+fn refused(page: &mut Page, code: u32, place: usize)
+    ensures { Prints page.old (refused_text code place) page.new }
 {
-    let first = put(buffer, at, b"refused ");
-    let second = number(buffer, first, u64::from(code));
-    let third = put(buffer, second, b" at ");
-    number(buffer, third, place as u64)
+    page.put(b"refused ");
+    page.number(u64::from(code));
+    page.put(b" at ");
+    page.number(place as u64);
 }
 
-fn answer(buffer: &mut [u8], at: usize, a: Answer) -> usize
-    ensures { Puts buffer.old at (answer_text (told_answer a)) buffer.new result }
+fn answer(page: &mut Page, a: Answer)
+    ensures { Prints page.old (answer_text (told_answer a)) page.new }
 {
     if a.number != 0 {
-        return refused(buffer, at, a.number, a.place);
+        return refused(page, a.number, a.place);
     }
     if a.denominator == 0 {
-        return put(buffer, at, b"infinite");
+        return page.put(b"infinite");
     }
-    fraction(buffer, at, a.numerator, a.denominator)
+    page.fraction(a.numerator, a.denominator)
 }
 
-pub(crate) fn named(buffer: &mut [u8], at: usize, name: &[u8], x: u64) -> usize
-    ensures { Puts buffer.old at (named_text name.now x) buffer.new result }
+pub(crate) fn named(page: &mut Page, name: &[u8], x: u64)
+    ensures { Prints page.old (named_text name.now x) page.new }
 {
-    let value = put(buffer, at, name);
-    number(buffer, value, x)
+    page.put(name);
+    page.number(x);
 }
 
-pub(crate) fn count_line(buffer: &mut [u8], at: usize, name: &[u8], x: u64) -> usize
-    ensures { Puts buffer.old at (line_text name.now (decimal x)) buffer.new result }
+pub(crate) fn count_line(page: &mut Page, name: &[u8], x: u64)
+    ensures { Prints page.old (line_text name.now (decimal x)) page.new }
 {
-    let end = named(buffer, at, name, x);
-    put(buffer, end, b"\n")
+    named(page, name, x);
+    page.put(b"\n");
 }
 
-pub(crate) fn answer_line(buffer: &mut [u8], at: usize, name: &[u8], a: Answer) -> usize
-    ensures { Puts buffer.old at (line_text name.now (answer_text (told_answer a))) buffer.new result }
+pub(crate) fn answer_line(page: &mut Page, name: &[u8], a: Answer)
+    ensures { Prints page.old (line_text name.now (answer_text (told_answer a))) page.new }
 {
-    let value = put(buffer, at, name);
-    let end = answer(buffer, value, a);
-    put(buffer, end, b"\n")
+    page.put(name);
+    answer(page, a);
+    page.put(b"\n");
 }
 
-fn count_lines(buffer: &mut [u8], at: usize, counts: Counts) -> usize
-    ensures { Puts buffer.old at (counts_text counts) buffer.new result }
+fn count_lines(page: &mut Page, counts: Counts)
+    ensures { Prints page.old (counts_text counts) page.new }
 {
-    let second = count_line(buffer, at, b"states ", counts.states);
-    let third = count_line(buffer, second, b"edges ", counts.edges);
-    let fourth = count_line(buffer, third, b"goals ", counts.goals);
-    count_line(buffer, fourth, b"live ", counts.live)
+    count_line(page, b"states ", counts.states);
+    count_line(page, b"edges ", counts.edges);
+    count_line(page, b"goals ", counts.goals);
+    count_line(page, b"live ", counts.live);
 }
 
 // The seven lines.
-pub(crate) fn seven_lines(buffer: &mut [u8], at: usize, found: Report, bounds: Bounds) -> usize
-    ensures { Puts buffer.old at (told_lines found bounds) buffer.new result }
+pub(crate) fn seven_lines(page: &mut Page, found: Report, bounds: Bounds)
+    ensures { Prints page.old (told_lines found bounds) page.new }
 {
     let Bounds { lower, upper } = bounds;
-    let fifth = count_lines(buffer, at, found.counts);
-    let sixth = answer_line(buffer, fifth, b"chance ", Answer::from(found.chance));
-    let seventh = answer_line(buffer, sixth, b"reward ", Answer::from(found.reward));
-    bounds_line(
-        buffer,
-        seventh,
+    count_lines(page, found.counts);
+    answer_line(page, b"chance ", Answer::from(found.chance));
+    answer_line(page, b"reward ", Answer::from(found.reward));
+    page.bounds_line(
         lower.numerator,
         lower.denominator,
         upper.numerator,
         upper.denominator,
-    )
+    );
 }
 
 // The line of a face of the dice.
-pub(crate) fn face_line(buffer: &mut [u8], at: usize, face: u64, chance: Answer) -> usize
-    ensures { Puts buffer.old at (face_text face (told_answer chance)) buffer.new result }
+pub(crate) fn face_line(page: &mut Page, face: u64, chance: Answer)
+    ensures { Prints page.old (face_text face (told_answer chance)) page.new }
 {
-    let first = put(buffer, at, b"face ");
-    let second = number(buffer, first, face);
-    let third = put(buffer, second, b" ");
-    let end = answer(buffer, third, chance);
-    put(buffer, end, b"\n")
+    page.put(b"face ");
+    page.number(face);
+    page.put(b" ");
+    answer(page, chance);
+    page.put(b"\n");
 }

@@ -1,6 +1,6 @@
 -- The lines of what is left, from what the pieces write.
 use Prim.Native.Nat.{ℕ, ◌+◌, ◌≤◌}
-use mathlib.Core.Path.{◌≡◌, sym, ap, subst, ◌∙◌}
+use mathlib.Core.Path.{◌≡◌, refl, sym, ap, subst, ◌∙◌}
 use mathlib.Core.List.{List, [], ◌++◌, append-nil}
 use native.Mathlib.Omega.{arith}
 use native.Mathlib.Numerals.{add-one}
@@ -11,14 +11,18 @@ use Rattle.meaning.specs.Outcome.{Bounds}
 use Rattle.meaning.specs.Text.{bytes_of}
 use Rattle.meaning.specs.Salvage.{pair_text, salvage_room}
 use Rattle.octets.specs.Written.{Room}
-use Rattle.text.specs.Puts.{Puts}
-use Rattle.text.proofs.Putting.{and}
+use Rattle.text.specs.declared.page.Page.{Page}
+use Rattle.text.specs.Page.{Prints}
+use Rattle.text.proofs.Paging.{and}
 use Rattle.salvaging.specs.Lines.{bounds_line, number_text, numbers_text, left_text, Fits}
 
--- Nothing is written from a place on.
-nothing : {before : List ℕ} {place : ℕ} → Puts before place [] before place
-nothing {before} {place} =
+-- Nothing is written on a page.
+nothing : {page : Page} → Prints page [] page
+nothing {page} =
+    let before = page.buffer.now in
+    let place = page.at in
     record {
+      same = refl;
       written = λ h.
           record {
             past = omega arith;
@@ -28,28 +32,23 @@ nothing {before} {place} =
     }
 
 -- The line of a number, and nothing for 0.
-module _ {before : List ℕ} {at : ℕ} (word : List ℕ) (n x : ℕ) where
-  pub no_line : x ≡ 0 → Puts before at (number_text word n x) before at
+module _ {old : Page} (word : List ℕ) (n x : ℕ) where
+  pub no_line : x ≡ 0 → Prints old (number_text word n x) old
   no_line z = rw (le-ltb 0 x (omega arith)) nothing
 
-  pub some_line : {after : List ℕ} {next : ℕ} → (x ≡ 0 → ⊥) → Puts before at (pair_text word n x) after next → Puts before at (number_text word n x) after next
+  pub some_line : {new : Page} → (x ≡ 0 → ⊥) → Prints old (pair_text word n x) new → Prints old (number_text word n x) new
   some_line some l = rw (lt-ltb 0 x (omega arith)) l
 
 -- The lines of the first i numbers, and one more.
-module _ {before : List ℕ} {place : ℕ} (word numbers : List ℕ) where
-  pub none_lined : Puts before place (numbers_text word numbers 0) before place
+module _ {old : Page} (word numbers : List ℕ) where
+  pub none_lined : Prints old (numbers_text word numbers 0) old
   unfolding join_to
   none_lined = nothing
 
-  pub more_lined : (i : ℕ) {at next : ℕ} {after later : List ℕ} → Puts before place (numbers_text word numbers i) after at
-      → Puts after at (number_text word i (get_or numbers i 0)) later next → Puts before place (numbers_text word numbers (i + 1)) later next
+  pub more_lined : (i : ℕ) {now later : Page} → Prints old (numbers_text word numbers i) now → Prints now (number_text word i (get_or numbers i 0)) later
+      → Prints old (numbers_text word numbers (i + 1)) later
   unfolding join_to
-  more_lined i {next = next} {later = later} l w =
-      subst (λ k. Puts before place (numbers_text word numbers k) later next) (sym (add-one i)) (and l w)
-
-  pub all_lined : {i at : ℕ} {after : List ℕ} → i ≡ length numbers → Puts before place (numbers_text word numbers i) after at
-      → Puts before place (numbers_text word numbers (length numbers)) after at
-  all_lined {at = at} {after = after} e l = subst (λ k. Puts before place (numbers_text word numbers k) after at) e l
+  more_lined i {later = later} l w = subst (λ k. Prints old (numbers_text word numbers k) later) (sym (add-one i)) (and l w)
 
 pub left_room : {a : Bounds} {lost short : List ℕ} (buffer : List ℕ) → Fits a lost short → salvage_room ≤ length buffer → Room buffer 0 (left_text a lost short)
 left_room {a} {lost} {short} buffer fits long =

@@ -21,6 +21,7 @@ use engines::answer::Bounds;
 use engines::entry;
 use look::sums;
 use report::Answer;
+use text::Page;
 
 mod print;
 
@@ -61,7 +62,9 @@ fn whole(g: &Given, order: &[u64], buffer: &mut [u8]) -> Result<usize, Refusal>
         ((f : Input) → Accepted f → l ≡ plain_in f → Writes (Salvaged f) buffer.old result buffer.new) }
 {
     let bounds = entry::bounds_unlent(g, order)?;
-    Ok(print::bounds_line(buffer, bounds))
+    let mut page = Page { buffer, at: 0 };
+    print::bounds_line(&mut page, bounds);
+    Ok(page.at)
 }
 
 // Of a file that has lost blocks.
@@ -80,7 +83,9 @@ fn left(
 {
     let bounds = bounds_left(g, order).map_err(|r| in_whole(kept, lost, r))?;
     let short = sums::missing(g.denominators, g.edges);
-    Ok(print::left_lines(buffer, bounds, lost, &short))
+    let mut page = Page { buffer, at: 0 };
+    print::left_lines(&mut page, bounds, lost, &short);
+    Ok(page.at)
 }
 
 // Of a file whose front is right.

@@ -1,5 +1,4 @@
-// The lines of a chain's text. Each function asks for the room of what it writes at its longest, with numbers of 64 bits, and answers the place
-// after it.
+// The lines of a chain's text. Each step says how much room there must be for what it writes at its longest, with numbers of 64 bits.
 ghost use Rattle.std.specs.Prelude.{[], ◌++◌, ◌+◌, ◌*◌, ◌≤◌, length};
 ghost use Rattle.meaning.specs.Text.{bytes_of};
 ghost use Rattle.meaning.specs.Report.{named_text};
@@ -8,95 +7,77 @@ ghost use Rattle.meaning.specs.ChainText.{spaced, order_line, text_of, chain_tex
 ghost use Rattle.meaning.specs.Translate.{shown_room};
 ghost use Rattle.chain.specs.Given.{with};
 ghost use Rattle.octets.specs.Written.{Written};
-ghost use Rattle.showing.specs.Print.{Put, state_line_of, state_lines, edge_line_of, edge_lines};
+ghost use Rattle.showing.specs.Print.{Fits, state_line_of, state_lines, edge_line_of, edge_lines};
 
 use chain::{edge, set, table};
 use opening::Opened;
-use text::{named, put};
+use text::Page;
 
-fn count_line(buffer: &mut [u8], at: usize, name: &[u8], x: u64) -> usize
-    requires { at + (length name.now + 21) ≤ length buffer.old }
+fn count_line(page: &mut Page, name: &[u8], x: u64)
     ensures { let name = name.now in
-        Put buffer.old at (named_text name x ++ bytes_of "\n") (length name + 21) buffer.new result }
+        Fits page.old (named_text name x ++ bytes_of "\n") (length name + 21) page.new }
 {
-    let end = named(buffer, at, name, x);
-    put(buffer, end, b"\n")
+    page.named(name, x);
+    page.put(b"\n");
 }
 
-fn state_line(buffer: &mut [u8], at: usize, opened: &Opened, i: usize) -> usize
-    requires { at + 93 ≤ length buffer.old }
-    ensures { Put buffer.old at (state_line_of opened.now i ++ bytes_of "\n") 93 buffer.new result }
+fn state_line(page: &mut Page, opened: &Opened, i: usize)
+    ensures { Fits page.old (state_line_of opened.now i ++ bytes_of "\n") 93 page.new }
 {
     let g = &opened.given;
-    let second = named(buffer, at, b"state ", i as u64);
-    let third = named(
-        buffer,
-        second,
-        b" denominator ",
-        table::at(g.denominators, i),
-    );
-    let fourth = named(buffer, third, b" reward ", table::at(opened.rewards, i));
+    page.named(b"state ", i as u64);
+    page.named(b" denominator ", table::at(g.denominators, i));
+    page.named(b" reward ", table::at(opened.rewards, i));
     if set::holds(g.chain.goals, i) {
-        put(buffer, fourth, b" goal\n")
+        page.put(b" goal\n");
     } else {
-        put(buffer, fourth, b"\n")
+        page.put(b"\n");
     }
 }
 
-fn edge_line(buffer: &mut [u8], at: usize, edges: &[u64], e: usize) -> usize
-    requires { at + 103 ≤ length buffer.old }
-    ensures { Put buffer.old at (edge_line_of edges.now e ++ bytes_of "\n") 103 buffer.new result }
+fn edge_line(page: &mut Page, edges: &[u64], e: usize)
+    ensures { Fits page.old (edge_line_of edges.now e ++ bytes_of "\n") 103 page.new }
 {
-    let second = named(buffer, at, b"edge ", edge::from(edges, e));
-    let third = named(buffer, second, b" ", edge::to(edges, e));
-    let fourth = named(buffer, third, b" weight ", edge::weight(edges, e));
-    let end = named(buffer, fourth, b" reward ", edge::reward(edges, e));
-    put(buffer, end, b"\n")
+    page.named(b"edge ", edge::from(edges, e));
+    page.named(b" ", edge::to(edges, e));
+    page.named(b" weight ", edge::weight(edges, e));
+    page.named(b" reward ", edge::reward(edges, e));
+    page.put(b"\n");
 }
 
-fn state_lines(buffer: &mut [u8], at: usize, opened: &Opened) -> usize
-    requires { at + opened.now.given.chain.states * 93 ≤ length buffer.old }
+fn state_lines(page: &mut Page, opened: &Opened)
     ensures { let n = opened.now.given.chain.states in
-        Put buffer.old at (text_of (state_lines opened.now n)) (n * 93) buffer.new result }
+        Fits page.old (text_of (state_lines opened.now n)) (n * 93) page.new }
 {
-    let mut next = at;
     for i in 0..opened.given.chain.states {
-        next = state_line(buffer, next, opened, i);
+        state_line(page, opened, i);
     }
-    next
 }
 
-fn order_numbers(buffer: &mut [u8], at: usize, order: &[u64]) -> usize
-    requires { at + length order.now * 21 ≤ length buffer.old }
+fn order_numbers(page: &mut Page, order: &[u64])
     ensures { let order = order.now in
-        Put buffer.old at (spaced order) (length order * 21) buffer.new result }
+        Fits page.old (spaced order) (length order * 21) page.new }
 {
-    let mut next = at;
     for state in order {
-        next = named(buffer, next, b" ", *state);
+        page.named(b" ", *state);
     }
-    next
 }
 
-fn order_line(buffer: &mut [u8], at: usize, order: &[u64]) -> usize
-    requires { at + (length order.now * 21 + 6) ≤ length buffer.old }
+fn order_line(page: &mut Page, order: &[u64])
     ensures { let order = order.now in
-        Put buffer.old at (order_line order ++ bytes_of "\n") (length order * 21 + 6) buffer.new result }
+        Fits page.old (order_line order ++ bytes_of "\n") (length order * 21 + 6) page.new }
 {
-    let first = put(buffer, at, b"order");
-    let end = order_numbers(buffer, first, order);
-    put(buffer, end, b"\n")
+    page.put(b"order");
+    order_numbers(page, order);
+    page.put(b"\n");
 }
 
-fn edge_lines(buffer: &mut [u8], at: usize, count: usize, edges: &[u64]) -> usize
-    requires { at + count * 103 ≤ length buffer.old }
-    ensures { Put buffer.old at (text_of (edge_lines edges.now count)) (count * 103) buffer.new result }
+fn edge_lines(page: &mut Page, count: usize, edges: &[u64])
+    ensures { Fits page.old (text_of (edge_lines edges.now count)) (count * 103) page.new }
 {
-    let mut next = at;
     for e in 0..count {
-        next = edge_line(buffer, next, edges, e);
+        edge_line(page, edges, e);
     }
-    next
 }
 
 // The text of a chain with its tables, at the front of the buffer.
@@ -108,10 +89,12 @@ pub(crate) fn lines(opened: &Opened, buffer: &mut [u8]) -> usize
     let g = &opened.given;
     let c = g.chain;
     let count = edge::count(g.edges);
-    let first = count_line(buffer, 0, b"states ", c.states as u64);
-    let second = count_line(buffer, first, b"edges ", count as u64);
-    let third = count_line(buffer, second, b"start ", c.start as u64);
-    let fourth = state_lines(buffer, third, opened);
-    let fifth = order_line(buffer, fourth, opened.order);
-    edge_lines(buffer, fifth, count, g.edges)
+    let mut page = Page { buffer, at: 0 };
+    count_line(&mut page, b"states ", c.states as u64);
+    count_line(&mut page, b"edges ", count as u64);
+    count_line(&mut page, b"start ", c.start as u64);
+    state_lines(&mut page, opened);
+    order_line(&mut page, opened.order);
+    edge_lines(&mut page, count, g.edges);
+    page.at
 }

@@ -1,3 +1,3 @@
 pub mod Naming
-pub mod Putting
+pub mod Paging
 pub mod Counting

@@ -3,10 +3,10 @@ ghost use Rattle.std.specs.Prelude.{◌≡◌, ◌≤◌, length};
 ghost use Rattle.meaning.specs.Outcome.{between};
 ghost use Rattle.meaning.specs.Text.{bytes_of};
 ghost use Rattle.meaning.specs.Report.{fraction_text, bounds_text, line_text};
-ghost use Rattle.octets.specs.Written.{Stored};
-ghost use Rattle.text.specs.Puts.{Puts};
+ghost use Rattle.text.specs.Page.{Adds, Prints};
 
-use crate::{digits, full, number, put};
+use crate::digits;
+use crate::page::Page;
 
 // How long a fraction is.
 fn width(p: u64, q: u64) -> usize
@@ -15,45 +15,45 @@ fn width(p: u64, q: u64) -> usize
     digits(p) + 1 + digits(q)
 }
 
-fn parts(buffer: &mut [u8], at: usize, p: u64, q: u64) -> usize
-    ensures { Puts buffer.old at (fraction_text p q) buffer.new result }
-{
-    let bar = number(buffer, at, p);
-    let below = put(buffer, bar, b"/");
-    number(buffer, below, q)
-}
-
-pub fn fraction(buffer: &mut [u8], at: usize, p: u64, q: u64) -> usize
-    ensures { Stored buffer.old at (fraction_text p q) buffer.new result }
-{
-    if full(buffer, at, width(p, q)) {
-        return at;
+impl Page<'_> {
+    fn parts(&mut self, p: u64, q: u64)
+        ensures { Prints self.old (fraction_text p q) self.new }
+    {
+        self.number(p);
+        self.put(b"/");
+        self.number(q);
     }
-    parts(buffer, at, p, q)
-}
 
-fn both(buffer: &mut [u8], at: usize, p: u64, q: u64, s: u64, t: u64) -> usize
-    ensures { Puts buffer.old at (bounds_text (between p q s t)) buffer.new result }
-{
-    let space = fraction(buffer, at, p, q);
-    let upper = put(buffer, space, b" ");
-    fraction(buffer, upper, s, t)
-}
-
-fn line(buffer: &mut [u8], at: usize, p: u64, q: u64, s: u64, t: u64) -> usize
-    ensures { Puts buffer.old at (line_text (bytes_of "bounds ") (bounds_text (between p q s t))) buffer.new result }
-{
-    let first = put(buffer, at, b"bounds ");
-    let end = both(buffer, first, p, q, s, t);
-    put(buffer, end, b"\n")
-}
-
-// The line of the bounds p / q and s / t.
-pub fn bounds_line(buffer: &mut [u8], at: usize, p: u64, q: u64, s: u64, t: u64) -> usize
-    ensures { Stored buffer.old at (line_text (bytes_of "bounds ") (bounds_text (between p q s t))) buffer.new result }
-{
-    if full(buffer, at, 7 + width(p, q) + 1 + width(s, t) + 1) {
-        return at;
+    pub fn fraction(&mut self, p: u64, q: u64)
+        ensures { Adds self.old (fraction_text p q) self.new }
+    {
+        if !self.lacks(width(p, q)) {
+            self.parts(p, q);
+        }
     }
-    line(buffer, at, p, q, s, t)
+
+    fn both(&mut self, p: u64, q: u64, s: u64, t: u64)
+        ensures { Prints self.old (bounds_text (between p q s t)) self.new }
+    {
+        self.fraction(p, q);
+        self.put(b" ");
+        self.fraction(s, t);
+    }
+
+    fn line(&mut self, p: u64, q: u64, s: u64, t: u64)
+        ensures { Prints self.old (line_text (bytes_of "bounds ") (bounds_text (between p q s t))) self.new }
+    {
+        self.put(b"bounds ");
+        self.both(p, q, s, t);
+        self.put(b"\n");
+    }
+
+    // The line of the bounds p / q and s / t.
+    pub fn bounds_line(&mut self, p: u64, q: u64, s: u64, t: u64)
+        ensures { Adds self.old (line_text (bytes_of "bounds ") (bounds_text (between p q s t))) self.new }
+    {
+        if !self.lacks(7 + width(p, q) + 1 + width(s, t) + 1) {
+            self.line(p, q, s, t);
+        }
+    }
 }

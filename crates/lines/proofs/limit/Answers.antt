@@ -1,4 +1,6 @@
 use native.Mathlib.Omega.{arith}
+use borrow.Author.Rules.{rules}
+use Rattle.text.proofs.Paging.{landed}
 use Rattle.report.proofs.Refusals.{short}
 use Rattle.lines.proofs.Limits.{judged_line, refused_line}
 use Rattle.lines.proofs.limit.Goals as goal
@@ -7,7 +9,7 @@ pub returns-then-buffer-lt-LIMIT_ROOM : goal.returns-then-buffer-lt-LIMIT_ROOM
 returns-then-buffer-lt-LIMIT_ROOM c = short c.from.result (omega arith) c.from.ensures
 
 pub returns-in-Ok : goal.returns-in-Ok
-returns-in-Ok c = judged_line c.if-buffer-lt-LIMIT_ROOM.false c.in-Ok.judged c.in-Ok.ensures c.verdict_line.ensures
+returns-in-Ok c = judged_line c.if-buffer-lt-LIMIT_ROOM.false c.in-Ok.judged c.in-Ok.ensures (landed (search rules) (c.verdict_line.ensures.fitted c.if-buffer-lt-LIMIT_ROOM.false).written)
 
 pub returns-in-Err : goal.returns-in-Err
 returns-in-Err c = refused_line c.if-buffer-lt-LIMIT_ROOM.false c.in-Err.r c.answer.result c.in-Err.ensures c.from-in-Err.ensures c.answer.ensures

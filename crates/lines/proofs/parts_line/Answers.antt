@@ -1,9 +1,8 @@
 use borrow.Author.Rules.{rules}
-use Rattle.lines.proofs.Lined.{parts_written}
+use Rattle.lines.proofs.Fitting.{one, name, and}
 use Rattle.lines.proofs.parts_line.Goals as goal
 
 pub returns : goal.returns
 returns c =
-    let a = c.args in
-    parts_written a.steps a.parts (search rules) (search rules) (search rules) c.named-second.ensures c.named-third.ensures c.named-end.ensures
-    c.put.ensures
+    and (and (name (search rules) c.named.ensures) (name (search rules) c.named-2.ensures))
+    (and (name (search rules) c.named-3.ensures) (one c.put.ensures))

@@ -2,6 +2,8 @@ use mathlib.Core.Path.{refl}
 use Rattle.std.proofs.lemmas.Result.{err_from_is_err_and}
 use Rattle.meaning.specs.Report.{Report}
 use Rattle.report.proofs.ChainLines.{reward_line, formed, bounded, lines_room, lines_report}
+use Rattle.text.proofs.Paging.{landed}
+use borrow.Author.Rules.{rules}
 use Rattle.report.proofs.Refusals.{stands}
 use Rattle.report.proofs.file_lines.Goals as goal
 
@@ -23,4 +25,4 @@ pub returns : goal.returns
 returns c =
     let (a, x) = c.in_ok-found.ensures in
     let f = formed a x c.in_ok-ended.ensures in
-    stands (lines_report f x c.in_ok-bounds.was a) (c.seven_lines.ensures.written (lines_room f x c.in_ok-bounds.was c.args.buffer.now c.requires))
+    stands (lines_report f x c.in_ok-bounds.was a) (landed (search rules) (c.seven_lines.ensures.written (lines_room f x c.in_ok-bounds.was c.args.buffer.now c.requires)))

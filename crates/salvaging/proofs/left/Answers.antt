@@ -3,6 +3,8 @@ use Rattle.std.proofs.lemmas.Result.{err_from_is_err_and}
 use Rattle.meaning.specs.Salvage.{verdict}
 use Rattle.chainfile.specs.Input.{input}
 use Rattle.salvaging.specs.Holds.{InWhole}
+use Rattle.text.proofs.Paging.{landed}
+use Rattle.salvaging.proofs.Lined.{left_room}
 use Rattle.salvaging.proofs.Printed.{lines_fit, left_printed, left_refusal}
 use Rattle.salvaging.proofs.left.Goals as goal
 
@@ -10,11 +12,6 @@ use Rattle.salvaging.proofs.left.Goals as goal
 refused : {T E : Type 0} (r : Result T E) → ((t : T) → r ≡ Ok t → ⊥) → (e : E) × (r ≡ Err e)
 refused (Ok t) n = absurd (n t refl)
 refused (Err e) n = (e, refl)
-
-pub left_lines-requires : goal.left_lines-requires
-left_lines-requires c =
-    let q : c.bounds_left.result ≡ Ok c.in_ok-bounds.bounds = search (rules, c.in_ok-bounds.ensures.cases) in
-    record { room = c.requires.room; fits = lines_fit c.requires.holds.1 c.bounds_left.ensures q c.missing-short.ensures }
 
 pub returns-in_err-bounds : goal.returns-in_err-bounds
 returns-in_err-bounds c = λ more h some.
@@ -27,4 +24,6 @@ returns-in_err-bounds c = λ more h some.
 pub returns : goal.returns
 returns c = λ more h some.
     let q : c.bounds_left.result ≡ Ok c.in_ok-bounds.bounds = search (rules, c.in_ok-bounds.ensures.cases) in
-    left_printed h c.bounds_left.ensures q c.missing-short.ensures some c.left_lines.ensures
+    let fits = lines_fit h c.bounds_left.ensures q c.missing-short.ensures in
+    left_printed h c.bounds_left.ensures q c.missing-short.ensures some
+    (landed (search rules) (c.left_lines.ensures.written (left_room c.args.buffer.now fits c.requires.room)))

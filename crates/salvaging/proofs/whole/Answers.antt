@@ -1,5 +1,8 @@
+use native.Mathlib.Omega.{arith}
 use mathlib.Core.Path.{refl}
+use borrow.Author.Rules.{rules}
 use Rattle.std.proofs.lemmas.Result.{err_from_is_err_and}
+use Rattle.text.proofs.Paging.{landed}
 use Rattle.salvaging.proofs.Printed.{whole_line, whole_refusal}
 use Rattle.salvaging.proofs.whole.Goals as goal
 
@@ -9,4 +12,6 @@ returns-in_err-bounds c = λ f accepted e.
     rw (p.1, p.2) (whole_refusal accepted e _ c.in_err-bounds.ensures, refl)
 
 pub returns : goal.returns
-returns c = λ f accepted e. whole_line accepted e c.in_ok-bounds.ensures c.bounds_line.ensures
+returns c = λ f accepted e.
+    let line = c.bounds_line.ensures in
+    whole_line accepted e c.in_ok-bounds.ensures (landed (search rules) (line.0.written (omega (arith, c.requires, line.1))))

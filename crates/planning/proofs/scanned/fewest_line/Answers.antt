@@ -13,7 +13,7 @@ use Rattle.planning.proofs.scanned.fewest_line.Goals as goal
 pub plan_line-requires : goal.plan_line-requires
 plan_line-requires c =
     let pre = c.requires in
-    (subst Sensible (sym c.with_copies.ensures) (sensible_copies pre.0 pre.1 (search rules)), omega (arith, pre.2))
+    subst Sensible (sym c.with_copies.ensures) (sensible_copies pre.0 pre.1 (search rules))
 
 pub returns-then-fewest-le-COPIES : goal.returns-then-fewest-le-COPIES
 returns-then-fewest-le-COPIES c =
@@ -24,7 +24,7 @@ returns-then-fewest-le-COPIES c =
 pub plan_line-requires-2 : goal.plan_line-requires-2
 plan_line-requires-2 c =
     let pre = c.requires in
-    (subst Sensible (sym c.with_copies-2.ensures) (sensible_copies pre.0 (omega arith) (omega arith)), omega (arith, pre.2))
+    subst Sensible (sym c.with_copies-2.ensures) (sensible_copies pre.0 (omega arith) (omega arith))
 
 pub returns : goal.returns
 returns c =

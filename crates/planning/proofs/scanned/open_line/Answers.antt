@@ -5,7 +5,7 @@ use Rattle.planning.proofs.scanned.open_line.Goals as goal
 pub returns-then-first-fewest : goal.returns-then-first-fewest
 returns-then-first-fewest c =
     let a = c.args in
-    open_told a.fewest a.first c.requires (search rules) (search rules) c.named-end.ensures c.put.ensures
+    open_told a.fewest a.first (search rules) (search rules) c.named.ensures c.put.ensures
 
-pub returns : goal.returns
-returns c = open_none c.args.fewest c.args.first c.requires (search rules)
+pub returns-else-first-fewest : goal.returns-else-first-fewest
+returns-else-first-fewest c = open_none c.args.fewest c.args.first (search rules)

@@ -1,7 +1,12 @@
 use native.Mathlib.Omega.{arith}
+use mathlib.Core.Path.{refl}
 use borrow.Author.Rules.{rules}
 use Rattle.meaning.specs.PlanTable.{PlanTable}
-use Rattle.report.proofs.Refusals.{printed, short, number_told}
+use Rattle.report.proofs.Refusals.{stands, printed, short, number_told}
+use Rattle.text.proofs.Paging.{landed}
+use Rattle.planning.specs.Told.{told_weights}
+use Rattle.planning.specs.Line.{chances_of}
+use Rattle.planning.proofs.Tabling.{chances}
 use Rattle.planning.proofs.tabled.table.Goals as goal
 
 pub returns-then-buffer-lt-TABLE_ROOM : goal.returns-then-buffer-lt-TABLE_ROOM
@@ -15,7 +20,10 @@ returns-then-wrong-ne0 c =
     (λ t e. PlanTable.refused _ _ (weighed.ensures.wrong (search rules)) e) answer.ensures
 
 pub rows-requires : goal.rows-requires
-rows-requires c = (c.weighed-wrong.ensures.serve (search rules), search rules)
+rows-requires c = c.weighed-wrong.ensures.serve (search rules)
 
 pub returns : goal.returns
-returns c = printed (search rules) c.rows.ensures
+returns c =
+    let x = told_weights c.args.w in
+    let told = PlanTable.told (c.weighed-wrong.ensures.serve (search rules)) (chances_of x) (chances x) refl in
+    printed (search rules) (stands told (landed (search rules) (c.rows.ensures.fitted (search rules)).written))

@@ -1,6 +1,6 @@
 use borrow.Author.Rules.{rules}
 use borrow.Author.Tests.{eq-eqb, ne_eqb}
-use Rattle.text.proofs.Putting.{one}
+use Rattle.text.proofs.Paging.{one}
 use Rattle.report.proofs.print.answer.Goals as goal
 
 pub returns-then-a-ne0 : goal.returns-then-a-ne0

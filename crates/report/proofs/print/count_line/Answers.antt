@@ -1,6 +1,6 @@
-use Rattle.text.proofs.Putting.{then}
+use Rattle.text.proofs.Paging.{then}
 use Rattle.report.proofs.print.count_line.Goals as goal
 
 pub returns : goal.returns
 returns c =
-    then c.named-end.ensures c.put.ensures
+    then c.named.ensures c.put.ensures

@@ -1,6 +1,6 @@
-use Rattle.text.proofs.Putting.{and}
+use Rattle.text.proofs.Paging.{and}
 use Rattle.report.proofs.print.count_lines.Goals as goal
 
 pub returns : goal.returns
 returns c =
-    and (and (and c.count_line-second.ensures c.count_line-third.ensures) c.count_line-fourth.ensures) c.count_line.ensures
+    and (and (and c.count_line.ensures c.count_line-2.ensures) c.count_line-3.ensures) c.count_line-4.ensures

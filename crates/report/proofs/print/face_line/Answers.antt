@@ -1,6 +1,6 @@
-use Rattle.text.proofs.Putting.{one, and, then}
+use Rattle.text.proofs.Paging.{one, and, then}
 use Rattle.report.proofs.print.face_line.Goals as goal
 
 pub returns : goal.returns
 returns c =
-    then (and (then (then (one c.put-first.ensures) c.number-second.ensures) c.put-third.ensures) c.answer-end.ensures) c.put.ensures
+    then (and (then (then (one c.put.ensures) c.number.ensures) c.put-2.ensures) c.answer.ensures) c.put-3.ensures

@@ -4,7 +4,7 @@ use lib.ListN.{length, length-append}
 use borrow.Author.Rules.{rules}
 use Rattle.meaning.specs.Report.{fraction_text}
 use Rattle.theory.specs.Numbers.Decimal.{digits}
-use Rattle.octets.proofs.Storing.{stored}
+use Rattle.text.proofs.Paging.{one}
 use Rattle.salvaging.proofs.print.bounds_line.Goals as goal
 use Rattle.salvaging.proofs.print.bounds_line.Goals.{Start}
 
@@ -22,4 +22,4 @@ returns c =
     let b = c.args.bounds in
     let lower : length (fraction_text b.lower.numerator b.lower.denominator) ≤ 41 = fraction_wide _ _ p q in
     let upper : length (fraction_text b.upper.numerator b.upper.denominator) ≤ 41 = fraction_wide _ _ u t in
-    stored (simp length-append (omega (arith, c.requires, simp length-append at lower, simp length-append at upper))) c.bounds_line.ensures
+    (one c.bounds_line.ensures, simp length-append (omega (arith, simp length-append at lower, simp length-append at upper)))

@@ -1,7 +1,5 @@
-use Rattle.text.proofs.Putting.{sure, and}
-use Rattle.salvaging.proofs.Lined.{left_room}
+use Rattle.text.proofs.Paging.{and}
 use Rattle.salvaging.proofs.print.left_lines.Goals as goal
 
 pub returns : goal.returns
-returns c =
-    (and (and (sure c.bounds_line-first.ensures) c.number_lines-second.ensures) c.number_lines.ensures).written (left_room c.args.buffer.now c.requires.fits c.requires.room)
+returns c = and (and c.bounds_line.ensures.0 c.number_lines.ensures) c.number_lines-2.ensures

@@ -5,4 +5,4 @@ pub loop-i-init : goal.loop-i-init
 loop-i-init c = none_lined c.args.word.now c.args.numbers.now
 
 pub loop-i-preserved : goal.loop-i-preserved
-loop-i-preserved c = more_lined c.args.word.now c.args.numbers.now c.loop-i.i c.loop-i.invariant c.number_line-next.ensures
+loop-i-preserved c = more_lined c.args.word.now c.args.numbers.now c.loop-i.i c.loop-i.invariant c.number_line.ensures

@@ -4,11 +4,11 @@ use Rattle.showing.proofs.Printing.{numbers_none, numbers_next, numbers_all}
 use Rattle.showing.proofs.print.order_numbers.Goals as goal
 
 pub loop-state-init : goal.loop-state-init
-loop-state-init c = let a = c.args in numbers_none a.buffer.now a.at a.order.now (search rules)
+loop-state-init c = numbers_none c.args.order.now
 
 pub loop-state-preserved : goal.loop-state-preserved
 loop-state-preserved c =
-    numbers_next c.loop-state.state-index c.args.order.now (search rules) (omega (arith, c.type_inv.order c.loop-state.state-index)) (search rules) c.loop-state.invariant c.named-next.ensures
+    numbers_next c.loop-state.state-index c.args.order.now (search rules) (omega (arith, c.type_inv.order c.loop-state.state-index)) c.loop-state.invariant c.named.ensures
 
 pub returns : goal.returns
 returns c = numbers_all c.loop-state.state-index c.args.order.now (search rules) c.loop-state.invariant

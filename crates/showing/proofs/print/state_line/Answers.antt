@@ -1,14 +1,14 @@
 use mathlib.Core.Bool.{true, false}
 use borrow.Author.Rules.{rules}
-use Rattle.showing.proofs.Printing.{state_put, as_state}
+use Rattle.showing.proofs.Printing.{name, and, state_put}
 use Rattle.showing.proofs.print.state_line.Goals as goal
 
 pub returns-then-holds : goal.returns-then-holds
 returns-then-holds c =
-    as_state c.args.i c.at.ensures c.at-2.ensures c.if-holds.ensures
-    (state_put (search rules) (search rules) (search rules) (search rules) c.named-second.ensures c.named-third.ensures c.named-fourth.ensures true c.put.ensures)
+    let numbers = and (and (name (search rules) c.named.ensures) (name (search rules) c.named-2.ensures)) (name (search rules) c.named-3.ensures) in
+    rw (← c.at.ensures, ← c.at-2.ensures, ← c.if-holds.ensures) (state_put true numbers c.put.ensures)
 
 pub returns-else-holds : goal.returns-else-holds
 returns-else-holds c =
-    as_state c.args.i c.at.ensures c.at-2.ensures c.if-holds.ensures
-    (state_put (search rules) (search rules) (search rules) (search rules) c.named-second.ensures c.named-third.ensures c.named-fourth.ensures false c.put-else-holds.ensures)
+    let numbers = and (and (name (search rules) c.named.ensures) (name (search rules) c.named-2.ensures)) (name (search rules) c.named-3.ensures) in
+    rw (← c.at.ensures, ← c.at-2.ensures, ← c.if-holds.ensures) (state_put false numbers c.put-else-holds.ensures)

@@ -1,5 +1,5 @@
 -- Each call of itself is for a smaller number.
-use Rattle.text.proofs.store.+decimal.Given as goal
+use Rattle.text.proofs.page.Page.+decimal.Given as goal
 
 abbrev pub decreases-decimal : goal.decreases-decimal
 decreases-decimal l = l.x
