@@ -3,17 +3,18 @@ use mathlib.Core.Path.{◌≡◌, refl, sym, ap, ◌∙◌}
 use mathlib.Core.Logic.{dite, ⊎_elim}
 use mathlib.Core.Bool.{Bool, true, false}
 use mathlib.Core.List.{List, ◌++◌}
-use Prim.Native.Nat.{ℕ, ◌+◌, ◌-◌, ◌*◌, ◌≤◌, ◌<◌}
+use Prim.Native.Nat.{ℕ, ◌+◌, ◌-◌, ◌*◌, ◌≤◌, ◌<◌, min}
 use native.Mathlib.Nat.{mul-le-mul_right, mul-one, mul-zero}
 use native.Mathlib.Numerals.{add-one}
 use native.Mathlib.Decide.{dec_lt}
 use native.Mathlib.Omega.{arith}
+use Rattle.std.proofs.Math.Nat.{min-eq_left}
 use lib.Dec.{eqb}
 use lib.ListN.{length, get_or, take, drop, set, replicate, length-set, length-append, length-drop, length-replicate, get_or-replicate, take-append-drop, get_or-append}
 use lib.Seq.{length-take-le, get_or-take, ext_get_or, drop_at, get_or-set_same, get_or-set_other, take-set-le, take-set-lt, drop-set-lt, drop-set-add}
 use borrow.Author.Tests.{eq-eqb, ne_eqb}
 use Rattle.meaning.specs.Number.{sum_to, only, bit}
-use Rattle.meaning.specs.Chain.{M, edge_count, from, to, weight, carried, flow, row_sum}
+use Rattle.meaning.specs.Chain.{most_states, M, edge_count, from, to, weight, carried, flow, row_sum}
 use Rattle.meaning.specs.Row.{Row, cell, width}
 use Rattle.meaning.specs.Refusal.{work_size}
 use Rattle.meaning.specs.Step.{Sets}
@@ -60,6 +61,12 @@ fresh_zeros m w h z =
     ext_get_or 0 (take m w) (replicate m 0) (l ∙ sym r)
     (λ q b. let c : q < m = omega (arith, l) in get_or-take m w q 0 c ∙ z q ∙ sym (get_or-replicate m q 0 0 c)) in
     sym (take-append-drop m w) ∙ ap (λ (x : List ℕ). x ++ drop m w) e
+
+-- A work table with room for n rows, of which as much was made zero as it has room for.
+pub zeros_whole : (n : ℕ) (w : List ℕ) {v : List ℕ} → n ≤ most_states → work_size n ≤ length w
+    → (n ≤ most_states → v ≡ replicate (min (work_size n) (length w)) 0 ++ drop (min (work_size n) (length w)) w)
+    → v ≡ replicate (work_size n) 0 ++ drop (work_size n) w
+zeros_whole n w f r e = rw (min-eq_left r) at (e f)
 
 -- The work table w once its table is zero.
 module _ (n : ℕ) (w v : List ℕ) (room : work_size n ≤ length w) (e : v ≡ replicate (work_size n) 0 ++ drop (work_size n) w) where

@@ -1,11 +1,14 @@
 -- A list whose middle, from a on and up to e, was lent and has come back as ys.
-use Prim.Native.Nat.{ℕ, ◌+◌, ◌-◌, ◌≤◌, ◌<◌}
+use Prim.Native.Nat.{ℕ, ◌+◌, ◌-◌, ◌≤◌, ◌<◌, min}
 use mathlib.Core.Path.{◌≡◌, sym, ap, ◌∙◌}
 use mathlib.Core.Logic.{dite}
 use mathlib.Core.List.{List, ◌++◌}
 use native.Mathlib.Decide.{dec_lt}
 use native.Mathlib.Omega.{arith}
 use lib.ListN.{length, get_or, take, drop, replicate, get_or-append, get_or-eq_default}
+use Rattle.std.proofs.Math.Nat.{min-eq_left, min-eq_right}
+use Rattle.std.proofs.Math.Seq.{take-length}
+use Rattle.std.proofs.lemmas.List.{take_all}
 use lib.Seq.{get_or-append-add, get_or-take, get_or-drop, length-take-le, take-append_seam, drop_at}
 use Rattle.theory.specs.Numbers.Tab.{get_d_zeros}
 use borrow.Rule.Slice.PartMut.{mid_of, post_of, put_mid, mid_len, take_put, drop_put, same_len_mid}
@@ -54,3 +57,19 @@ copied x l t e z j =
     ∙ get_or-drop (length l) (replicate 68 0) (j - length l) 0
     ∙ get_d_zeros 68 (length l + (j - length l))
     ∙ sym (get_or-eq_default l 0 p)))
+
+-- A list of which the numbers up to the 68th were copied to the front of zeros.
+pub copied_front : (x l t : List ℕ) (m : ℕ) → m ≡ min (length l) 68 → x ≡ take m l → t ≡ replicate 68 0 → (j : ℕ) → get_or (x ++ drop m t) j 0 ≡ get_or (take 68 l) j 0
+copied_front x l t m k e z j =
+    dite (dec_lt 68 (length l))
+    (λ h.
+    let p : m ≡ 68 = k ∙ min-eq_right {n = 68} {m = length l} (omega arith) in
+    let c = copied x (take 68 l) t (rw p at e) z j in
+    rw p (rw (length-take-le 68 l (omega arith)) at c))
+    (λ h.
+    let p : m ≡ length l = k ∙ min-eq_left {n = length l} {m = 68} (omega arith) in
+    rw (p, take_all 68 l (omega arith)) (copied x l t ((rw p at e) ∙ take-length l) z j))
+
+-- What was copied of a list that has no more.
+pub loaded : (l x : List ℕ) → length l ≤ 68 → ((j : ℕ) → get_or x j 0 ≡ get_or (take 68 l) j 0) → (j : ℕ) → get_or x j 0 ≡ get_or l j 0
+loaded l x h e j = rw (take_all 68 l h) at (e j)

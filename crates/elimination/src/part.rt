@@ -1,5 +1,5 @@
 // A packed row that is read: where its numbers stand in its own part of the work table, and the weight to a state.
-ghost use Rattle.std.specs.Prelude.{◌≡◌, ℕ, ◌≤◌, ◌<◌, length, get_or};
+ghost use Rattle.std.specs.Prelude.{◌≡◌, ℕ, ◌≤◌, ◌<◌, length, take, get_or};
 ghost use Rattle.meaning.specs.Chain.{most_states};
 ghost use Rattle.meaning.specs.Row.{width};
 ghost use Rattle.elimination.specs.Packed.{end_of_part, weight_of, Spread};
@@ -53,12 +53,12 @@ pub(crate) fn spread(part: &[u64]) -> [u64; Chain::WIDTH]
     wide
 }
 
-// A copy of some numbers of the work table.
+// A copy of some numbers of the work table, as many as the largest row has.
 pub fn load(part: &[u64]) -> [u64; Chain::WIDTH]
-    requires { length part.now ≤ width most_states }
-    ensures { (j : ℕ) → get_or result j 0 ≡ get_or part.now j 0 }
+    ensures { (j : ℕ) → get_or result j 0 ≡ get_or (take (width most_states) part.now) j 0 }
 {
+    let m = part.len().min(Chain::WIDTH);
     let mut p = [0u64; Chain::WIDTH];
-    p[..part.len()].copy_from_slice(part);
+    p[..m].copy_from_slice(&part[..m]);
     p
 }

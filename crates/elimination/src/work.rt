@@ -1,17 +1,17 @@
 // The work table: where its rows begin, and how it is made zero.
-ghost use Rattle.std.specs.Prelude.{◌≡◌, ◌++◌, ◌+◌, ◌*◌, ◌≤◌, ◌<◌, length, drop, replicate};
+ghost use Rattle.std.specs.Prelude.{◌≡◌, ◌++◌, ◌+◌, ◌*◌, ◌^◌, ◌%◌, ◌≤◌, ◌<◌, min, length, drop, replicate};
 ghost use Rattle.meaning.specs.Chain.{most_states};
 ghost use Rattle.meaning.specs.Row.{width};
 ghost use Rattle.meaning.specs.Refusal.{work_size};
 
 use chain::Chain;
 
-// Where row i of the table begins. It ends within the table.
+// Where row i of the table of n rows begins: it ends within the table. Of other numbers it is the product, modulo 2 ^ 64, which costs no test.
 pub fn row_start(n: usize, i: usize) -> usize
-    requires { (i < n) × (n ≤ most_states) }
-    ensures { (result ≡ i * width n) × (result + width n ≤ work_size n) }
+    ensures row { i < n → n ≤ most_states → (result ≡ i * width n) × (result + width n ≤ work_size n) }
+    ensures product { result ≡ i * (width n % 2 ^ 64) % 2 ^ 64 }
 {
-    i * (n + Chain::BESIDE)
+    i.wrapping_mul(n.wrapping_add(Chain::BESIDE))
 }
 
 // Makes a part of the table zero.
@@ -21,11 +21,15 @@ pub fn clear(part: &mut [u64])
     part.fill(0);
 }
 
-// Makes the table of n rows zero. The numbers past it stay.
+// Makes the table of n rows zero, or all that is lent where that is less. The numbers past it stay; no table has more rows than a chain has states.
 pub fn clear_work(work: &mut [u64], n: usize)
-    requires { (n ≤ most_states) × (work_size n ≤ length work.old) }
-    ensures { work.new ≡ replicate (work_size n) 0 ++ drop (work_size n) work.old }
+    ensures table { let m = min (work_size n) (length work.old) in
+        n ≤ most_states → work.new ≡ replicate m 0 ++ drop m work.old }
+    ensures none { most_states < n → work.new ≡ work.old }
 {
-    let m = n * (n + Chain::BESIDE);
-    clear(&mut work[..m]);
+    if n <= Chain::STATES {
+        let m = n * (n + Chain::BESIDE);
+        let m = m.min(work.len());
+        clear(&mut work[..m]);
+    }
 }

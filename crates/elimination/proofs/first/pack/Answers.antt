@@ -1,12 +1,13 @@
-use Prim.Native.Nat.{◌≤◌}
+use Prim.Native.Nat.{ℕ, ◌≤◌}
 use mathlib.Core.Path.{◌≡◌, refl, sym, ◌∙◌}
 use native.Mathlib.Omega.{arith}
-use lib.ListN.{length, take, length-set}
+use lib.ListN.{length, get_or, take, length-set}
 use lib.Seq.{length-take-le}
 use Rattle.elimination.specs.Packed.{weights_at, states_of}
+use Rattle.elimination.proofs.Middle.{loaded}
 use Rattle.elimination.proofs.Packing.{fronted, none_columns, occupied_columns, occupied_room, packed_from}
 use Rattle.elimination.proofs.first.pack.Goals as goal
-use Rattle.elimination.proofs.first.pack.Goals.{After-clear, After-weights-t, Start}
+use Rattle.elimination.proofs.first.pack.Goals.{After-clear, After-load-x, After-weights-t, Start}
 
 pub overflow_sub-n : goal.overflow_sub-n
 overflow_sub-n c = let h = c.requires.1 in omega (arith, h.room)
@@ -24,8 +25,9 @@ occupied-all-requires c = omega (arith, c.requires.1.few, taken (goal.at.occupie
 pub slice_bounds-load-end-2 : goal.slice_bounds-load-end-2
 slice_bounds-load-end-2 c = sym (taken (goal.at.slice_bounds-load-end-2 c).Start)
 
-pub load-x-requires : goal.load-x-requires
-load-x-requires c = omega (arith, c.requires.1.few, taken (goal.at.load-x-requires c).Start)
+-- The columns of the states, as they were copied.
+columns : (c : After-load-x) → (j : ℕ) → get_or c.load-x.result j 0 ≡ get_or (take (states_of c.args.part.now) c.args.part.now) j 0
+columns c = loaded _ _ (omega (arith, c.requires.1.few, length-take-le (states_of c.args.part.now) c.args.part.now (omega arith))) c.load-x.ensures
 
 -- The part has room for all numbers before the weights.
 room : (c : After-clear) → weights_at ≤ length c.clear.new.part
@@ -44,7 +46,7 @@ pub weights-t-requires : goal.weights-t-requires
 weights-t-requires c =
     let h = c.requires.1 in
     let a = fronted c.args.earns c.args.part.now c.clear.ensures (omega (arith, h.room)) in
-    let copy = c.load-x.ensures in (
+    let copy = columns (goal.at.weights-t-requires c).After-load-x in (
       omega (arith, a.len, occupied_room h c.load-x.result copy c.occupied-all.ensures),
       omega arith,
       omega arith,
@@ -69,4 +71,4 @@ pub returns : goal.returns
 returns c =
     let h = c.requires.1 in
     let a = fronted c.args.earns c.args.part.now c.clear.ensures (omega (arith, h.room)) in
-    packed_from h c.load-x.result c.load-x.ensures a c.weights-t.ensures refl
+    packed_from h c.load-x.result (columns (goal.at.returns c).After-load-x) a c.weights-t.ensures refl

@@ -8,11 +8,11 @@ pub overflow_add-work : goal.overflow_add-work
 overflow_add-work c =
     let a = c.args in
     let h = c.requires in
-    rw c.row_start.ensures.0 (omega (arith, h.4, sym (row_cell a.n a.work.now a.i a.j h.3)))
+    rw (c.row_start.ensures.row h.2 (omega arith)).0 (omega (arith, h.4, sym (row_cell a.n a.work.now a.i a.j h.3)))
 
 pub returns : goal.returns
 returns c =
     let a = c.args in
     let h = c.requires in
-    rw (c.row_start.ensures.0, sym (row_cell a.n a.work.now a.i a.j h.3))
+    rw ((c.row_start.ensures.row h.2 (omega arith)).0, sym (row_cell a.n a.work.now a.i a.j h.3))
     (changed_cell a.n a.work.now a.i h.2 a.j h.3 _)

@@ -20,7 +20,7 @@ loop-i-preserved c =
     let w = a.work.now in
     let h = c.requires in
     let e : targets_of (part_at a.n w i) ≡ get_or w c.row_start.result 0 =
-    row_cell a.n w i 0 (omega arith) ∙ ap (λ q. get_or w q 0) (omega (arith, c.row_start.ensures.0)) in
+    row_cell a.n w i 0 (omega arith) ∙ ap (λ q. get_or w q 0) (omega (arith, (c.row_start.ensures.row b h.0).0)) in
     (counting_more z.0 (rw (row_is a.n w i b, present_bit (h.3 i b) a.s h.2, e) c.counted-rows.ensures), omega arith)
 
 pub returns : goal.returns

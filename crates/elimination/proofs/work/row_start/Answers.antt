@@ -1,14 +1,14 @@
-use mathlib.Core.Path.{refl}
+use mathlib.Core.Path.{◌≡◌, refl}
+use Prim.Native.Nat.{◌+◌, ◌*◌, ◌%◌, ◌^◌}
 use native.Mathlib.Nat.{mul-le-mul}
 use native.Mathlib.Omega.{arith}
+use Rattle.std.proofs.Math.Nat.{mod-eq_of_lt}
 use Rattle.elimination.proofs.Tables.{row_end}
 use Rattle.elimination.proofs.work.row_start.Goals as goal
 
-pub overflow_mul-result : goal.overflow_mul-result
-overflow_mul-result c =
+pub returns-clause-row : goal.returns-clause-row
+returns-clause-row c = λ b f.
     let a = c.args in
-    let h = c.requires in
-    omega (arith, row_end a.i a.n h.0, mul-le-mul h.1 h.1)
-
-pub returns : goal.returns
-returns c = let a = c.args in (refl, row_end a.i a.n c.requires.0)
+    let e : (a.n + 4) % 2 ^ 64 ≡ a.n + 4 = mod-eq_of_lt (omega (arith, f)) in
+    let p : a.i * (a.n + 4) % 2 ^ 64 ≡ a.i * (a.n + 4) = mod-eq_of_lt (omega (arith, row_end a.i a.n b, mul-le-mul f f)) in
+    rw (e, p) (refl, row_end a.i a.n b)

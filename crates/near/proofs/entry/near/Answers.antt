@@ -5,6 +5,7 @@ use Rattle.meaning.specs.Miss.{MissOutcome}
 use Rattle.meaning.specs.Outcome.{refused, answered}
 use Rattle.chain.specs.Given.{with}
 use Rattle.look.proofs.Refuse.{handed}
+use Rattle.elimination.proofs.Cells.{zeros_whole}
 use Rattle.elimination.proofs.Follow.{cleared_kept}
 use Rattle.elimination.proofs.Tables.{kept_more}
 use Rattle.near.specs.Answer.{told_near, told_miss}
@@ -31,11 +32,6 @@ follow-found-requires c =
     let g = c.args.g.now in
     (g.denominators.now, (g.edges.now, starts (goal.at.follow-found-requires c).In_ok-sets))
 
-pub clear_work-requires : goal.clear_work-requires
-clear_work-requires c =
-    let b = starts (goal.at.clear_work-requires c).In_ok-sets in
-    (b.walks.few, omega (arith, b.room, c.follow-found.ensures.0.len))
-
 pub returns-in_err-sets : goal.returns-in_err-sets
 returns-in_err-sets c =
     let l = lends (goal.at.returns-in_err-sets c).Start in
@@ -49,5 +45,7 @@ returns c =
     let l = lends (goal.at.returns c).Start in
     let f = laid_rows {l = l} c.lay.ensures c.in_ok-sets.was in
     let r = c.follow-found.ensures.1 a.g.now.denominators.now a.g.now.edges.now (starts (goal.at.returns c).In_ok-sets) in
-    let zero = cleared_kept l (kept_more f.2.kept c.follow-found.ensures.0) c.clear_work.ensures in
+    let b = starts (goal.at.returns c).In_ok-sets in
+    let z = zeros_whole _ _ b.walks.few (omega (arith, b.room, c.follow-found.ensures.0.len)) c.clear_work.ensures.table in
+    let zero = cleared_kept l (kept_more f.2.kept c.follow-found.ensures.0) z in
     (answered f.0 (λ _ _ s. s) (near_lent r.0) zero, answered f.0 (λ _ _ s. s) (miss_lent r.1) zero)

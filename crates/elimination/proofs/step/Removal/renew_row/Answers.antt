@@ -16,7 +16,7 @@ targets : (c : After-changes) → let a = c.args in targets_of (part_at a.self.n
 targets c =
     let a = c.args in
     let w = a.work.now in
-    row_cell a.self.now.n w a.i 0 (omega arith) ∙ ap (λ q. get_or w q 0) (omega (arith, c.row_start-a.ensures.0))
+    row_cell a.self.now.n w a.i 0 (omega arith) ∙ ap (λ q. get_or w q 0) (omega (arith, (c.row_start-a.ensures.row c.requires.1 (omega arith)).0))
 
 pub returns-then-not-changes : goal.returns-then-not-changes
 returns-then-not-changes c =
@@ -32,7 +32,7 @@ renew-requires c =
     let h = c.requires in
     let w = a.work.now in
     let t : ChangedBy s.s a.i (targets_of (part_at s.n w a.i)) = rw (targets (goal.at.renew-requires c).After-changes) (holds _ c.changes.ensures c.if-not-changes.false) in
-    rw (lent s.n a.i _ c.row_start-a.ensures.0 w)
+    rw (lent s.n a.i _ (c.row_start-a.ensures.row h.1 s.few).0 w)
     (h.2, h.3, rw (length_row s.n w h.0 a.i h.1) h.4, λ o. ⊎_elim (λ (e : a.i ≡ s.s). absurd (eqb-false _ _ o e)) (λ t. t) t)
 
 pub returns : goal.returns
@@ -41,5 +41,5 @@ returns c =
     let s = a.self.now in
     let h = c.requires in
     let w = a.work.now in
-    let at = c.row_start-a.ensures.0 in
+    let at = (c.row_start-a.ensures.row h.1 s.few).0 in
     row_placed s.n w h.0 a.i h.1 _ at (rw (lent s.n a.i _ at w) at c.renew.ensures)
