@@ -34,6 +34,20 @@ pub struct Answer {
     pub denominator: u64,
 }
 
+impl Answer {
+    // A refusal by any number, at any place, whether it is a fault of this library or not.
+    pub fn refusal(number: u32, place: usize) -> Answer
+        ensures { Tells result (refusal number place) }
+    {
+        Answer {
+            number,
+            place,
+            numerator: 0,
+            denominator: 0,
+        }
+    }
+}
+
 impl From<Fraction> for Answer {
     ghost from_gives = { λ f a. Tells a (fraction f.numerator f.denominator) };
 
@@ -51,12 +65,7 @@ impl From<Refusal> for Answer {
     ghost from_gives = { λ r a. Tells a (refusal (number_of r.fault) r.place) };
 
     fn from(r: Refusal) -> Answer {
-        Answer {
-            number: r.fault.number(),
-            place: r.place,
-            numerator: 0,
-            denominator: 0,
-        }
+        Answer::refusal(r.fault.number(), r.place)
     }
 }
 

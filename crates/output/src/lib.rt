@@ -52,13 +52,7 @@ pub fn fail<P: Write>(people: &mut P, what: &[u8], why: Error) {
 // Writes the line of a refusal for people, for programs whose standard output is a file.
 pub fn complain<P: Write>(people: &mut P, number: u32, place: usize) {
     let mut line = [0u8; report::ANSWER_ROOM];
-    let refused = Answer {
-        number,
-        place,
-        numerator: 0,
-        denominator: 0,
-    };
-    if let Ok(n) = report::answer(refused, &mut line) {
+    if let Ok(n) = report::answer(Answer::refusal(number, place), &mut line) {
         tell(people, &line[..n]);
     }
 }

@@ -40,10 +40,5 @@ pub(crate) fn weighed(w: Weights) -> Written
 pub(crate) fn refused(number: u32, place: u32) -> Answer
     ensures { told_answer result ≡ refusal number place }
 {
-    Answer {
-        number,
-        place: place as usize,
-        numerator: 0,
-        denominator: 0,
-    }
+    Answer::refusal(number, place as usize)
 }
