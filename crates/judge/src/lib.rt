@@ -37,7 +37,7 @@ fn begins(kept: &[u8], more: u64) -> Result<(), Refusal>
     }
     block::test(kept, 0)?;
     if total_wrong(kept, more) {
-        return Err(Refusal::from(Fault::BlockContent));
+        return Err(Refusal::at(Fault::BlockContent, 0));
     }
     Ok(())
 }

@@ -21,6 +21,6 @@ returns-in_err-test c =
 
 pub returns-then-total_wrong : goal.returns-then-total_wrong
 returns-then-total_wrong c =
-    let e = c.from-then-total_wrong.ensures in
+    let e = c.at.ensures in
     rw (e.0, e.1)
     (FrontRefused.total_wrong (whole (goal.at.returns-then-total_wrong c).Else-length_wrong) (c.in_ok-test.ensures c.args.more) (holds _ c.total_wrong.ensures c.if-total_wrong.true))
