@@ -18,11 +18,15 @@ pub fn count(edges: &[u64]) -> usize
     edges.len() / SIZE
 }
 
-// The number at place k of edge e, 0 past the end of the list. A place past all numbers of 64 bits is past the end too.
+// The number at place k of edge e, 0 past the end of the list. The first test keeps the product from wrapping, and in a loop over the edges the
+// compiler leaves both tests out.
 fn part(edges: &[u64], e: usize, k: usize) -> u64
     ensures { result ≡ get_or edges.now (edge_size * e + k) 0 }
 {
-    at(edges, e.saturating_mul(SIZE).saturating_add(k))
+    if count(edges) < e {
+        return 0;
+    }
+    at(&edges[SIZE * e..], k)
 }
 
 pub fn from(edges: &[u64], e: usize) -> u64
