@@ -4,19 +4,27 @@ use mathlib.Core.Path.{◌≡◌, refl, sym, ap, ap₂, ◌∙◌}
 use mathlib.Core.Logic.{⊎_elim}
 use mathlib.Core.List.{List, [], ◌∷◌, ◌++◌}
 use native.Mathlib.Omega.{arith}
-use native.Mathlib.Nat.{dvd_trans, pow-succ', mul-one}
+use native.Mathlib.Nat.{dvd_trans, zero-div, pow-succ', mul-one}
 use lib.Bits.{bit_or, or_step, or_add_and, and_le_r}
 use lib.Count.{count_trailing_zeros, under, trailing_le, ones, ones_step, ones-le}
 use lib.ListN.{length, get_or, take, drop}
 use Rattle.std.specs.List.{fold}
-use Rattle.meaning.specs.Number.{gcd}
+use Rattle.meaning.specs.Number.{gcd, bit}
 use Rattle.meaning.specs.Row.{gcd_of}
 use Rattle.theory.specs.Numbers.Sum.{same, below}
 use Rattle.theory.specs.Numbers.Gcd.{gcd_greatest, greatest_one, gcd_zero, gcd_step}
 use Rattle.theory.specs.Numbers.Twos.{gcd_scale, odd_twos}
-use Rattle.chain.specs.Rising.{Lowest}
-use Rattle.chain.proofs.Lowest.{gcd_one}
+use Rattle.theory.specs.Numbers.Bits.{in_one, bits_same}
+use Rattle.chain.specs.Rising.{Lowest, Others}
+use Rattle.chain.proofs.Lowest.{gcd_of_more, gcd_one}
 use Rattle.chain.proofs.Rising.{zeros_below, one_at}
+
+-- A number that is divided already leaves the divisor.
+pub gcd_of_stays : (l : List ℕ) (j g : ℕ) → 0 < j → j ≤ length l → g ≡ gcd_of (drop j l) → get_or l (j - 1) 0 % g ≡ 0 → g ≡ gcd_of (drop (j - 1) l)
+gcd_of_stays l j g h k e d =
+    let x = get_or l (j - 1) 0 in
+    let same : gcd x g ≡ g = gcd_step x g ∙ ap (gcd g) d ∙ gcd_zero g in
+    sym (gcd_of_more l j h k ∙ ap (gcd x) (sym e) ∙ same)
 
 -- A row of zeros.
 pub gcd_of_zeros : (l : List ℕ) → ((k : ℕ) → k < length l → get_or l k 0 ≡ 0) → gcd_of l ≡ 0
@@ -121,6 +129,22 @@ lowest_twos s t h k b =
     (below (count_trailing_zeros 64 s) t))
     (below t (count_trailing_zeros 64 s))
 
+-- A set that is empty without its lowest state is a power of two.
+pub alone_is_power : (s r : ℕ) → 0 < s → s < 2 ^ 64 → Others s r → r ≡ 0 → s ≡ 2 ^ count_trailing_zeros 64 s
+alone_is_power s r h k o z =
+    let t = count_trailing_zeros 64 s in
+    let one = one_at 64 s h k in
+    let b : Lowest s t = record { inside = one.0; least = zeros_below 64 s; small = one.1 } in
+    bits_same
+    (λ i.
+    ⊎_elim
+    (λ (e : i ≡ t). rw e (one.0 ∙ sym ((in_one t t).1 refl)))
+    (λ (d : i ≡ t → ⊥).
+    let none : bit r i ≡ 0 = rw (z, zero-div (2 ^ i)) in
+    let out : bit (2 ^ t) i ≡ 1 → ⊥ = λ q. d ((in_one t i).0 q) in
+    omega (arith, o.kept t b i d))
+    (same i t))
+
 -- A number with one digit 1 is a power of two.
 no_ones : (k n : ℕ) → n < 2 ^ k → ones n ≡ 0 → n ≡ 0
 no_ones zero n h e = omega arith
@@ -153,7 +177,8 @@ gcd_of_joined (x ∷ l) g =
     ∙ ap (λ z. gcd_of (l ++ z ∷ [])) (gcd_twos 64 x (count_trailing_zeros 64 g) (trailing_le 64 g) ∙ ap (λ z. 2 ^ z) fewer)
     ∙ gcd_of_joined l (bit_or g x)
 
-joined_some : (l : List ℕ) (g : ℕ) → 0 < g → 0 < fold bit_or g l
+-- What numbers are joined to stays above 0.
+pub joined_some : (l : List ℕ) (g : ℕ) → 0 < g → 0 < fold bit_or g l
 joined_some [] g h = h
 joined_some (x ∷ l) g h = joined_some l (bit_or g x) (omega (arith, or_add_and g x, and_le_r g x))
 

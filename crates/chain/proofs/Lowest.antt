@@ -1,10 +1,13 @@
 -- The divisor of a row, and the row divided.
 use mathlib.Core.Path.{◌≡◌, sym, ap, ◌∙◌}
 use mathlib.Core.Logic.{⊎_elim}
-use Prim.Native.Nat.{ℕ, ◌*◌, ◌/◌, ◌^◌, ◌≤◌, ◌<◌}
+use mathlib.Core.List.{List, [], ◌∷◌}
+use Prim.Native.Nat.{ℕ, zero, suc, ◌-◌, ◌*◌, ◌/◌, ◌^◌, ◌≤◌, ◌<◌}
 use native.Mathlib.Nat.{div-le_self, div-one, mul-div-le, mod-one, div-div-eq-div-mul}
+use native.Mathlib.Numerals.{sub-one}
 use native.Mathlib.Omega.{arith}
-use lib.Seq.{ext_get_or}
+use lib.ListN.{length, get_or, drop}
+use lib.Seq.{drop-cons, ext_get_or}
 use borrow.Author.Tests.{eq-eqb, ne_eqb}
 use Rattle.meaning.specs.Number.{sum_to, gcd}
 use Rattle.meaning.specs.Row.{Row, cell, gcd_of, divisor, over, lowest}
@@ -13,9 +16,22 @@ use Rattle.theory.specs.Numbers.Gcd.{gcd_zero, gcd_step}
 use Rattle.theory.specs.Numbers.Twos.{Twos}
 use Rattle.theory.specs.Rows.Terms.{over_cell, over_length}
 
+-- The divisor from a place on is that of the number there and of the divisor behind it.
+pub gcd_of_more : (l : List ℕ) (j : ℕ) → 0 < j → j ≤ length l → gcd_of (drop (j - 1) l) ≡ gcd (get_or l (j - 1) 0) (gcd_of (drop j l))
+unfolding gcd_of
+gcd_of_more l zero h g = absurd (omega arith)
+gcd_of_more l (suc j) h g = rw (sub-one, drop-cons l j 0)
+
 -- A divisor of 1 stays 1, whatever stands before it.
 pub gcd_one : (a : ℕ) → gcd a 1 ≡ 1
 gcd_one a = gcd_step a 1 ∙ rw (mod-one a) (gcd_zero 1)
+
+-- A row whose numbers from some place on have the divisor 1 has it itself.
+pub gcd_of_one : (j : ℕ) (l : List ℕ) → gcd_of (drop j l) ≡ 1 → gcd_of l ≡ 1
+unfolding gcd_of
+gcd_of_one zero l h = h
+gcd_of_one (suc j) [] h = h
+gcd_of_one (suc j) (x ∷ l) h = rw (gcd_of_one j l h) (gcd_one x)
 
 pub over_sum : (d : ℕ) (r : Row) (m : ℕ) → sum_to (cell (over d r)) m ≤ sum_to (cell r) m
 over_sum d r m = sum_le (cell (over d r)) (cell r) m (λ j h. omega (arith, over_cell d r j, div-le_self (cell r j) d))
