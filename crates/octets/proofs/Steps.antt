@@ -1,11 +1,12 @@
--- Steps of writing: a text that is put in, and two steps joined into one.
-use Prim.Native.Nat.{ℕ, ◌+◌, ◌-◌, ◌≤◌}
+-- Steps of writing: a text that is put in, one byte, and two steps joined into one.
+use Prim.Native.Nat.{ℕ, ◌+◌, ◌-◌, ◌≤◌, ◌<◌}
 use native.Mathlib.Nat.{zero-add}
+use native.Mathlib.Numerals.{add-one}
 use native.Mathlib.Omega.{arith}
-use mathlib.Core.Path.{◌≡◌, ap, ◌∙◌}
-use mathlib.Core.List.{List, ◌++◌, append_assoc}
-use lib.ListN.{length, take, drop, length-append, length-drop}
-use lib.Seq.{length-take-le, take_at, drop_at, drop-drop}
+use mathlib.Core.Path.{◌≡◌, refl, ap, ◌∙◌}
+use mathlib.Core.List.{List, [], ◌∷◌, ◌++◌, append_assoc}
+use lib.ListN.{length, take, drop, set, length-append, length-drop}
+use lib.Seq.{length-take-le, take_at, drop_at, drop-drop, set_split, append_snoc}
 use borrow.Rule.Slice.PartMut.{put_mid}
 use Rattle.octets.specs.Written.{Written}
 
@@ -18,6 +19,16 @@ put {before} {text} {bytes} {place} {next} past room is =
       past = past;
       room = room;
       bytes = rw (is, append_assoc, drop-drop (next - place) place before, e);
+    }
+
+-- One byte that is set at its place.
+pub one : (before : List ℕ) (place x : ℕ) → place < length before
+    → Written before place (x ∷ []) (set before place x) (place + 1)
+one before place x h =
+    record {
+      past = refl;
+      room = omega arith;
+      bytes = rw (set_split, append_snoc, add-one place);
     }
 
 -- A buffer keeps its length.
