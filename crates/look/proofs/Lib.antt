@@ -4,5 +4,6 @@ pub mod Seen
 pub mod Ordered
 pub mod Gather
 pub mod Lacking
+pub mod Wrongly
 pub mod Refuse
 pub mod Unique
