@@ -4,7 +4,7 @@ use mathlib.Core.Path.{◌≡◌, refl, sym, ap, ◌∙◌}
 use mathlib.Core.Logic.{◌⊎◌, inl, inr, ⊎_elim}
 use native.Mathlib.Omega.{arith}
 use native.Mathlib.Numerals.{add-one}
-use native.Mathlib.Nat.{mul_assoc, mul-one, div-lt_iff_lt-mul}
+use native.Mathlib.Nat.{mul_assoc, mul-one, div-lt_iff_lt-mul, div-eq_of_lt}
 use lib.Pow.{pow_pos, pow-add}
 use Rattle.meaning.specs.Near.{digits}
 use Rattle.meaning.specs.NearText.{figure, highest, grown, whole_part, tens_of, six_digits}
@@ -126,3 +126,13 @@ module _ {p k v left b whole : ℕ} (s : Six p k) (g : Growing p k v left b) (is
 
   pub growing_small : whole < 1000000
   growing_small = rw (here, fewest) (six_most p k s.some s.less)
+
+-- The whole part of a fraction tells whether it is 1 or more.
+module _ (p k : ℕ) {r : ℕ} (is : r ≡ p / 2 ^ k) where
+  -- A fraction whose whole part is not 0 is 1 or more.
+  pub whole_some : (r ≡ 0 → ⊥) → 2 ^ k ≤ p
+  whole_some h = ⊎_elim (λ (l : p < 2 ^ k). absurd (h (is ∙ div-eq_of_lt l))) (λ (l : 2 ^ k ≤ p). l) (below p (2 ^ k))
+
+  -- A fraction whose whole part is 0 is below 1.
+  pub whole_none : r ≡ 0 → p < 2 ^ k
+  whole_none z = let l : p / 2 ^ k < 1 = omega arith in omega (arith, (div-lt_iff_lt-mul {y = 1} (pow_pos k)).0 l)
