@@ -2,14 +2,14 @@
 use Prim.Native.Nat.{ℕ, ◌≤◌, ◌<◌}
 use mathlib.Core.Path.{◌≡◌, refl, sym, ◌∙◌}
 use mathlib.Core.Logic.{⊎_elim, inr}
-use mathlib.Core.Bool.{Bool, true, false}
+use mathlib.Core.Bool.{Bool, true, false, not}
 use mathlib.Core.List.{List}
 use native.Mathlib.Omega.{arith}
 use native.Mathlib.Nat.{mul-le-mul}
 use lib.Dec.{eqb}
 use lib.ListN.{get_or}
 use borrow.Author.Tests.{eqb-true, eqb-false}
-use Rattle.meaning.specs.Number.{bit}
+use Rattle.meaning.specs.Number.{bit, decides}
 use Rattle.meaning.specs.Chain.{M, Chain, denominator, flow}
 use Rattle.meaning.specs.Refusal.{Lent, bare, OutOfRange, WellFormed}
 use Rattle.meaning.specs.Judge.{numerator, Broken, goal_value, zero_value, equation, BrokenAt, NumeratorFault, right, wrong, refusal, InRange, JudgeOutcome, denominator_wrong, numerator_large, says_yes, says_no}
@@ -21,6 +21,14 @@ use Rattle.look.specs.Least.{Least}
 use Rattle.equations.specs.Carry.{Carries, Flows}
 use Rattle.equations.specs.Judge.{Differs, DiffersAt, Fits, Known}
 use Rattle.equations.proofs.Rounds.{carries}
+
+-- A comparison decides whether two numbers differ.
+pub differ : (a b : ℕ) → decides (a ≡ b → ⊥) (not (eqb a b))
+differ a b = go (eqb a b) refl
+  where
+    go : (t : Bool) → eqb a b ≡ t → decides (a ≡ b → ⊥) (not t)
+    go true e = λ n. n (eqb-true a b e)
+    go false e = eqb-false a b e
 
 module _ {l : Lent} {table : List ℕ} {good : ℕ} (known : Known l table good) where
   abbrev c : Chain
