@@ -1,7 +1,8 @@
 // A lent buffer and the place where the next piece goes. Where there is no room for a piece, the buffer stays and so does the place.
-ghost use Rattle.std.specs.Prelude.{◌+◌, ◌<◌, length};
+ghost use Rattle.std.specs.Prelude.{[], ◌∷◌, ◌+◌, ◌<◌, length};
 ghost use Rattle.meaning.specs.Number.{decides};
 ghost use Rattle.meaning.specs.Text.{decimal};
+ghost use Rattle.octets.specs.Written.{Room};
 ghost use Rattle.text.specs.Page.{Adds, Names, Prints};
 
 use crate::{DIGITS, digits};
@@ -30,14 +31,26 @@ impl Page<'_> {
         }
     }
 
-    // The digits of x / 10, and then the last digit.
+    // One digit, where there is room for it.
+    fn digit(&mut self, x: u64)
+        requires { (x < 10) × (self.old.at < length self.old.buffer.now) }
+        ensures { Prints self.old ((48 + x) ∷ []) self.new }
+    {
+        let at = self.at;
+        self.buffer[at] = b'0' + x as u8;
+        self.at = at + 1;
+    }
+
+    // The digits of x / 10, and then the last digit, where there is room for all of them: it is not asked for again at each.
     fn decimal(&mut self, x: u64)
+        requires { Room self.old.buffer.now self.old.at (decimal x) }
         ensures { Prints self.old (decimal x) self.new }
     {
-        if x >= 10 {
-            self.decimal(x / 10);
+        if x < 10 {
+            return self.digit(x);
         }
-        self.put(&[b'0' + (x % 10) as u8]);
+        self.decimal(x / 10);
+        self.digit(x % 10);
     }
 
     // A number in decimal.
@@ -55,7 +68,7 @@ impl Page<'_> {
     {
         if !self.lacks(name.len() + DIGITS) {
             self.put(name);
-            self.number(x);
+            self.decimal(x);
         }
     }
 }
