@@ -84,6 +84,16 @@ pub largest_more : (f : ℕ → ℕ) {i a x r : ℕ} → a ≡ largest f i → x
 unfolding largest
 largest_more f e d q = rw (add-one, ← e, ← d) q
 
+largest_least : (f : ℕ → ℕ) (n : ℕ) → 1 ≤ largest f n
+unfolding largest
+largest_least f zero = omega arith
+largest_least f (suc n) = omega (arith, largest_least f n)
+
+-- Nothing is taken out of a row that stays.
+pub largest_stays : (f : ℕ → ℕ) {i a : ℕ} → a ≡ largest f i → 1 ≡ f i → a ≡ largest f (i + 1)
+unfolding largest
+largest_stays f {i} e d = rw (add-one, ← d) (omega (arith, e, largest_least f i))
+
 largest_same : (f g : ℕ → ℕ) (n : ℕ) → ((i : ℕ) → i < n → f i ≡ g i) → largest f n ≡ largest g n
 unfolding largest
 largest_same f g zero h = refl

@@ -62,19 +62,21 @@ impl Removal<'_> {
         self.change(part)
     }
 
-    // Whether the removal changes the row of state i, which has these targets: it is that of s, or has a weight to s.
-    fn changes(&self, targets: u64, i: usize) -> bool
-        ensures { decides (ChangedBy self.now.s i targets) result }
+    // Whether the removal changes row i of the table, which a look at its targets shows: it is that of s, or has a weight to s.
+    fn changes(&self, work: &[u64], i: usize) -> bool
+        requires { let e = self.now in (work_size e.n ≤ length work.now) × (i < e.n) }
+        ensures { let e = self.now in decides (ChangedBy e.s i (targets_of (part_at e.n work.now i))) result }
     {
-        i == self.s || holds(targets, self.s)
+        i == self.s || holds(work[row_start(self.n, i)], self.s)
     }
 
-    // Renews row i of the table. Most rows stay, which a look at their targets shows. The rest of the work table is as it was.
+    // Renews row i of the table, which changes. The rest of the work table is as it was.
     fn renew_row(&self, work: &mut [u64], i: usize) -> Option<u64>
         requires { let e = self.now in
             let w = work.old in
             let z = part_at e.n w i in
-            (work_size e.n ≤ length w) × (i < e.n) × Packed e.n z × Fit e.rounding e.n (row_at e.n w i) × Room (width e.n) z e.pivot.now }
+            (work_size e.n ≤ length w) × (i < e.n) × Packed e.n z × Fit e.rounding e.n (row_at e.n w i) × Room (width e.n) z e.pivot.now
+            × ChangedBy e.s i (targets_of z) }
         ensures { let e = self.now in
             let w = work.old in
             let p = unpacked e.n e.pivot.now in
@@ -82,14 +84,11 @@ impl Removal<'_> {
             Placed e.rounding e.n w i (renewed e.rounding e.n e.s e.d p (eqb i e.s) z) (taken_out e.s e.d p (eqb i e.s) z) work.new result }
     {
         let a = row_start(self.n, i);
-        if !self.changes(work[a], i) {
-            return Some(1);
-        }
         let e = a + self.n + Chain::BESIDE;
         self.renew(&mut work[a..e], i == self.s)
     }
 
-    // Renews each row, up to the first that does not fit, and answers the largest divisor that was taken out of one.
+    // Renews each row that changes, up to the first that does not fit, and answers the largest divisor that was taken out of one. Most rows stay.
     fn renew_all(&self, work: &mut [u64]) -> Option<u64>
         requires { let e = self.now in
             Fitting e.rounding e.n work.old × ((i : ℕ) → i < e.n → Room (width e.n) (part_at e.n work.old i) e.pivot.now) }
@@ -101,7 +100,9 @@ impl Removal<'_> {
     {
         let mut divisor = 1u64;
         for i in 0..self.n {
-            divisor = divisor.max(self.renew_row(work, i)?);
+            if self.changes(work, i) {
+                divisor = divisor.max(self.renew_row(work, i)?);
+            }
         }
         Some(divisor)
     }
