@@ -95,6 +95,11 @@ module _ (f : Input) (r : Bool) (o : decides (TextLong f) r) where
   pub few : r ≡ false → TextLong f → ⊥
   few e = subst (decides (TextLong f)) e o
 
+-- A text that is not too long has no more bytes than are read.
+pub few_bytes : (f : Input) → (TextLong f → ⊥) → length f.kept ≤ most_text
+few_bytes f few =
+    ⊎_elim (λ (h : most_text < length f.kept). absurd (few (inl h))) (λ h. h) (below most_text (length f.kept))
+
 -- What was not kept counts only where there is some.
 pub all_kept : (text : List ℕ) (more : ℕ) {before after : List ℕ} {a : Writing} → (TextLong (input text more) → ⊥) → MakeOutcome (input text 0) before a after
     → MakeOutcome (input text more) before a after

@@ -36,6 +36,16 @@ pub end_ended : (line : List ℕ) (i : ℕ) → length line ≤ i → IsDigit (g
 end_ended line i h d = let z = get_or-eq_default line 0 h in omega (arith, d.0)
 
 module _ {line : List ℕ} {place limit : ℕ} where
+  -- What the digits say is within the limit.
+  pub read_small : {i x : ℕ} → ReadTo line place limit i x → x ≤ limit
+  read_small begun = omega arith
+  read_small (going i x a b s e) = s
+
+  -- The digits end at their place or behind it.
+  pub read_from : {i x : ℕ} → ReadTo line place limit i x → place ≤ i
+  read_from begun = omega arith
+  read_from (going i x a b s e) = omega arith
+
   -- At the end of the line, or at a place past it.
   pub read_end : {i x : ℕ} → ReadTo line place limit i x → length line ≤ i → i ≡ max (length line) place
   read_end begun h = omega arith

@@ -11,7 +11,8 @@ use Rattle.theory.specs.Numbers.Sum.{below}
 use Rattle.std.proofs.Common.{Option, Some, None, MatchOption, unwrap_or}
 use Rattle.chaintext.specs.Split.{LineEnd}
 
-end_line : (text : List ℕ) (at i : ℕ) → at ≤ i → ((k : ℕ) → at ≤ k → k < i → get_or text k 0 ≡ newline → ⊥)
+-- What stands from one place to another with no newline between them is one line.
+pub end_line : (text : List ℕ) (at i : ℕ) → at ≤ i → ((k : ℕ) → at ≤ k → k < i → get_or text k 0 ≡ newline → ⊥)
     → OneLine (take (i - at) (drop at text))
 end_line text at i h f =
     record {
