@@ -1,7 +1,8 @@
 -- What is said of a file, from what its near and its exact chance are found to be.
-use Prim.Native.Nat.{◌+◌, ◌≤◌, ◌<◌}
+use Prim.Native.Nat.{ℕ, ◌+◌, ◌*◌, ◌^◌, ◌≤◌, ◌<◌}
 use mathlib.Core.Path.{◌≡◌, ap, ap₂, subst}
 use native.Mathlib.Omega.{arith}
+use native.Mathlib.Nat.{mul-le-mul}
 use Rattle.meaning.specs.Chain.{M, most_states, most_edges}
 use Rattle.meaning.specs.Outcome.{Answer, ChanceOutcome}
 use Rattle.meaning.specs.Outcome as outcome
@@ -9,7 +10,7 @@ use Rattle.meaning.specs.Block.{Input}
 use Rattle.meaning.specs.File.{Accepted, plain_in}
 use Rattle.meaning.specs.Near.{Near, NearFigure}
 use Rattle.meaning.specs.FileNear.{FileNear, own}
-use Rattle.meaning.specs.Limit.{Limit, IsLimit}
+use Rattle.meaning.specs.Limit.{Limit, IsLimit, most_said}
 use Rattle.meaning.specs.FileLimit.{Verdict, kept, broken, undecided, near_verdict, verdict_by, figure_keeps, refused, judged, FileLimit}
 use Rattle.meaning.specs.FileLimit as meant
 use Rattle.theory.specs.Outcomes.Small.{chance_small}
@@ -26,6 +27,10 @@ use Rattle.chain.specs.declared.refusal.Refusal.{Refusal}
 use Rattle.chain.proofs.Faults.{above_0}
 use Rattle.engines.specs.Answer.{told_chance}
 use Rattle.figures.specs.Found.{FileFound, FileChance}
+
+-- The limit's digits times a number up to M fit in 64 bits.
+pub product_fits : (a q : ℕ) → a ≤ most_said → q ≤ M → a * q < 2 ^ 64
+product_fits a q h l = let m = mul-le-mul {n₂ = most_said} {m₂ = M} h l in omega arith
 
 pub exact_few : {f : Input} (r : Result Fraction Refusal) → FileChance f (told_chance r) → IfOk r (λ x. x.denominator ≤ M)
 exact_few (Ok x) (FileFound.refused n p w e) = omega (arith, ap (λ (a : Answer). a.denominator) e)
