@@ -8,10 +8,10 @@ use lib.ListN.{length}
 use Rattle.std.proofs.Common.{Ok, Err}
 use Rattle.meaning.specs.Chain.{edge_size, Goal, Live, edge_number}
 use Rattle.meaning.specs.Refusal.{Lent, plain, paid, bare, faults, WellFormed}
-use Rattle.meaning.specs.Outcome.{Bounds as Numbers, no_bounds, Outcome, BoundsFigure, BoundsOutcome, RewardOutcome}
+use Rattle.meaning.specs.Outcome.{Answer, Bounds as Numbers, no_bounds, Outcome, BoundsFigure, BoundsOutcome, RewardOutcome}
 use Rattle.meaning.specs.Survey.{Count, Survey, SurveyOutcome}
 use Rattle.meaning.specs.Block.{Input, head_states, head_edges}
-use Rattle.meaning.specs.File.{edge_in, chain_in, plain_in, paid_in, Accepted}
+use Rattle.meaning.specs.File.{edge_in, chain_in, plain_in, paid_in, FileRefused, Accepted}
 use Rattle.meaning.specs.Text.{bytes_of}
 use Rattle.meaning.specs.Report.{refused_text, lines_text, Report, report_room}
 use Rattle.theory.specs.Numbers.Tab.{tab_length}
@@ -27,7 +27,9 @@ use Rattle.figures.specs.Found.{ReportAsked}
 use Rattle.figures.specs.declared.answer.Report.{Report as Found}
 use Rattle.report.specs.Lines.{Lasts, Ends, told_lines}
 use Rattle.report.proofs.Lasting.{lasts_reward, reward_ended, reward_lasts}
-use Rattle.report.proofs.Room.{report_short}
+use Rattle.report.proofs.Brief.{file_brief}
+use Rattle.report.proofs.Lengths.{refusal_short}
+use Rattle.report.proofs.Room.{reward_brief, report_short}
 
 module _ {f : Input} {r : Found} (a : Accepted f) (x : ReportAsked f r) where
   -- What the entry for the reward refuses but by 12 ends the report, and anything else leaves the chain well formed.
@@ -44,6 +46,16 @@ count_most : {P : ℕ → Type 0} {n k : ℕ} → Count P n k → k ≤ n
 count_most Count.none = omega arith
 count_most (Count.one p a) = omega (arith, count_most a)
 count_most (Count.skip d a) = omega (arith, count_most a)
+
+-- There is room for the line of what the entry for the reward refuses.
+pub refusal_room : {l : Lent} {a : Answer} {w : List ℕ} (buffer : List ℕ) → report_room ≤ length buffer → RewardOutcome l a w
+    → Room buffer 0 (refused_text a.number a.place ++ bytes_of "\n")
+refusal_room {a = a} buffer h o = omega (arith, refusal_short a.number a.place (reward_brief o))
+
+-- There is room for the line of what the reader refuses.
+pub file_room : {f : Input} {number place : ℕ} (buffer : List ℕ) → report_room ≤ length buffer → FileRefused f number place
+    → Room buffer 0 (refused_text number place ++ bytes_of "\n")
+file_room {number = number} {place} buffer h w = omega (arith, refusal_short number place (file_brief w).1)
 
 -- What a survey of a well-formed chain counts.
 surveyed : {l : Lent} {a : Survey} → WellFormed bare l → SurveyOutcome false l a

@@ -15,31 +15,32 @@ use Rattle.engines.specs.declared.answer.Reward.{Reward}
 use Rattle.engines.specs.declared.answer.Reward.TheVariants as reward
 use Rattle.report.specs.Lines.{Lasts, Ends}
 
--- Neither 0 nor 12 ends a report.
-not_0 : Ends 0 → ⊥
-not_0 (Ends.chain l h) = omega arith
-not_0 (Ends.file l h) = omega arith
+-- The number 0 does not end a report.
+pub nought : Ends 0 → ⊥
+nought (Ends.chain l h) = omega arith
+nought (Ends.file l h) = omega arith
 
-not_12 : Ends 12 → ⊥
-not_12 (Ends.chain l h) = omega arith
-not_12 (Ends.file l h) = omega arith
+-- The number 12 does not end a report.
+pub twelve : {number : ℕ} → number ≡ 12 → Ends number → ⊥
+twelve e (Ends.chain l h) = omega arith
+twelve e (Ends.file l h) = omega arith
 
 pub lasts_chance : (r : Result Fraction Refusal) → Lasts r → Ends (told_chance r).number → ⊥
-lasts_chance (Ok f) h z = absurd (not_0 z)
+lasts_chance (Ok f) h z = absurd (nought z)
 lasts_chance (Err x) h z = h z
 
 pub lasts_reward : (r : Result Reward Refusal) → Lasts r → Ends (told_reward r).number → ⊥
-lasts_reward (Ok (reward.Is f)) h z = absurd (not_0 z)
-lasts_reward (Ok reward.Infinite) h z = absurd (not_0 z)
+lasts_reward (Ok (reward.Is f)) h z = absurd (nought z)
+lasts_reward (Ok reward.Infinite) h z = absurd (nought z)
 lasts_reward (Err x) h z = h z
 
-module _ {x : Entry} {l : Lent} {Stop : ℕ → ℕ → Type 0} {Figure : Answer → Type 0} (twelve : (n p : ℕ) → Stop n p → n ≡ 12)
-    (nought : (a : Answer) → Figure a → a.number ≡ 0) {a : Answer} {w : List ℕ} where
+module _ {x : Entry} {l : Lent} {Stop : ℕ → ℕ → Type 0} {Figure : Answer → Type 0} (stops_12 : (n p : ℕ) → Stop n p → n ≡ 12)
+    (says_0 : (a : Answer) → Figure a → a.number ≡ 0) {a : Answer} {w : List ℕ} where
   -- A number that ends the report is a refusal of the looking, and any other leaves the input well formed.
   pub ended : Outcome x l refusal Stop Figure a w → Ends a.number → Refused x l a.number a.place
   ended (Outcome.refused n p r e s) z = rw e r
-  ended (Outcome.stopped n p f t e s) z = let q : a.number ≡ 12 = omega (arith, ap (λ (a : Answer). a.number) e, twelve n p t) in absurd (not_12 (rw (← q) z))
-  ended (Outcome.answered f t g s) z = absurd (not_0 (rw (← nought a g) z))
+  ended (Outcome.stopped n p f t e s) z = let q : a.number ≡ 12 = omega (arith, ap (λ (a : Answer). a.number) e, stops_12 n p t) in absurd (twelve q z)
+  ended (Outcome.answered f t g s) z = absurd (nought (rw (← says_0 a g) z))
 
   pub lasts : Outcome x l refusal Stop Figure a w → (Ends a.number → ⊥) → WellFormed x l
   lasts (Outcome.refused n p r e s) h =

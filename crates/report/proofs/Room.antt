@@ -42,7 +42,8 @@ chance_brief (Outcome.refused number place r e s) = rw e (chain_brief r)
 chance_brief (Outcome.stopped number place f t e s) = rw e (stopped_brief f t)
 chance_brief (Outcome.answered f t (ChanceFigure.chance p q h e) s) = rw e nought
 
-reward_brief : {l : Lent} {a : Answer} {w : List ℕ} → RewardOutcome l a w → Brief a.number a.place
+-- What is told of the reward has a short number and place.
+pub reward_brief : {l : Lent} {a : Answer} {w : List ℕ} → RewardOutcome l a w → Brief a.number a.place
 reward_brief (Outcome.refused number place r e s) = rw e (chain_brief r)
 reward_brief (Outcome.stopped number place f t e s) = rw e (stopped_brief f t.1)
 reward_brief (Outcome.answered f t (RewardFigure.missed m e) s) = rw e nought

@@ -26,7 +26,7 @@ figure_nought a (ChanceFigure.chance p q x e) = ap (λ (a : Answer). a.number) e
 
 module _ {f : Input} {count : ℕ} {records : List StepRecord} where
   -- A number that ends the report is a refusal of the reader or of the looking.
-  steps_ended : {a : Answer} → FileSteps f most_states [] a count records → Ends a.number → StepsReport f (refused_text a.number a.place ++ bytes_of "\n")
+  pub steps_ended : {a : Answer} → FileSteps f most_states [] a count records → Ends a.number → StepsReport f (refused_text a.number a.place ++ bytes_of "\n")
   steps_ended (file_refused number place r e c k) h = rw e (StepsReport.file_refused number place r refl)
   steps_ended {a} (asked accepted work o) h =
       StepsReport.chain_refused a.number a.place accepted (ended (λ n p t. stopped_twelve t) figure_nought o.outcome h) refl
