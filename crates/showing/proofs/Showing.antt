@@ -1,9 +1,9 @@
 -- A chain file is shown.
-use Prim.Native.Nat.{ℕ, ◌≤◌}
+use Prim.Native.Nat.{ℕ, ◌≤◌, ◌<◌}
 use native.Mathlib.Omega.{arith}
 use mathlib.Core.Path.{◌≡◌, refl, ap, ◌∙◌}
 use mathlib.Core.List.{List, [], ◌++◌}
-use lib.ListN.{length}
+use lib.ListN.{length, length-append}
 use Rattle.std.proofs.Common.{Result, Ok, Err}
 use Rattle.meaning.specs.Number.{filled}
 use Rattle.meaning.specs.Refusal.{Lent}
@@ -13,7 +13,7 @@ use Rattle.meaning.specs.File.{paid_in}
 use Rattle.meaning.specs.Buffer.{Writing, writing}
 use Rattle.meaning.specs.Text.{bytes_of}
 use Rattle.meaning.specs.Report.{refused_text, TextOutcome}
-use Rattle.meaning.specs.ChainText.{chain_text}
+use Rattle.meaning.specs.ChainText.{chain_text, text_of}
 use Rattle.meaning.specs.Translate.{Shown, shown_room, ShowOutcome, TextedOutcome, short, file_refused, texted}
 use Rattle.theory.specs.Numbers.Tab.{tab_length}
 use Rattle.theory.specs.Files.FileOne.{file_numbers}
@@ -39,6 +39,11 @@ module _ {f : Input} {p : Opened} (s : Handed f p) where
       let e = ap chain_text s.holds.paid in
       let z = stands {Text = λ (t : List ℕ). t ≡ chain_text (paid_in f)} e w in
       texted room s.holds.accepted (ap told q ∙ ap writing (z.whole ∙ ap length z.wanted)) (z.bytes ∙ ap (λ (t : List ℕ). filled t before) z.wanted)
+
+-- A chain's text has bytes.
+pub text_some : (l : Lent) → 0 < length (chain_text l)
+unfolding text_of
+text_some l = simp length-append (omega arith)
 
 -- What is shown of a file is its text, or the line of its refusal.
 module _ {f : Input} {before between : List ℕ} (room : shown_room ≤ length before) where
