@@ -8,7 +8,8 @@ use Rattle.std.specs.List.{filter, range_with_len}
 use native.Mathlib.Omega.{arith}
 use lib.Count.{ones}
 use lib.Dec.{eqb}
-use lib.ListN.{length, get_or, set}
+use lib.ListN.{length, get_or, set, length-set}
+use lib.Seq.{get_or-set_same, get_or-set_other}
 use borrow.Author.Tests.{eq-eqb, ne_eqb}
 use Rattle.meaning.specs.Number.{sum_to, only, choose, present, bit}
 use Rattle.meaning.specs.Chain.{most_states, Chain, edge_count, from}
@@ -21,9 +22,9 @@ use Rattle.theory.specs.Chains.Fine.{Fine}
 use Rattle.theory.specs.Chains.Counted.{count_ones}
 use Rattle.theory.specs.Stages.Weighs.{Wide, Brought, first_weighs, removed_weighs}
 use Rattle.survey.specs.Sets.{Exactly}
-use Rattle.choice.specs.Columns.{In, Weighed, Without, Gathered, counts, columns_in, rows_in, PassedOn, Emptied}
+use Rattle.choice.specs.Columns.{In, Weighed, Without, Gathered, counts, columns_in, rows_in, PassedOn, Stays, Emptied}
 use Rattle.choice.specs.Turns.{product_in}
-use Rattle.theory.specs.Numbers.Bits.{bit_small}
+use Rattle.theory.specs.Numbers.Bits.{bit_small, nothing_in}
 
 -- A count is a sum of ones.
 count_sum : {P : ℕ → Type 0} (f : ℕ → ℕ) {n m : ℕ} → ((i : ℕ) → P i → f i ≡ 1) → ((i : ℕ) → (P i → ⊥) → f i ≡ 0) → Count P n m → sum_to f n ≡ m
@@ -171,3 +172,34 @@ pub record Passing (m from s : ℕ) (columns new : List ℕ) : Type 0 where
   pub size : length new ≡ length columns
   pub done : (j : ℕ) → j < m → Exactly (PassedOn (get_or columns j 0) from s) (get_or new j 0)
   pub still : (j : ℕ) → m ≤ j → get_or new j 0 ≡ get_or columns j 0
+
+-- Where all columns are passed on and that of s is emptied, s is removed.
+pub emptied : {m from s : ℕ} (n : ℕ) {columns new : List ℕ} → Passing m from s columns new → Exactly (Without (get_or columns s 0) s) from → unknown_column n ≤ m
+    → s < length columns → Emptied n s columns (set new s 0)
+emptied {m} {from} {s} n {columns} {new} p others h k =
+    record { size = length-set new s 0 ∙ p.size; law = λ i j l. (there i j l, back i j l) }
+  where
+    own : get_or (set new s 0) s 0 ≡ 0
+    own = get_or-set_same new s 0 0 (omega (arith, k, p.size))
+
+    there : (i j : ℕ) → j < unknown_column n → In (set new s 0) j i → Stays s columns i j
+    there i j l b =
+        ⊎_elim
+        (λ (e : j ≡ s). absurd (nothing_in i (ap (λ z. bit z i) (sym (ap (λ j. get_or (set new s 0) j 0) e ∙ own)) ∙ b)))
+        (λ (d : j ≡ s → ⊥).
+        let x = (p.done j (omega arith) i).0 (ap (λ z. bit z i) (sym (get_or-set_other new s j 0 0 d)) ∙ b) in
+        record {
+          other_row = x.other;
+          other_column = d;
+          weighs = ⊎_elim inl (λ (y : (bit (get_or columns j 0) s ≡ 1) × (bit from i ≡ 1)). inr (((others i).0 y.1).0, y.0)) x.weighs;
+        })
+        (same j s)
+
+    back : (i j : ℕ) → j < unknown_column n → Stays s columns i j → In (set new s 0) j i
+    back i j l x =
+        ap (λ z. bit z i) (get_or-set_other new s j 0 0 x.other_column)
+        ∙ (p.done j (omega arith) i).1
+        (record {
+          other = x.other_row;
+          weighs = ⊎_elim inl (λ (y : In columns s i × In columns j s). inr (y.1, (others i).1 (y.0, x.other_row))) x.weighs;
+        })
