@@ -10,7 +10,9 @@ use Rattle.meaning.specs.Chain.{most_states}
 use Rattle.meaning.specs.Block.{Input, head_states, head_edges, denominator_in, reward_in, order_in}
 use Rattle.meaning.specs.File.{denominators_in, rewards_in, orders_in, edges_in, Tables, Reading as Numbers}
 use Rattle.theory.specs.Files.FileOne.{file_numbers}
+use Rattle.theory.specs.Files.Right.{bounded}
 use Rattle.theory.specs.Numbers.Tab.{tab_length}
+use Rattle.chain.specs.declared.Chain.{Chain}
 use Rattle.chain.specs.declared.refusal.Refusal.{Refusal}
 use Rattle.chain.proofs.Faults.{above_0}
 use Rattle.chainfile.specs.Tells.{Narrow, ShortFor, OpenOutcome, told, tables}
@@ -38,6 +40,13 @@ made table = tables (replicate most_states 0) (lent_edges table) (replicate most
 -- The flat table where that part is back.
 abbrev pub back : List ℕ → List ℕ → List ℕ
 back table edges = take edges_at table ++ (edges ++ drop (length table - edges_at) (drop edges_at table))
+
+-- The tables for the states have room for a chain's.
+pub record Room (c : Chain) (t : Tables) : Type 0 where
+  pub few : c.states ≤ most_states
+  pub denominators : c.states ≤ length t.denominators
+  pub order : c.states ≤ length t.order
+  pub rewards : c.states ≤ length t.rewards
 
 module _ (f : Input) (table : List ℕ) (room : edges_at ≤ length table) where
   all_lent : lent_edges table ≡ drop edges_at table
@@ -71,6 +80,10 @@ module _ (f : Input) (table : List ℕ) (room : edges_at ≤ length table) where
       let r = part_kept (2 * most_states) (edges ++ drop (length table - edges_at) (drop edges_at table)) (omega arith) in
       let e = edges_back edges in
       λ i. tables (d i) (e i) (o i) (r i)
+
+  -- The flat table where the edges are back still has all that stands before them.
+  pub back_long : (edges : List ℕ) → edges_at ≤ length (back table edges)
+  back_long edges = omega (arith, front, length-append (take edges_at table) (edges ++ drop (length table - edges_at) (drop edges_at table)))
 
   -- The parts are as long as the tables that are made.
   states_long : (from : ℕ) → from + most_states ≤ edges_at → length (replicate {A = ℕ} most_states 0) ≡ length (states_part from table)
@@ -112,3 +125,18 @@ module _ (f : Input) (table : List ℕ) (room : edges_at ≤ length table) where
       OpeningOutcome.read room
       (OpenOutcome.accepted w (λ h. n (subst (λ A. A) (sym narrow_is) h)) e
       (s ∙ (λ i. stored (fd i) (fo i) (fr i) (t i)) ∙ (λ i. tables (filled (denominators_in f) (split table).denominators) (fe i) (filled (orders_in f) (split table).order) (filled (rewards_in f) (split table).rewards))))
+
+  -- The tables into which a chain was read have room for the numbers of its states.
+  pub states_room : {b : Book} {after : Tables} → OpenOutcome f (made table) (told (Ok b)) after → Room b.chain after
+  states_room (OpenOutcome.refused n p w e d) = absurd (omega (arith, ap (λ (a : Numbers). a.number) e, file_numbers w))
+  states_room (OpenOutcome.narrow w n e d) = absurd (omega (arith, ap (λ (a : Numbers). a.number) e))
+  states_room {b} {after} (OpenOutcome.accepted w n e d) =
+      let few : b.chain.states ≡ head_states f = ap (λ (a : Numbers). a.states) e in
+      let most = bounded f (w.blocks 0 (omega arith)) in
+      let size : (g : ℕ → ℕ) → b.chain.states ≡ length (tab_from 0 (head_states f) g) = λ g. few ∙ sym (tab_length 0 (head_states f) g) in
+      record {
+        few = omega arith;
+        denominators = (at (denominators_in f) _ _ (size (denominator_in f)) (ap (λ (t : Tables). t.denominators) d)).0;
+        order = (at (orders_in f) _ _ (size (order_in f)) (ap (λ (t : Tables). t.order) d)).0;
+        rewards = (at (rewards_in f) _ _ (size (reward_in f)) (ap (λ (t : Tables). t.rewards) d)).0;
+      }
