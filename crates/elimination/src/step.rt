@@ -70,7 +70,9 @@ impl Removal<'_> {
         i == self.s || holds(work[row_start(self.n, i)], self.s)
     }
 
-    // Renews row i of the table, which changes. The rest of the work table is as it was.
+    // Renews row i of the table, which changes. The rest of the work table is as it was. It is kept out of the loop over the rows, which has few
+    // instructions for a row that stays.
+    #[inline(never)]
     fn renew_row(&self, work: &mut [u64], i: usize) -> Option<u64>
         requires { let e = self.now in
             let w = work.old in

@@ -21,13 +21,21 @@ impl Page<'_> {
         self.buffer.len() < self.at || self.buffer.len() - self.at < long
     }
 
+    // A piece, where there is room for it.
+    fn copy(&mut self, piece: &[u8])
+        requires { Room self.old.buffer.now self.old.at piece.now }
+        ensures { Adds self.old piece.now self.new }
+    {
+        let end = self.at + piece.len();
+        self.buffer[self.at..end].copy_from_slice(piece);
+        self.at = end;
+    }
+
     pub fn put(&mut self, piece: &[u8])
         ensures { Adds self.old piece.now self.new }
     {
         if !self.lacks(piece.len()) {
-            let end = self.at + piece.len();
-            self.buffer[self.at..end].copy_from_slice(piece);
-            self.at = end;
+            self.copy(piece);
         }
     }
 
@@ -67,7 +75,7 @@ impl Page<'_> {
         ensures { Names self.old name.now x self.new }
     {
         if !self.lacks(name.len() + DIGITS) {
-            self.put(name);
+            self.copy(name);
             self.decimal(x);
         }
     }
