@@ -4,7 +4,6 @@ use mathlib.Core.Path.{◌≡◌, refl, sym, ap, ap₂, ◌∙◌}
 use mathlib.Core.Logic.{◌↔◌, inl, inr, ⊎_elim}
 use mathlib.Core.List.{List, [], ◌∷◌}
 use Rattle.std.proofs.Common.{Bool, true, false, zero, suc, cond, add_assoc, add-zero, zero-add, one-add}
-use Rattle.std.specs.Int.{from_bool}
 use Rattle.std.specs.List.{filter, range_with_len}
 use native.Mathlib.Omega.{arith}
 use lib.Count.{ones}
@@ -70,18 +69,6 @@ only_bit (suc (suc x)) h = absurd (omega arith)
 counts_small : (columns : List ℕ) (s j : ℕ) → counts columns s j < 2
 counts_small columns s j =
     elim (eqb j s) as (λ b. choose b 0 (bit (get_or columns j 0) s) < 2) [ true ↦ omega arith | false ↦ bit_small (get_or columns j 0) s ]
-
-bit_number : (x : ℕ) → x < 2 → from_bool (eqb x 1) ≡ x
-bit_number zero h = refl
-bit_number (suc zero) h = refl
-bit_number (suc (suc x)) h = absurd (omega arith)
-
--- What a column adds to the sum.
-pub column_number : (columns : List ℕ) (s j : ℕ) {b : Bool} {x : ℕ} → b ≡ eqb (counts columns s j) 1 → x ≡ from_bool b → x ≡ counts columns s j
-column_number columns s j e f = f ∙ ap from_bool e ∙ bit_number (counts columns s j) (counts_small columns s j)
-
-pub column_small : (columns : List ℕ) (s j : ℕ) → counts columns s j ≤ 1
-column_small columns s j = let h = counts_small columns s j in omega (arith, h)
 
 -- So many columns the row of s leads to: those in whose set it is, but its own.
 pub columns_counted : (n s : ℕ) (columns : List ℕ) → length (filter (λ j. eqb (counts columns s j) 1) (range_with_len 0 (n + 2))) ≡ columns_in n columns s

@@ -87,16 +87,12 @@ fn leads(columns: &[u64], j: usize, s: usize) -> bool
     j != s && holds(columns[j], s)
 }
 
-// In how many columns but its own the row of s has a weight, Goal and Trap counted. A sum has no branch at each column, as `filter` and `count` have.
+// In how many columns but its own the row of s has a weight, Goal and Trap counted.
 fn columns_of(columns: &[u64], n: usize, s: usize) -> u64
     requires { (length columns.now ≡ column_count) × (n ≤ most_states) }
     ensures { (result ≡ columns_in n columns.now s) × (result ≤ column_count) }
 {
-    let mut sum = 0;
-    for j in 0..n + ENDS {
-        sum += u64::from(leads(columns, j, s));
-    }
-    sum
+    (0..n + ENDS).filter(|j| leads(columns, *j, s)).count() as u64
 }
 
 pub(crate) fn product(columns: &[u64], n: usize, s: usize) -> u64

@@ -1,20 +1,25 @@
-use Prim.Native.Nat.{◌+◌}
-use mathlib.Core.Path.{refl, ap, ◌∙◌, ◌≡◌}
+use Prim.Native.Nat.{ℕ, ◌+◌}
+use mathlib.Core.Path.{◌≡◌, refl, ◌∙◌}
 use native.Mathlib.Omega.{arith}
-use Rattle.meaning.specs.Number.{sum_to}
-use Rattle.theory.specs.Numbers.Sum.{sum_next}
+use lib.Dec.{eqb}
+use lib.ListN.{length}
+use borrow.Author.Rules.{rules}
+use borrow.Author.Tests.{tests}
+use Rattle.std.specs.List.{filter, range_with_len}
+use Rattle.std.proofs.lemmas.Iterator.{YieldsList-from_range}
+use Rattle.std.proofs.lemmas.Iterator.Consumers.{YieldsList-from_filter, YieldsList-at, count_from_yields_List}
+use Rattle.std.proofs.lemmas.List.Sums.{length-filter, count_by-le-length}
+use Rattle.std.proofs.lemmas.List.FromFn.{length-range_with_len}
 use Rattle.choice.specs.Columns.{counts}
-use Rattle.choice.proofs.Weights.{column_number, column_small}
+use Rattle.choice.proofs.Weights.{columns_counted}
 use Rattle.choice.proofs.columns.columns_of.Goals as goal
 
-pub loop-j-init : goal.loop-j-init
-unfolding sum_to
-loop-j-init c = (refl, omega arith, omega arith)
-
-pub loop-j-preserved : goal.loop-j-preserved
-loop-j-preserved c =
-    let l = c.loop-j in
+pub returns : goal.returns
+returns c =
     let a = c.args in
-    let w = a.columns.now in
-    let x : c.from-sum.result ≡ counts w a.s l.j = column_number w a.s l.j c.leads.ensures c.from-sum.ensures in
-    (omega (arith, sum_next (counts w a.s) l.j (l.j + 1) (omega arith), x, l.invariant.0), omega (arith, x, column_small w a.s l.j, l.invariant.1), omega (arith, c.loop-j-test.true))
+    let test : ℕ → _ = λ j. eqb (counts a.columns.now a.s j) 1 in
+    let all = range_with_len 0 (a.n + 2) in
+    let counted : c.count.result ≡ length (filter test all) =
+    count_from_yields_List c.filter.result c.count.result c.count.ensures.ran
+    (YieldsList-from_filter _ test (YieldsList-at c.filter.ensures.source (YieldsList-from_range 0 (a.n + 2) (a.n + 2) refl (omega arith))) c.filter.ensures.closure (λ x r q k. search (rules, tests))) in
+    (counted ∙ columns_counted a.n a.s a.columns.now, omega (arith, counted, length-filter test all, count_by-le-length test all, length-range_with_len 0 (a.n + 2), c.requires))
